@@ -1,0 +1,107 @@
+-- Variables: a known origin stands at its variable, keeps it when the list grows, and every origin that is named is known.
+use mathlib.Core.Path.{_≡_, refl, sym, _∙_, ap}
+use mathlib.Core.Bool.{Bool, true, false, _&&_, _||_, cond, true≢false, false≢true}
+use mathlib.Core.List.{List, [], _∷_, _++_, List·Memᴰ, List·Memᴰ·head, List·Memᴰ·tail}
+use Prim.Native.Nat.{ℕ, zero, suc, _<_, zero-le, suc-le-suc}
+use lib.Dec.{eqb}
+use lib.ListN.{length, getD}
+use borrow.Author.Tests.{eqb-true, eq-eqb}
+use Rattle.rules.specs.Lists.{any, indexOf, snoc, fold, unless}
+use Rattle.rules.specs.Catalogue.{Owner, root, part, Goal, range, union}
+use Rattle.rules.specs.Variables.{Origin, chosen, forbid, one, violation, gate, key, sameKey, sameOrigin, known, variableOf, withVariable, withVariables}
+use Rattle.rules.proofs.Bools.{and-left, and-right, and-both}
+use Rattle.rules.proofs.Grows.{Prefix, withVariables-prefix}
+
+-- ---- origins with the same key are the same
+
+unkey : ℕ × ℕ × ℕ → Origin
+unkey k =
+    cond (eqb (k .0) 0) (chosen root)
+    (cond (eqb (k .0) 1) (chosen (part (k .1)))
+    (cond (eqb (k .0) 2) (forbid (k .1) (k .2))
+    (cond (eqb (k .0) 3) (one (k .1)) (cond (eqb (k .0) 4) (violation (k .1)) (cond (eqb (k .0) 5) (gate (range (k .1))) (gate (union (k .1))))))))
+
+unkey-key : (o : Origin) → unkey (key o) ≡ o
+unfolding unkey key
+unkey-key (chosen root) = refl
+unkey-key (chosen (part p)) = refl
+unkey-key (forbid n j) = refl
+unkey-key (one n) = refl
+unkey-key (violation r) = refl
+unkey-key (gate (range r)) = refl
+unkey-key (gate (union u)) = refl
+
+key-same : (a b : ℕ × ℕ × ℕ) → sameKey a b ≡ true → a ≡ b
+unfolding sameKey
+key-same a b e =
+    let p = eqb-true (a .0) (b .0) (and-left (eqb (a .0) (b .0)) _ e) in
+    let e′ = and-right (eqb (a .0) (b .0)) _ e in
+    let q = eqb-true (a .1) (b .1) (and-left (eqb (a .1) (b .1)) _ e′) in
+    let r = eqb-true (a .2) (b .2) (and-right (eqb (a .1) (b .1)) _ e′) in
+    triple (a .0) (b .0) (a .1) (b .1) (a .2) (b .2) p q r
+  where
+    triple : (x x′ y y′ z z′ : ℕ) → x ≡ x′ → y ≡ y′ → z ≡ z′ → _≡_ {A = ℕ × ℕ × ℕ} (x, y, z) (x′, y′, z′)
+    triple x x′ y y′ z z′ p q r = rw (p, q, r)
+
+pub origin-same : (a b : Origin) → sameOrigin a b ≡ true → a ≡ b
+origin-same a b e = sym (unkey-key a) ∙ (ap unkey (key-same (key a) (key b) e) ∙ unkey-key b)
+
+pub origin-self : (a : Origin) → sameOrigin a a ≡ true
+unfolding sameKey
+origin-self a =
+    let k = key a in
+    and-both (eqb (k .0) (k .0)) _ (eq-eqb (k .0) (k .0) refl) (and-both (eqb (k .1) (k .1)) _ (eq-eqb (k .1) (k .1) refl) (eq-eqb (k .2) (k .2) refl))
+
+-- ---- a known origin stands at its variable
+
+pub stands : (vs : List Origin) (o d : Origin) → known vs o ≡ true → (variableOf vs o < length vs) × (getD vs (variableOf vs o) d ≡ o)
+unfolding known variableOf any indexOf
+stands [] o d e = absurd (false≢true e)
+stands (v ∷ vs) o d e = go (sameOrigin o v) refl e (stands vs o d)
+  where
+    go : (b : Bool) → sameOrigin o v ≡ b → (b || any (sameOrigin o) vs) ≡ true
+        → (any (sameOrigin o) vs ≡ true → (indexOf (sameOrigin o) vs < length vs) × (getD vs (indexOf (sameOrigin o) vs) d ≡ o))
+        → (elim b [ true ↦ 0 | false ↦ suc (indexOf (sameOrigin o) vs) ] < suc (length vs)) × (getD (v ∷ vs) (elim b [ true ↦ 0 | false ↦ suc (indexOf (sameOrigin o) vs) ]) d ≡ o)
+    go true q e h = (suc-le-suc zero-le, sym (origin-same o v q))
+    go false q e h = let p = h e in (suc-le-suc (p .0), p .1)
+
+-- ---- and keeps it
+
+known-more : (vs ws : List Origin) (o : Origin) → known vs o ≡ true → (known (vs ++ ws) o ≡ true) × (variableOf (vs ++ ws) o ≡ variableOf vs o)
+unfolding known variableOf any indexOf
+known-more [] ws o e = absurd (false≢true e)
+known-more (v ∷ vs) ws o e = go (sameOrigin o v) e (known-more vs ws o)
+  where
+    go : (b : Bool) → (b || any (sameOrigin o) vs) ≡ true
+        → (any (sameOrigin o) vs ≡ true → (any (sameOrigin o) (vs ++ ws) ≡ true) × (indexOf (sameOrigin o) (vs ++ ws) ≡ indexOf (sameOrigin o) vs))
+        → ((b || any (sameOrigin o) (vs ++ ws)) ≡ true)
+        × (_≡_ {A = ℕ} (elim b [ true ↦ 0 | false ↦ suc (indexOf (sameOrigin o) (vs ++ ws)) ]) (elim b [ true ↦ 0 | false ↦ suc (indexOf (sameOrigin o) vs) ]))
+    go true e h = (refl, refl)
+    go false e h = let p = h e in (p .0, ap suc (p .1))
+
+pub keeps-variable : {vs ws : List Origin} → Prefix vs ws → (o : Origin) → known vs o ≡ true → (known ws o ≡ true) × (variableOf ws o ≡ variableOf vs o)
+keeps-variable {vs} {ws} p o e = let q = known-more vs (p .more) o e in rw (p .is) q
+
+-- ---- what is named is known
+
+end-known : (o : Origin) (us : List Origin) → known (us ++ (o ∷ [])) o ≡ true
+unfolding known any
+end-known o [] = rw (origin-self o)
+end-known o (u ∷ us) = either (sameOrigin o u) (end-known o us)
+  where
+    either : (b : Bool) → any (sameOrigin o) (us ++ (o ∷ [])) ≡ true → (b || any (sameOrigin o) (us ++ (o ∷ []))) ≡ true
+    either true h = refl
+    either false h = h
+
+withVariable-known : (o : Origin) (vs : List Origin) → known (withVariable o vs) o ≡ true
+unfolding withVariable snoc
+withVariable-known o vs = go (known vs o) refl
+  where
+    go : (b : Bool) → known vs o ≡ b → known (unless b (λ us. us ++ (o ∷ [])) vs) o ≡ true
+    go true e = unfold unless in e
+    go false e = unfold unless in end-known o vs
+
+pub withVariables-known : (os vs : List Origin) (o : Origin) → List·Memᴰ o os → known (withVariables os vs) o ≡ true
+unfolding withVariables fold
+withVariables-known (p ∷ os) vs o (List·Memᴰ·head q) = keeps-variable (withVariables-prefix os (withVariable p vs)) o (rw q (withVariable-known p vs)) .0
+withVariables-known (p ∷ os) vs o (List·Memᴰ·tail m) = withVariables-known os (withVariable p vs) o m
