@@ -27,25 +27,26 @@ pub record Prefix {A : Type 0} (xs ys : List A) : Type 0 where
   pub more : List A
   pub is : ys ≡ xs ++ more
 
-whole : {A : Type 0} {xs : List A} → Prefix xs xs
+pub whole : {A : Type 0} {xs : List A} → Prefix xs xs
 whole {A} {xs} = record { more = []; is = sym (append-nil xs) }
 
-longer : {A : Type 0} {xs ys zs : List A} → Prefix xs ys → Prefix ys zs → Prefix xs zs
+pub longer : {A : Type 0} {xs ys zs : List A} → Prefix xs ys → Prefix ys zs → Prefix xs zs
 longer {A} {xs} p q = record { more = p .more ++ q .more; is = q .is ∙ (ap (λ l. l ++ q .more) (p .is) ∙ append-assoc xs (p .more) (q .more)) }
 
-ending : {A : Type 0} (xs ys : List A) → Prefix xs (xs ++ ys)
+pub ending : {A : Type 0} (xs ys : List A) → Prefix xs (xs ++ ys)
 ending xs ys = record { more = ys; is = refl }
 
--- ---- the opening: waiting entries
+-- ---- the opening: waiting entries are added at the end, and tracked parts stay as they are until the run's end
 
-record Waits (s s′ : Opening) : Type 0 where
-  waits : Prefix (s .waiting) (s′ .waiting)
+pub record Waits (s s′ : Opening) : Type 0 where
+  pub waits : Prefix (s .waiting) (s′ .waiting)
+  pub tracked : s′ .tracked ≡ s .tracked
 
 still : {s : Opening} → Waits s s
-still = record { waits = whole }
+still = record { waits = whole; tracked = refl }
 
 then : {s s′ s″ : Opening} → Waits s s′ → Waits s′ s″ → Waits s s″
-then p q = record { waits = longer (p .waits) (q .waits) }
+then p q = record { waits = longer (p .waits) (q .waits); tracked = q .tracked ∙ p .tracked }
 
 each : {A : Type 0} (f : A → Opening → Opening) → ((x : A) (s : Opening) → Waits s (f x s)) → (xs : List A) (s : Opening) → Waits s (fold f xs s)
 unfolding fold
@@ -64,15 +65,15 @@ when-waits false f h s = still
 
 queue-waits : (t : Task) (s : Opening) → Waits s (queue t s)
 unfolding queue
-queue-waits t s = record { waits = whole }
+queue-waits t s = record { waits = whole; tracked = refl }
 
 openOwner-waits : (o : Owner) (s : Opening) → Waits s (openOwner o s)
 unfolding openOwner queue
-openOwner-waits o s = unless-waits (any (sameOwner o) (s .owners)) _ (λ u. record { waits = whole }) s
+openOwner-waits o s = unless-waits (any (sameOwner o) (s .owners)) _ (λ u. record { waits = whole; tracked = refl }) s
 
 openName-waits : (n : ℕ) (s : Opening) → Waits s (openName n s)
 unfolding openName queue
-openName-waits n s = unless-waits (elem n (s .names)) _ (λ u. record { waits = whole }) s
+openName-waits n s = unless-waits (elem n (s .names)) _ (λ u. record { waits = whole; tracked = refl }) s
 
 module _ (c : Catalogue) where
   openNames-waits : (rs : List ℕ) (s : Opening) → Waits s (openNames c rs s)
@@ -90,7 +91,7 @@ module _ (c : Catalogue) where
 
   naming-waits : (p : ℕ) (s : Opening) → Waits s (nameForTracking c p s)
   unfolding nameForTracking
-  naming-waits p s = unless-waits (elem (nameOf c p) (s .several) || elem p (s .named)) _ (λ u. record { waits = whole }) s
+  naming-waits p s = unless-waits (elem (nameOf c p) (s .several) || elem p (s .named)) _ (λ u. record { waits = whole; tracked = refl }) s
 
   ready-waits : (p : ℕ) (s : Opening) → Waits s (openReady c p s)
   unfolding openReady
@@ -98,27 +99,23 @@ module _ (c : Catalogue) where
 
   handled-waits : (q : ℕ) (is : List ℕ) (s : Opening) → Waits s (markHandled q is s)
   unfolding markHandled
-  handled-waits q is s = record { waits = whole }
+  handled-waits q is s = record { waits = whole; tracked = refl }
 
-  serve-waits : (f : ℕ → Bool) (t : Task) (s : Opening) → Waits s (serve c f t s)
+  pub serve-waits : (f : ℕ → Bool) (t : Task) (s : Opening) → Waits s (serve c f t s)
   unfolding serve serveName serveCondition serveRequirement
   serve-waits f (owner o) s = owner-waits o s
-  serve-waits f (name n) s = when-waits (severalAllowed c n) (λ (u : Opening). setSeveral (snoc (u .several) n) u) (λ u. record { waits = whole }) s
-  serve-waits f (condition q) s = then (record { waits = ending (s .waiting) _ }) (fire-waits q _ _)
+  serve-waits f (name n) s = when-waits (severalAllowed c n) (λ (u : Opening). setSeveral (snoc (u .several) n) u) (λ u. record { waits = whole; tracked = refl }) s
+  serve-waits f (condition q) s = then (record { waits = ending (s .waiting) _; tracked = refl }) (fire-waits q _ _)
   serve-waits f (requirement q is) s =
       then (handled-waits q is s) (then (each (nameForTracking c) naming-waits (candidates c (goalAt c q) ++ firedParts c q is) _)
       (each (openReady c) ready-waits (candidates c (goalAt c q)) _))
   serve-waits f (constraint k) s = still
 
-  begin-waits : (s : Opening) → Waits s (beginRun c s)
+  pub begin-waits : (s : Opening) → Waits s (beginRun c s)
   unfolding beginRun
   begin-waits s =
-      then {s′ = setAdded [] (setDrawn [] s)} (record { waits = whole })
+      then {s′ = setAdded [] (setDrawn [] s)} (record { waits = whole; tracked = refl })
       (then (each openOwner openOwner-waits (s .added) _) (each (λ (e : ℕ × ℕ). fire c (e .0) (e .1 ∷ [])) (λ e. fire-waits (e .0) (e .1 ∷ [])) (s .drawn) _))
-
-  end-waits : (s : Opening) → Waits s (endRun c s)
-  unfolding endRun
-  end-waits s = record { waits = whole }
 
 -- ---- the state
 
@@ -139,8 +136,8 @@ unfolding when
 when-grows true f h s = h s
 when-grows false f h s = same
 
-opening-grows : (o : Opening) (s : State) → Waits (s .opening) o → Grows s (setOpening o s)
-opening-grows o s w = record { variables = whole; clauses = whole; waiting = w .waits }
+opening-grows : (o : Opening) (s : State) → Prefix (s .opening .waiting) (o .waiting) → Grows s (setOpening o s)
+opening-grows o s w = record { variables = whole; clauses = whole; waiting = w }
 
 pub withVariable-prefix : (o : Origin) (vs : List Origin) → Prefix vs (withVariable o vs)
 unfolding withVariable snoc
@@ -209,7 +206,7 @@ module _ (c : Catalogue) (r : Run) where
 
   pub serveTask-grows : (t : Task) (s : State) → Grows s (serveTask c r t s)
   unfolding serveTask
-  serveTask-grows t s = and-then (opening-grows _ s (serve-waits c (decidedTrue s) t (s .opening))) (emit-grows (served t) _)
+  serveTask-grows t s = and-then (opening-grows _ s (serve-waits c (decidedTrue s) t (s .opening) .waits)) (emit-grows (served t) _)
 
   serveLine-grows : (fuel : ℕ) (ts : List Task) (s : State) → Grows s (serveLine c r fuel ts s)
   unfolding serveLine
@@ -217,11 +214,11 @@ module _ (c : Catalogue) (r : Run) where
   serveLine-grows (suc fuel) [] s = same
   serveLine-grows (suc fuel) (t ∷ ts) s =
       let s₁ = serveTask c r t s in
-      and-then (serveTask-grows t s) (and-then {s′ = lineTaken s₁} (opening-grows _ s₁ (record { waits = whole })) (serveLine-grows fuel (ts ++ s₁ .opening .line) (lineTaken s₁)))
+      and-then (serveTask-grows t s) (and-then {s′ = lineTaken s₁} (opening-grows _ s₁ whole) (serveLine-grows fuel (ts ++ s₁ .opening .line) (lineTaken s₁)))
 
   joinAll-grows : (s : State) → Grows s (joinAll c r s)
-  unfolding joinAll
-  joinAll-grows s = and-then (opening-grows _ s (end-waits c (s .opening))) (emits-grows _ _)
+  unfolding joinAll endRun
+  joinAll-grows s = and-then (opening-grows (endRun c (s .opening)) s whole) (emits-grows _ _)
 
   linkAll-grows : (s : State) → Grows s (linkAll c r s)
   unfolding linkAll
