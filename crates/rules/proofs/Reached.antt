@@ -32,6 +32,12 @@ pub data Passed : List (Refusal × Bool) → Type 0 where
   none-left : Passed []
   passed : {f : Refusal} {ts : List (Refusal × Bool)} → Passed ts → Passed ((f if false) ∷ ts)
 
+pub first-passed : {f : Refusal} {b : Bool} {ts : List (Refusal × Bool)} → Passed ((f if b) ∷ ts) → b ≡ false
+first-passed (passed p) = refl
+
+pub rest-passed : {f : Refusal} {b : Bool} {ts : List (Refusal × Bool)} → Passed ((f if b) ∷ ts) → Passed ts
+rest-passed (passed p) = p
+
 pub unlessAny-ok : {A : Type 0} (ts : List (Refusal × Bool)) (x y : A) → unlessAny ts x ≡ ok y → Passed ts × (x ≡ y)
 unfolding unlessAny
 unlessAny-ok [] x y e = (none-left, cc)
