@@ -1,12 +1,12 @@
 -- A property of each element of a list (`Each`), and a relation of each element to every later one (`Pairwise`): what appending, mapping,
 -- filtering and looking up keep. And a step that is taken only if a test passes, by cases of the test.
 use mathlib.Core.Path.{_≡_, refl}
-use mathlib.Core.Bool.{Bool, true, false, cond}
+use mathlib.Core.Bool.{Bool, true, false, _||_, cond, true≢false}
 use mathlib.Core.List.{List, [], _∷_, _++_, map, List·Memᴰ, List·Memᴰ·head, List·Memᴰ·tail}
 use Prim.Native.Nat.{ℕ, zero, suc, _<_, zero-le, suc-le-suc}
 use native.Mathlib.Nat.{le-of-suc-le-suc, not-suc-le-zero}
 use lib.ListN.{length, getD, drop}
-use Rattle.rules.specs.Lists.{filter, snoc, listIf, when, unless}
+use Rattle.rules.specs.Lists.{filter, any, snoc, listIf, when, unless}
 
 pub data Each {A : Type 0} (P : A → Type 0) : List A → Type 0 where
   nil : Each P []
@@ -80,6 +80,15 @@ each-passes {A} f (x ∷ xs) = go (f x) refl (each-passes f xs)
     go : (b : Bool) → f x ≡ b → Each (λ y. f y ≡ true) (filter f xs) → Each {A = A} (λ y. f y ≡ true) (elim b [ true ↦ x ∷ filter f xs | false ↦ filter f xs ])
     go true e q = Each.cons e q
     go false e q = q
+
+pub each-fails : {A : Type 0} (f : A → Bool) (xs : List A) → any f xs ≡ false → Each (λ x. f x ≡ false) xs
+unfolding any
+each-fails f [] e = Each.nil
+each-fails f (x ∷ xs) e = go (f x) refl e (each-fails f xs)
+  where
+    go : (b : Bool) → f x ≡ b → (b || any f xs) ≡ false → (any f xs ≡ false → Each (λ y. f y ≡ false) xs) → Each (λ y. f y ≡ false) (x ∷ xs)
+    go true q e h = absurd (true≢false e)
+    go false q e h = Each.cons q (h e)
 
 -- ---- each with each later one
 

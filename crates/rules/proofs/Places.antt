@@ -1,16 +1,22 @@
--- Variables: a known origin stands at its variable, keeps it when the list grows, and every origin that is named is known.
+-- Variables: a known origin stands at its variable, keeps it when the list grows, and every origin that is named is known. The root stands
+-- first, and no origin stands twice.
 use mathlib.Core.Path.{_≡_, refl, sym, _∙_, ap}
+use mathlib.Core.Logic.{_≢_}
 use mathlib.Core.Bool.{Bool, true, false, _&&_, _||_, cond, true≢false, false≢true}
 use mathlib.Core.List.{List, [], _∷_, _++_, List·Memᴰ, List·Memᴰ·head, List·Memᴰ·tail}
-use Prim.Native.Nat.{ℕ, zero, suc, _<_, zero-le, suc-le-suc}
+use Prim.Native.Nat.{ℕ, zero, suc, _<_, _≤_, zero-le, suc-le-suc}
+use native.Mathlib.Nat.{le-of-suc-le-suc, not-suc-le-zero}
+use native.Mathlib.Decide.{decLt}
+use native.Mathlib.Omega.{arith}
 use lib.Dec.{eqb}
 use lib.ListN.{length, getD}
 use borrow.Author.Tests.{eqb-true, eq-eqb}
 use Rattle.rules.specs.Lists.{any, indexOf, snoc, fold, unless}
 use Rattle.rules.specs.Catalogue.{Owner, root, part, Goal, range, union}
 use Rattle.rules.specs.Variables.{Origin, chosen, forbid, one, violation, gate, key, sameKey, sameOrigin, known, variableOf, withVariable, withVariables}
-use Rattle.rules.proofs.Bools.{and-left, and-right, and-both}
-use Rattle.rules.proofs.Grows.{Prefix, withVariables-prefix}
+use Rattle.rules.proofs.Bools.{and-left, and-right, and-both, or-right}
+use Rattle.rules.proofs.Each.{Each, each-imp, each-fails, Pairwise, pairwise-snoc, pairwise-at, unless-cases}
+use Rattle.rules.proofs.Grows.{Prefix, whole, withVariables-prefix}
 
 -- ---- origins with the same key are the same
 
@@ -65,6 +71,13 @@ stands (v ∷ vs) o d e = go (sameOrigin o v) refl e (stands vs o d)
     go true q e h = (suc-le-suc zero-le, sym (origin-same o v q))
     go false q e h = let p = h e in (suc-le-suc (p .0), p .1)
 
+-- what stands in the list is known
+pub at-known : (vs : List Origin) (i : ℕ) (d : Origin) → i < length vs → known vs (getD vs i d) ≡ true
+unfolding known any
+at-known [] i d l = absurd (not-suc-le-zero l)
+at-known (v ∷ vs) zero d l = rw (origin-self v)
+at-known (v ∷ vs) (suc i) d l = or-right (sameOrigin (getD vs i d) v) _ (at-known vs i d (le-of-suc-le-suc l))
+
 -- ---- and keeps it
 
 known-more : (vs ws : List Origin) (o : Origin) → known vs o ≡ true → (known (vs ++ ws) o ≡ true) × (variableOf (vs ++ ws) o ≡ variableOf vs o)
@@ -82,16 +95,30 @@ known-more (v ∷ vs) ws o e = go (sameOrigin o v) e (known-more vs ws o)
 pub keeps-variable : {vs ws : List Origin} → Prefix vs ws → (o : Origin) → known vs o ≡ true → (known ws o ≡ true) × (variableOf ws o ≡ variableOf vs o)
 keeps-variable {vs} {ws} p o e = let q = known-more vs (p .more) o e in rw (p .is) q
 
+-- ---- an origin without a variable has the number of none, and one that it gets later is beyond those before
+
+past : {A : Type 0} (f : A → Bool) {xs : List A} (ys : List A) → Each (λ x. f x ≡ false) xs → length xs ≤ indexOf f (xs ++ ys)
+unfolding indexOf
+past f ys Each.nil = zero-le
+past f ys (Each.cons e es) = rw (e, indexOf) (suc-le-suc (past f ys es))
+
+pub unknown-beyond : {vs ws : List Origin} → Prefix vs ws → (o : Origin) → known vs o ≡ false → length vs ≤ variableOf ws o
+unfolding known variableOf
+unknown-beyond {vs} p o e = rw (p .is) (past (sameOrigin o) (p .more) (each-fails (sameOrigin o) vs e))
+
+pub below-known : (vs : List Origin) (o : Origin) → variableOf vs o < length vs → known vs o ≡ true
+below-known vs o l = go (known vs o) refl
+  where
+    go : (b : Bool) → known vs o ≡ b → b ≡ true
+    go true e = refl
+    go false e = let h = unknown-beyond whole o e in let no : ⊥ = omega arith in absurd no
+
 -- ---- what is named is known
 
 end-known : (o : Origin) (us : List Origin) → known (us ++ (o ∷ [])) o ≡ true
 unfolding known any
 end-known o [] = rw (origin-self o)
-end-known o (u ∷ us) = either (sameOrigin o u) (end-known o us)
-  where
-    either : (b : Bool) → any (sameOrigin o) (us ++ (o ∷ [])) ≡ true → (b || any (sameOrigin o) (us ++ (o ∷ []))) ≡ true
-    either true h = refl
-    either false h = h
+end-known o (u ∷ us) = or-right (sameOrigin o u) _ (end-known o us)
 
 withVariable-known : (o : Origin) (vs : List Origin) → known (withVariable o vs) o ≡ true
 unfolding withVariable snoc
@@ -105,3 +132,53 @@ pub withVariables-known : (os vs : List Origin) (o : Origin) → List·Memᴰ o 
 unfolding withVariables fold
 withVariables-known (p ∷ os) vs o (List·Memᴰ·head q) = keeps-variable (withVariables-prefix os (withVariable p vs)) o (rw q (withVariable-known p vs)) .0
 withVariables-known (p ∷ os) vs o (List·Memᴰ·tail m) = withVariables-known os (withVariable p vs) o m
+
+-- ---- no origin stands twice
+
+-- "Variable 0 is the root"
+pub record Distinct (vs : List Origin) : Type 0 where
+  pub rest : List Origin
+  pub root-first : vs ≡ chosen root ∷ rest
+  pub once : Pairwise (λ a b. a ≢ b) vs
+
+unknown-differs : (vs : List Origin) (o : Origin) → known vs o ≡ false → Each (λ a. a ≢ o) vs
+unfolding known
+unknown-differs vs o e = each-imp (λ a n q. false≢true (sym n ∙ ap (sameOrigin o) q ∙ origin-self o)) (each-fails _ vs e)
+
+pub withVariable-distinct : (o : Origin) {vs : List Origin} → Distinct vs → Distinct (withVariable o vs)
+unfolding withVariable
+withVariable-distinct o {vs} d =
+    unless-cases Distinct _ _ vs d (λ e.
+        record {
+          rest = snoc (d .rest) o;
+          root-first = unfold snoc in ap (λ us. us ++ (o ∷ [])) (d .root-first);
+          once = pairwise-snoc (d .once) (unknown-differs vs o e);
+        })
+
+pub withVariables-distinct : (os : List Origin) {vs : List Origin} → Distinct vs → Distinct (withVariables os vs)
+unfolding withVariables fold
+withVariables-distinct [] d = d
+withVariables-distinct (o ∷ os) d = withVariables-distinct os (withVariable-distinct o d)
+
+module _ {vs : List Origin} (v : Distinct vs) (d : Origin) where
+  pub root-at : getD vs 0 d ≡ chosen root
+  root-at = rw (v .root-first)
+
+  pub distinct-at : (i j : ℕ) → i < length vs → j < length vs → getD vs i d ≡ getD vs j d → i ≡ j
+  distinct-at i j li lj e = go (decLt i j) (decLt j i)
+    where
+      go : Dec (i < j) → Dec (j < i) → i ≡ j
+      go (yes h) q = absurd (pairwise-at (v .once) i j d h lj e)
+      go (no n) (yes h) = absurd (pairwise-at (v .once) j i d h li (sym e))
+      go (no n) (no m) = omega arith
+
+  pub root-only : (i : ℕ) → i < length vs → getD vs i d ≡ chosen root → i ≡ 0
+  root-only i l e = distinct-at i 0 l (omega arith) (e ∙ sym root-at)
+
+  -- what stands at i has the variable i
+  pub variable-at : (i : ℕ) → i < length vs → variableOf vs (getD vs i d) ≡ i
+  variable-at i l = let p = stands vs (getD vs i d) d (at-known vs i d l) in distinct-at (variableOf vs (getD vs i d)) i (p .0) l (p .1)
+
+-- two known origins with one variable are the same
+pub variable-same : (vs : List Origin) (a b : Origin) → known vs a ≡ true → known vs b ≡ true → variableOf vs a ≡ variableOf vs b → a ≡ b
+variable-same vs a b p q e = sym (stands vs a a p .1) ∙ (ap (λ i. getD vs i a) e ∙ stands vs b a q .1)
