@@ -67,9 +67,12 @@ module _ {A : Type 0} {P : A → Type 0} where
   each-in [] h = Each.nil
   each-in (x ∷ xs) h = Each.cons (h x (List·Memᴰ·head refl)) (each-in xs (λ y m. h y (List·Memᴰ·tail m)))
 
-pub each-map : {A B : Type 0} {P : B → Type 0} (f : A → B) {xs : List A} → Each (λ x. P (f x)) xs → Each P (map f xs)
-each-map f Each.nil = Each.nil
-each-map {P} f (Each.cons p ps) = Each.cons p (each-map {P = P} f ps)
+pub each-map : {A B : Type 0} {P : B → Type 0} (f : A → B) (xs : List A) → Each (λ x. P (f x)) xs → Each P (map f xs)
+each-map f [] Each.nil = Each.nil
+each-map {P} f (x ∷ xs) (Each.cons p ps) = Each.cons p (each-map {P = P} f xs ps)
+
+pub each-map-of : {A B : Type 0} {P : B → Type 0} (f : A → B) (xs : List A) → ((x : A) → P (f x)) → Each P (map f xs)
+each-map-of f xs h = each-map f xs (each-of xs h)
 
 -- what a filter keeps passes its test
 pub each-passes : {A : Type 0} (f : A → Bool) (xs : List A) → Each (λ x. f x ≡ true) (filter f xs)

@@ -235,7 +235,7 @@ runOnce-grows c level s =
 
 -- ---- above a limit, and still above it
 
-prefix-length : {A : Type 0} {xs ys : List A} → Prefix xs ys → length xs ≤ length ys
+pub prefix-length : {A : Type 0} {xs ys : List A} → Prefix xs ys → length xs ≤ length ys
 prefix-length {A} {xs} p = rw (p .is, length-append xs (p .more)) (omega arith)
 
 sum-append : (ms ns : List ℕ) → sum (ms ++ ns) ≡ sum ms + sum ns

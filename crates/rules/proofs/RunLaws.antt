@@ -21,7 +21,7 @@ use Rattle.rules.specs.Run.{lineTaken, nameIfOne, joinsFrom, linksFor, s
 use Rattle.rules.specs.Records.{Command}
 use Rattle.rules.specs.Limits.{Limits}
 use Rattle.rules.specs.Sheet.{decide, carriedOut}
-use Rattle.rules.proofs.Each.{Each, each-snoc, each-imp, each-filter, each-of, each-map, when-cases}
+use Rattle.rules.proofs.Each.{Each, each-snoc, each-imp, each-filter, each-map-of, when-cases}
 use Rattle.rules.proofs.Evaluation.{Undecided, undecided-out}
 use Rattle.rules.proofs.Grows.{Prefix, whole, longer, withVariables-prefix, serve-waits, begin-waits}
 use Rattle.rules.proofs.Places.{keeps-variable, withVariables-known}
@@ -241,7 +241,7 @@ module _ (c : Catalogue) where
 
   links-none-earlier : (new : List Origin) (ts : List ℕ) → Each (λ e. earlier e ≡ []) (linksFor c new ts)
   unfolding linksFor earlier
-  links-none-earlier new ts = each-map (λ n. links n (trackedOf c n ts)) (each-of (concatMap nameIfOne new) (λ n. refl))
+  links-none-earlier new ts = each-map-of _ (concatMap nameIfOne new) (λ n. refl)
 
   linkAll-within : {r : Run} {s₀ s : State} → Within r s₀ s → TrackedKnown s → Within r s₀ (linkAll c r s) × TrackedKnown (linkAll c r s)
   unfolding linkAll
