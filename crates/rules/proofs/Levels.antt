@@ -98,7 +98,7 @@ within-up-to h u Within.begins = u
 within-up-to h u (Within.opens w o) = within-up-to h u w
 within-up-to h u (Within.stores w e n) = within-up-to h u w
 within-up-to h u (Within.reports w i l) = within-up-to h u w
-within-up-to h u (Within.sets w t m n) = one-more _ refl h (within-up-to h u w)
+within-up-to h u (Within.sets w t n) = one-more _ refl h (within-up-to h u w)
 
 -- ---- every job
 

@@ -110,10 +110,10 @@ effects-leave r i (k ∷ ks) s =
 
 -- ---- the steps of a run
 
--- clause i is k
-pub record Stored (ks : List Clause) (i : ℕ) (k : Clause) : Type 0 where
+-- clause i is stored, and can set l
+pub record CanSet (ks : List Clause) (i : ℕ) (l : Literal) : Type 0 where
   pub below : i < length ks
-  pub is : getD ks i install ≡ k
+  pub among : List·Memᴰ l (settable (getD ks i install))
 
 -- these parts have variables
 abbrev pub Known : List Origin → List ℕ → Type 0
@@ -141,30 +141,31 @@ module _ (c : Catalogue) where
     opens : {s : State} → Within r s₀ s → (o : Opening) → Within r s₀ (setOpening o s)
     stores : {s : State} → Within r s₀ s → (e : Event) → Known (s .variables) (earlier e) → Within r s₀ (stored r e s)
     reports : {s : State} → Within r s₀ s → (i : ℕ) → i < length (s .clauses) → Within r s₀ (setConflicts (snoc (s .conflicts) (r .number, i)) s)
-    sets : {s : State} → Within r s₀ s → {i : ℕ} {k : Clause} {l : Literal} → Stored (s .clauses) i k → List·Memᴰ l (settable k)
-        → Undecided (s .decisions) (l .variable) → Within r s₀ (setDecisions (snoc (s .decisions) (forced r i l)) s)
+    sets : {s : State} → Within r s₀ s → {i : ℕ} {l : Literal} → CanSet (s .clauses) i l → Undecided (s .decisions) (l .variable)
+        → Within r s₀ (setDecisions (snoc (s .decisions) (forced r i l)) s)
 
   pub within-prefix : {r : Run} {s₀ s : State} → Within r s₀ s → Prefix (s₀ .variables) (s .variables)
   within-prefix Within.begins = whole
   within-prefix (Within.opens w o) = within-prefix w
   within-prefix (Within.stores {s} w e n) = longer (within-prefix w) (withVariables-prefix (origins c e) (s .variables))
   within-prefix (Within.reports w i l) = within-prefix w
-  within-prefix (Within.sets w t m u) = within-prefix w
+  within-prefix (Within.sets w t u) = within-prefix w
 
   module _ {r : Run} {s₀ : State} where
-    effect-within : {i : ℕ} {k : Clause} {s s′ : State} → Within r s₀ s → Stored (s .clauses) i k → Effect r i k s s′ → Within r s₀ s′
-    effect-within w t Effect.nothing = w
-    effect-within {i} w t Effect.reports = Within.reports w i (t .below)
-    effect-within w t (Effect.sets m u) = Within.sets w t m u
+    effect-within : {i : ℕ} {k : Clause} {s s′ : State} → Within r s₀ s → i < length (s .clauses) → getD (s .clauses) i install ≡ k → Effect r i k s s′ → Within r s₀ s′
+    effect-within w b e Effect.nothing = w
+    effect-within {i} w b e Effect.reports = Within.reports w i b
+    effect-within w b e (Effect.sets {l} m u) = Within.sets w {l = l} (record { below = b; among = rw e m }) u
 
     -- `js` are the clauses before `ks`
     effects-within : (js ks : List Clause) {s : State} → s .clauses ≡ js ++ ks → Within r s₀ s → Within r s₀ (effects r (length js) ks s)
     unfolding effects
     effects-within js [] e w = w
     effects-within js (k ∷ ks) {s} e w =
-        let t : Stored (s .clauses) (length js) k = record { below = rw (e, length-append js (k ∷ ks)) (omega arith); is = rw e (getD-at js k ks install (length js) refl) } in
+        let b : length js < length (s .clauses) = rw (e, length-append js (k ∷ ks)) (omega arith) in
         let x = effect-is r (length js) k s in
-        rw length-snoc at (effects-within (js ++ (k ∷ [])) ks (effect-leaves x .clauses ∙ (e ∙ sym (append-snoc js k ks))) (effect-within w t x))
+        let w₁ = effect-within w b (rw e (getD-at js k ks install (length js) refl)) x in
+        rw length-snoc at (effects-within (js ++ (k ∷ [])) ks (effect-leaves x .clauses ∙ (e ∙ sym (append-snoc js k ks))) w₁)
       where
         length-snoc : length (js ++ (k ∷ [])) ≡ suc (length js)
         length-snoc = rw (length-append js (k ∷ [])) (omega arith)

@@ -21,7 +21,7 @@ within-distinct d Within.begins = d
 within-distinct d (Within.opens w o) = within-distinct d w
 within-distinct {c} d (Within.stores w e n) = withVariables-distinct (origins c e) (within-distinct d w)
 within-distinct d (Within.reports w i l) = within-distinct d w
-within-distinct d (Within.sets w t m n) = within-distinct d w
+within-distinct d (Within.sets w t n) = within-distinct d w
 
 decide-distinct : (x value level : ℕ) (s : State) → Distinct (s .variables) → Distinct ((decide x value level s) .variables)
 unfolding decide
