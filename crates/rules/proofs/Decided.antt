@@ -18,7 +18,7 @@ use Rattle.rules.specs.Decisions.{Decision, isTrue, upToLevel}
 use Rattle.rules.specs.Variables.{Origin, chosen, known, variableOf, partOrigin, partVariable}
 use Rattle.rules.specs.Opening.{Task, setLine, serve}
 use Rattle.rules.specs.Encoding.{Event, served, origins}
-use Rattle.rules.specs.State.{State, setOpening, start, decidedTrue, Run, emit}
+use Rattle.rules.specs.State.{State, setOpening, setDecisions, start, decidedTrue, Run, emit}
 use Rattle.rules.specs.Run.{lineTaken, serveTask, serveLine, begun, runOnce}
 use Rattle.rules.specs.Records.{Command}
 use Rattle.rules.specs.Limits.{Limits}
@@ -28,7 +28,7 @@ use Rattle.rules.proofs.Evaluation.{Undecided, undecided-out, not-true,
 use Rattle.rules.proofs.Grows.{Prefix, prefix-length, withVariables-prefix}
 use Rattle.rules.proofs.Places.{stands, keeps-variable, unknown-beyond}
 use Rattle.rules.proofs.Reached.{Passed, first-passed, rest-passed, Reached, command}
-use Rattle.rules.proofs.RunLaws.{settable, CanSet, Known, earlier, Within, within-prefix, emit-within, serveTask-within, serveLine-within, OneRun, every-run}
+use Rattle.rules.proofs.RunLaws.{settable, forced, variablesAfter, stored, CanSet, Known, earlier, Within, within-prefix, emit-within, serveTask-within, serveLine-within, OneRun, every-run}
 use Rattle.rules.proofs.Settable.{isChosen, Settable, SetsOnly, sets-only-after, event-sets}
 
 -- what a decision makes true
@@ -88,11 +88,140 @@ some-same e = cc
 
 -- ---- a run
 
-module _ {c : Catalogue} {r : Run} {s₀ : State} (b : r .before ≤ length (s₀ .variables)) (v : DecidedIn s₀) where
-  pub within-decided : {s : State} → Within c r s₀ s → DecidedIn s
-  within-decided Within.begins = v
-  within-decided (Within.opens w o) = within-decided w
-  within-decided (Within.stores {s} w e n) =
-      stores (withVariables-prefix (origins c e) (s .variables)) (event-sets c (r .before) e (s .variables) (omega (arith, prefix-length (within-prefix c w))) n) (within-decided w)
-  within-decided (Within.reports w i l) = within-decided w
-  within-decided (Within.sets w t u) = let h = within-decided w in decides _ (may-set h t .below) u (λ i e. rw (some-same e) at t) h
+-- the state before run r or at any point of it
+pub record InRun (r : Run) (s : State) : Type 0 where
+  pub before : r .before ≤ length (s .variables)
+  pub decided-in : DecidedIn s
+
+pub within-run : {c : Catalogue} {r : Run} {s₀ s : State} → InRun r s₀ → Within c r s₀ s → InRun r s
+within-run {c} {r} {s₀} h w = record { before = omega (arith, h .before, prefix-length (within-prefix c w)); decided-in = go w }
+  where
+    go : {s : State} → Within c r s₀ s → DecidedIn s
+    go Within.begins = h .decided-in
+    go (Within.opens w o) = go w
+    go (Within.stores {s} w e n) =
+        stores (withVariables-prefix (origins c e) (s .variables)) (event-sets c (r .before) e (s .variables) (omega (arith, h .before, prefix-length (within-prefix c w))) n) (go w)
+    go (Within.reports w i l) = go w
+    go (Within.sets w t u) = let v = go w in decides _ (may-set v t .below) u (λ i e. rw (some-same e) at t) v
+
+-- ---- every job
+
+decide-decided : (x value level : ℕ) (s : State) → x < length (s .variables) → DecidedIn s → DecidedIn (decide x value level s)
+unfolding decide
+decide-decided x value level s l v =
+    when-cases DecidedIn _ _ s v (λ e. decides _ l (undecided-out (s .decisions) (wanted x value) e) (λ i q. absurd (not-some q)) v)
+  where
+    not-some : {i : ℕ} → _≡_ {A = Option ℕ} none (some i) → ⊥
+    not-some q = let z : _≡_ {A = ℕ} 0 1 = cc in omega arith
+
+begin-run : {c : Catalogue} {level : ℕ} {s s′ : State} (w : OneRun c level s s′) → DecidedIn s → InRun (w .run) (begun c s)
+unfolding begun
+begin-run w v = record { before = omega (arith, w .before); decided-in = v }
+
+pub decided : {l : Limits} {c : Catalogue} {s : State} → Reached l c s → DecidedIn s
+unfolding carriedOut commandRefusals
+decided Reached.begun = at-start
+decided (command r (Command.add o) p) = decided r
+decided (command r (Command.draw k) p) = decided r
+decided (command r (Command.run level) p) = let w = every-run r level in within-run (begin-run w (decided r)) (w .within) .decided-in
+decided (command {s} r (Command.decide x value level) p) = decide-decided x value level s (leb-false _ _ (first-passed p)) (decided r)
+decided (command r (Command.undo level) p) = undoes level (decided r)
+
+-- "Only the sheet can make a part true", or the root
+pub only-sheet : {vs : List Origin} {ks : List Clause} {ds : List Decision} → Decided vs ks ds
+    → Each (λ (d : Decision). d .value ≡ true → (o : Owner) → getD vs (d .variable) (chosen root) ≡ chosen o → d .clause ≡ none) ds
+only-sheet {vs} {ks} v = each-imp (λ d f t o e. go d t o e (d .clause) refl f) (v .forced)
+  where
+    go : (d : Decision) → d .value ≡ true → (o : Owner) → getD vs (d .variable) (chosen root) ≡ chosen o → (i : Option ℕ) → d .clause ≡ i
+        → ((i : ℕ) → d .clause ≡ some i → CanSet ks i (literalOf d)) → i ≡ none
+    go d t o e none q f = refl
+    go d t o e (some i) q f = absurd (true≢false (ap isChosen (sym e) ∙ may-set v (f i q) .no-owner t))
+
+-- ---- no step of a run changes which parts are decided true
+
+and-false : (b : Bool) → (b && false) ≡ false
+and-false true = refl
+and-false false = refl
+
+-- new variables are undecided
+stores-same : (c : Catalogue) (r : Run) (e : Event) (s : State) → DecidedIn s → (p : ℕ) → decidedTrue (stored c r e s) p ≡ decidedTrue s p
+unfolding decidedTrue
+stores-same c r e s v p = go (known (s .variables) (partOrigin p)) refl
+  where
+    g : Prefix (s .variables) (variablesAfter c e s)
+    g = withVariables-prefix (origins c e) (s .variables)
+
+    beyond : known (s .variables) (partOrigin p) ≡ false → Undecided (s .decisions) (partVariable (variablesAfter c e s) p)
+    beyond q = let h = unknown-beyond g (partOrigin p) q in each-imp (λ d l. omega arith) (v .below)
+
+    go : (b : Bool) → known (s .variables) (partOrigin p) ≡ b → unfold decidedTrue in decidedTrue (stored c r e s) p ≡ decidedTrue s p
+    go true q = let k = keeps-variable g (partOrigin p) q in rw (k .0, k .1, q)
+    go false q = rw (q, not-true (beyond q)) (and-false (known (variablesAfter c e s) (partOrigin p)))
+
+-- a literal that is set is no part made true
+sets-same : (r : Run) {i : ℕ} {l : Literal} (s : State) → DecidedIn s → CanSet (s .clauses) i l → (p : ℕ)
+    → decidedTrue (setDecisions (snoc (s .decisions) (forced r i l)) s) p ≡ decidedTrue s p
+unfolding decidedTrue
+sets-same r {i} {l} s v t p = go (known (s .variables) (partOrigin p)) refl
+  where
+    other : known (s .variables) (partOrigin p) ≡ true → l .positive ≡ true → l .variable ≢ partVariable (s .variables) p
+    other q e h = true≢false (ap isChosen (sym (stands (s .variables) (partOrigin p) (chosen root) q .1)) ∙ (ap (λ x. isChosen (getD (s .variables) x (chosen root))) (sym h) ∙ may-set v t .no-owner e))
+
+    go : (b : Bool) → known (s .variables) (partOrigin p) ≡ b → unfold decidedTrue in decidedTrue (setDecisions (snoc (s .decisions) (forced r i l)) s) p ≡ decidedTrue s p
+    go true q = rw (true-after (s .decisions) (forced r i l) (partVariable (s .variables) p) (other q))
+    go false q = rw q
+
+module _ (c : Catalogue) {r : Run} {s₀ : State} (h : InRun r s₀) where
+  pub no-part-made-true : {s : State} → Within c r s₀ s → (p : ℕ) → decidedTrue s p ≡ decidedTrue s₀ p
+  unfolding decidedTrue
+  no-part-made-true Within.begins p = refl
+  no-part-made-true (Within.opens w o) p = no-part-made-true w p
+  no-part-made-true (Within.stores {s} w e n) p = stores-same c r e s (within-run h w .decided-in) p ∙ no-part-made-true w p
+  no-part-made-true (Within.reports w i l) p = no-part-made-true w p
+  no-part-made-true (Within.sets {s} w t u) p = sets-same r s (within-run h w .decided-in) t p ∙ no-part-made-true w p
+
+  pub emit-same : (e : Event) → Known (s₀ .variables) (earlier e) → (p : ℕ) → decidedTrue (emit c r e s₀) p ≡ decidedTrue s₀ p
+  emit-same e k = no-part-made-true (emit-within c Within.begins e k)
+
+  pub serveTask-same : (t : Task) (p : ℕ) → decidedTrue (serveTask c r t s₀) p ≡ decidedTrue s₀ p
+  serveTask-same t = no-part-made-true (serveTask-within c Within.begins t)
+
+  pub serveLine-same : (fuel : ℕ) (ts : List Task) (p : ℕ) → decidedTrue (serveLine c r fuel ts s₀) p ≡ decidedTrue s₀ p
+  serveLine-same fuel ts = no-part-made-true (serveLine-within c fuel ts Within.begins)
+
+-- ---- judged at the start
+
+-- the line served with these parts taken as decided true throughout
+module _ (c : Catalogue) (r : Run) (true? : ℕ → Bool) where
+  unfoldable pub serveTaskBy : Task → State → State
+  serveTaskBy t s = emit c r (served t) (setOpening (serve c true? t (s .opening)) s)
+
+  unfoldable pub serveLineBy : ℕ → List Task → State → State
+  serveLineBy zero ts s = s
+  serveLineBy (suc fuel) [] s = s
+  serveLineBy (suc fuel) (t ∷ ts) s =
+      let s₁ = serveTaskBy t s in
+      serveLineBy fuel (ts ++ s₁ .opening .line) (lineTaken s₁)
+
+module _ (c : Catalogue) {r : Run} {s₀ : State} (h : InRun r s₀) where
+  task-judged : (t : Task) {s : State} → Within c r s₀ s → serveTask c r t s ≡ serveTaskBy c r (decidedTrue s₀) t s
+  unfolding serveTask serveTaskBy
+  task-judged t {s} w = ap (λ f. emit c r (served t) (setOpening (serve c f t (s .opening)) s)) (fun-ext (no-part-made-true c h w))
+
+  line-judged : (fuel : ℕ) (ts : List Task) {s : State} → Within c r s₀ s → serveLine c r fuel ts s ≡ serveLineBy c r (decidedTrue s₀) fuel ts s
+  unfolding serveLine serveLineBy
+  line-judged zero ts w = refl
+  line-judged (suc fuel) [] w = refl
+  line-judged (suc fuel) (t ∷ ts) w = rw (← (task-judged t w)) (line-judged fuel _ (Within.opens (serveTask-within c w t) _))
+
+  pub judged-at-start : (fuel : ℕ) (ts : List Task) → serveLine c r fuel ts s₀ ≡ serveLineBy c r (decidedTrue s₀) fuel ts s₀
+  judged-at-start fuel ts = line-judged fuel ts Within.begins
+
+-- ---- a run that begins in a reached state
+
+begun-same : (c : Catalogue) (s : State) (p : ℕ) → decidedTrue (begun c s) p ≡ decidedTrue s p
+unfolding begun decidedTrue
+begun-same c s p = refl
+
+pub runOnce-same : {l : Limits} {c : Catalogue} {s : State} → Reached l c s → (level p : ℕ) → decidedTrue (runOnce c level s) p ≡ decidedTrue s p
+runOnce-same {l} {c} {s} r level p = let w = every-run r level in no-part-made-true c (begin-run w (decided r)) (w .within) p ∙ begun-same c s p
