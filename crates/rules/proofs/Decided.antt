@@ -25,10 +25,11 @@ use Rattle.rules.specs.Limits.{Limits}
 use Rattle.rules.specs.Sheet.{wanted, decide, commandRefusals, carriedOut}
 use Rattle.rules.proofs.Each.{Each, each-append, each-snoc, each-imp, each-filter, each-at, each-out, Pairwise, pairwise-snoc, pairwise-filter, when-cases}
 use Rattle.rules.proofs.Evaluation.{Undecided, undecided-out, not-true, true-after}
+use Rattle.rules.proofs.Effects.{settable, forced, variablesAfter, stored}
 use Rattle.rules.proofs.Grows.{Prefix, prefix-length, withVariables-prefix}
 use Rattle.rules.proofs.Places.{stands, keeps-variable, unknown-beyond}
 use Rattle.rules.proofs.Reached.{Passed, first-passed, rest-passed, Reached, command}
-use Rattle.rules.proofs.RunLaws.{settable, forced, variablesAfter, stored, CanSet, Known, earlier, Within, within-prefix, emit-within, serveTask-within, serveLine-within, OneRun, every-run}
+use Rattle.rules.proofs.RunLaws.{CanSet, Known, earlier, Within, within-prefix, emit-within, serveTask-within, serveLine-within, OneRun, every-run}
 use Rattle.rules.proofs.Settable.{isChosen, Settable, SetsOnly, sets-only-after, event-sets}
 
 -- what a decision makes true

@@ -20,6 +20,7 @@ use Rattle.rules.specs.Encoding.{Event, served, origins, clauses}
 use Rattle.rules.specs.State.{State, setOpening, setVariables, setClauses, decidedTrue, Run, report, force, propagateBy, propagate, effect, effects, emit, emitAll}
 use Rattle.rules.specs.Run.{lineTaken, joinsFrom, linksFor, serveTask, serveLine, joinAll, linkAll, begun, runOnce}
 use Rattle.rules.specs.Limits.{Limits, above}
+use Rattle.rules.proofs.Effects.{emit-leaves}
 
 -- ---- a list and what was added at its end
 
@@ -69,11 +70,11 @@ queue-waits t s = record { waits = whole; tracked = refl }
 
 openOwner-waits : (o : Owner) (s : Opening) → Waits s (openOwner o s)
 unfolding openOwner queue
-openOwner-waits o s = unless-waits (any (sameOwner o) (s .owners)) _ (λ u. record { waits = whole; tracked = refl }) s
+openOwner-waits o s = unless-waits _ _ (λ u. record { waits = whole; tracked = refl }) s
 
 openName-waits : (n : ℕ) (s : Opening) → Waits s (openName n s)
 unfolding openName queue
-openName-waits n s = unless-waits (elem n (s .names)) _ (λ u. record { waits = whole; tracked = refl }) s
+openName-waits n s = unless-waits _ _ (λ u. record { waits = whole; tracked = refl }) s
 
 module _ (c : Catalogue) where
   openNames-waits : (rs : List ℕ) (s : Opening) → Waits s (openNames c rs s)
@@ -82,7 +83,7 @@ module _ (c : Catalogue) where
 
   owner-waits : (o : Owner) (s : Opening) → Waits s (serveOwner c o s)
   unfolding serveOwner
-  owner-waits o s = unless-waits (unknownOwner c o) _ (λ u. then (openNames-waits (rangesFirst c o) u) (each queue queue-waits (tasksOf c o) _)) s
+  owner-waits o s = unless-waits _ _ (λ u. then (openNames-waits (rangesFirst c o) u) (each queue queue-waits (tasksOf c o) _)) s
 
   fire-waits : (q : ℕ) (is : List ℕ) (s : Opening) → Waits s (fire c q is s)
   unfolding fire
@@ -91,11 +92,11 @@ module _ (c : Catalogue) where
 
   naming-waits : (p : ℕ) (s : Opening) → Waits s (nameForTracking c p s)
   unfolding nameForTracking
-  naming-waits p s = unless-waits (elem (nameOf c p) (s .several) || elem p (s .named)) _ (λ u. record { waits = whole; tracked = refl }) s
+  naming-waits p s = unless-waits _ _ (λ u. record { waits = whole; tracked = refl }) s
 
   ready-waits : (p : ℕ) (s : Opening) → Waits s (openReady c p s)
   unfolding openReady
-  ready-waits p s = when-waits ((partAt c p) .ready) (openOwner (part p)) (openOwner-waits (part p)) s
+  ready-waits p s = when-waits _ (openOwner (part p)) (openOwner-waits (part p)) s
 
   handled-waits : (q : ℕ) (is : List ℕ) (s : Opening) → Waits s (markHandled q is s)
   unfolding markHandled
@@ -104,7 +105,7 @@ module _ (c : Catalogue) where
   pub serve-waits : (f : ℕ → Bool) (t : Task) (s : Opening) → Waits s (serve c f t s)
   unfolding serve serveName serveCondition serveRequirement
   serve-waits f (owner o) s = owner-waits o s
-  serve-waits f (name n) s = when-waits (severalAllowed c n) (λ (u : Opening). setSeveral (snoc (u .several) n) u) (λ u. record { waits = whole; tracked = refl }) s
+  serve-waits f (name n) s = when-waits _ _ (λ u. record { waits = whole; tracked = refl }) s
   serve-waits f (condition q) s = then (record { waits = ending (s .waiting) _; tracked = refl }) (fire-waits q _ _)
   serve-waits f (requirement q is) s =
       then (handled-waits q is s) (then (each (nameForTracking c) naming-waits (candidates c (goalAt c q) ++ firedParts c q is) _)
@@ -131,11 +132,6 @@ and-then : {s s′ s″ : State} → Grows s s′ → Grows s′ s″ → Grows 
 and-then p q =
     record { variables = longer (p .variables) (q .variables); clauses = longer (p .clauses) (q .clauses); waiting = longer (p .waiting) (q .waiting) }
 
-when-grows : (b : Bool) (f : State → State) → ((s : State) → Grows s (f s)) → (s : State) → Grows s (when b f s)
-unfolding when
-when-grows true f h s = h s
-when-grows false f h s = same
-
 opening-grows : (o : Opening) (s : State) → Prefix (s .opening .waiting) (o .waiting) → Grows s (setOpening o s)
 opening-grows o s w = record { variables = whole; clauses = whole; waiting = w }
 
@@ -153,51 +149,14 @@ withVariables-prefix [] vs = whole
 withVariables-prefix (o ∷ os) vs = longer (withVariable-prefix o vs) (withVariables-prefix os (withVariable o vs))
 
 module _ (c : Catalogue) (r : Run) where
-  force-grows : (i : ℕ) (l : Literal) (s : State) → Grows s (force r i l s)
-  unfolding force
-  force-grows i l s = when-grows (isUndecided (evaluate (s .decisions) l)) _ (λ u. record { variables = whole; clauses = whole; waiting = whole }) s
-
-  report-grows : (i : ℕ) (s : State) → Grows s (report r i s)
-  unfolding report
-  report-grows i s = record { variables = whole; clauses = whole; waiting = whole }
-
-  propagate-grows : (i : ℕ) (x y : Evaluation) (a b : Literal) (s : State) → Grows s (propagateBy r i x y a b s)
-  unfolding propagateBy
-  propagate-grows i (falsified j) (falsified k) a b s = report-grows i s
-  propagate-grows i (falsified j) undecided a b s = force-grows i b s
-  propagate-grows i (falsified j) (satisfied k) a b s = same
-  propagate-grows i undecided (falsified k) a b s = force-grows i a s
-  propagate-grows i undecided undecided a b s = same
-  propagate-grows i undecided (satisfied k) a b s = same
-  propagate-grows i (satisfied j) y a b s = same
-
-  effect-grows : (i : ℕ) (k : Clause) (s : State) → Grows s (effect r i k s)
-  unfolding effect propagate
-  effect-grows i install s = same
-  effect-grows i (requires o ks ps) s = when-grows _ (report r i) (report-grows i) s
-  effect-grows i (gated g ps) s = when-grows _ (force r i (neg g)) (force-grows i (neg g)) s
-  effect-grows i (excluded x p w) s = when-grows _ (report r i) (report-grows i) s
-  effect-grows i (constrains o p) s = when-grows _ (report r i) (report-grows i) s
-  effect-grows i (forbid p l) s = propagate-grows i _ _ (neg p) l s
-  effect-grows i (auxOut p v) s = when-grows _ (force r i (pos v)) (force-grows i (pos v)) s
-  effect-grows i (auxOwner o v) s = when-grows _ (report r i) (report-grows i) s
-  effect-grows i (lock p) s = same
-  effect-grows i (anyGate g o) s = propagate-grows i _ _ (pos g) (neg o) s
-  effect-grows i (anyOne y p) s = when-grows _ (force r i (pos y)) (force-grows i (pos y)) s
-
-  effects-grows : (i : ℕ) (ks : List Clause) (s : State) → Grows s (effects r i ks s)
-  unfolding effects
-  effects-grows i [] s = same
-  effects-grows i (k ∷ ks) s = and-then (effect-grows i k s) (effects-grows (suc i) ks (effect r i k s))
-
   pub emit-grows : (e : Event) (s : State) → Grows s (emit c r e s)
-  unfolding emit
   emit-grows e s =
-      let vs = withVariables (origins c e) (s .variables) in
-      let ks = clauses c (s .variables) vs (r .before) e in
-      and-then {s′ = setClauses (s .clauses ++ ks) (setVariables vs s)}
-      (record { variables = withVariables-prefix (origins c e) (s .variables); clauses = ending (s .clauses) ks; waiting = whole })
-      (effects-grows (length (s .clauses)) ks _)
+      let p = emit-leaves c r e s in
+      record {
+        variables = rw (p .variables) (withVariables-prefix (origins c e) (s .variables));
+        clauses = rw (p .clauses) (ending (s .clauses) _);
+        waiting = rw (p .opening) whole;
+      }
 
   emits-grows : (es : List Event) (s : State) → Grows s (emitAll c r es s)
   unfolding emitAll fold

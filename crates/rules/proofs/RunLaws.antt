@@ -22,91 +22,11 @@ use Rattle.rules.specs.Records.{Command}
 use Rattle.rules.specs.Limits.{Limits}
 use Rattle.rules.specs.Sheet.{decide, carriedOut}
 use Rattle.rules.proofs.Each.{Each, each-snoc, each-imp, each-filter, each-map-of, when-cases}
-use Rattle.rules.proofs.Evaluation.{Undecided, undecided-out}
+use Rattle.rules.proofs.Evaluation.{Undecided}
+use Rattle.rules.proofs.Effects.{settable, forced, Effect, effect-is, effect-leaves, stored, emit-leaves, emits-opening}
 use Rattle.rules.proofs.Grows.{Prefix, whole, longer, withVariables-prefix, serve-waits, begin-waits}
 use Rattle.rules.proofs.Places.{keeps-variable, withVariables-known}
 use Rattle.rules.proofs.Reached.{Reached, command}
-
--- ---- what a clause does when it is made
-
--- the literals that it can set
-unfoldable pub settable : Clause → List Literal
-settable install = []
-settable (requires o ks ps) = []
-settable (gated g ps) = neg g ∷ []
-settable (excluded x p w) = []
-settable (constrains o p) = []
-settable (forbid p l) = neg p ∷ l ∷ []
-settable (auxOut p v) = pos v ∷ []
-settable (auxOwner o v) = []
-settable (lock p) = []
-settable (anyGate g o) = pos g ∷ neg o ∷ []
-settable (anyOne y p) = pos y ∷ []
-
--- clause i sets a literal, at the run's level
-abbrev pub forced : Run → ℕ → Literal → Decision
-forced r i l = record { variable = l .variable; value = l .positive; level = r .level; clause = some i }
-
-module _ (r : Run) (i : ℕ) where
-  pub data Effect (k : Clause) (s : State) : State → Type 0 where
-    nothing : Effect k s s
-    reports : Effect k s (setConflicts (snoc (s .conflicts) (r .number, i)) s)
-    sets : {l : Literal} → List·Memᴰ l (settable k) → Undecided (s .decisions) (l .variable) → Effect k s (setDecisions (snoc (s .decisions) (forced r i l)) s)
-
-  module _ {k : Clause} (s : State) where
-    force-is : {l : Literal} → List·Memᴰ l (settable k) → Effect k s (force r i l s)
-    unfolding force
-    force-is {l} m = when-cases (Effect k s) _ _ s Effect.nothing (λ e. Effect.sets m (undecided-out (s .decisions) l e))
-
-    propagate-is : (x y : Evaluation) {a b : Literal} → List·Memᴰ a (settable k) → List·Memᴰ b (settable k) → Effect k s (propagateBy r i x y a b s)
-    unfolding propagateBy report
-    propagate-is (falsified j) (falsified n) p q = Effect.reports
-    propagate-is (falsified j) undecided p q = force-is q
-    propagate-is (falsified j) (satisfied n) p q = Effect.nothing
-    propagate-is undecided (falsified n) p q = force-is p
-    propagate-is undecided undecided p q = Effect.nothing
-    propagate-is undecided (satisfied n) p q = Effect.nothing
-    propagate-is (satisfied j) y p q = Effect.nothing
-
-    reports-if : (b : Bool) → Effect k s (when b (report r i) s)
-    unfolding report
-    reports-if b = when-cases (Effect k s) b _ s Effect.nothing (λ e. Effect.reports)
-
-    forces-if : (b : Bool) {l : Literal} → List·Memᴰ l (settable k) → Effect k s (when b (force r i l) s)
-    forces-if b m = when-cases (Effect k s) b _ s Effect.nothing (λ e. force-is m)
-
-  pub effect-is : (k : Clause) (s : State) → Effect k s (effect r i k s)
-  unfolding effect propagate settable
-  effect-is install s = Effect.nothing
-  effect-is (requires o ks ps) s = reports-if s _
-  effect-is (gated g ps) s = forces-if s _ (List·Memᴰ·head refl)
-  effect-is (excluded x p w) s = reports-if s _
-  effect-is (constrains o p) s = reports-if s _
-  effect-is (forbid p l) s = propagate-is s _ _ (List·Memᴰ·head refl) (List·Memᴰ·tail (List·Memᴰ·head refl))
-  effect-is (auxOut p v) s = forces-if s _ (List·Memᴰ·head refl)
-  effect-is (auxOwner o v) s = reports-if s _
-  effect-is (lock p) s = Effect.nothing
-  effect-is (anyGate g o) s = propagate-is s _ _ (List·Memᴰ·head refl) (List·Memᴰ·tail (List·Memᴰ·head refl))
-  effect-is (anyOne y p) s = forces-if s _ (List·Memᴰ·head refl)
-
--- decisions and conflicts apart, a clause's effect leaves the state as it is
-pub record Leaves (s s′ : State) : Type 0 where
-  pub opening : s′ .opening ≡ s .opening
-  pub variables : s′ .variables ≡ s .variables
-  pub clauses : s′ .clauses ≡ s .clauses
-
-effect-leaves : {r : Run} {i : ℕ} {k : Clause} {s s′ : State} → Effect r i k s s′ → Leaves s s′
-effect-leaves Effect.nothing = record { opening = refl; variables = refl; clauses = refl }
-effect-leaves Effect.reports = record { opening = refl; variables = refl; clauses = refl }
-effect-leaves (Effect.sets m u) = record { opening = refl; variables = refl; clauses = refl }
-
-effects-leave : (r : Run) (i : ℕ) (ks : List Clause) (s : State) → Leaves s (effects r i ks s)
-unfolding effects
-effects-leave r i [] s = record { opening = refl; variables = refl; clauses = refl }
-effects-leave r i (k ∷ ks) s =
-    let p = effect-leaves (effect-is r i k s) in
-    let q = effects-leave r (suc i) ks (effect r i k s) in
-    record { opening = q .opening ∙ p .opening; variables = q .variables ∙ p .variables; clauses = q .clauses ∙ p .clauses }
 
 -- ---- the steps of a run
 
@@ -129,17 +49,10 @@ earlier (joins p ps) = ps
 earlier (links n ps) = []
 
 module _ (c : Catalogue) where
-  abbrev pub variablesAfter : Event → State → List Origin
-  variablesAfter e s = withVariables (origins c e) (s .variables)
-
-  -- an event's variables and clauses are stored; their effects come after
-  abbrev pub stored : Run → Event → State → State
-  stored r e s = setClauses (s .clauses ++ clauses c (s .variables) (variablesAfter e s) (r .before) e) (setVariables (variablesAfter e s) s)
-
   pub data Within (r : Run) (s₀ : State) : State → Type 0 where
     begins : Within r s₀ s₀
     opens : {s : State} → Within r s₀ s → (o : Opening) → Within r s₀ (setOpening o s)
-    stores : {s : State} → Within r s₀ s → (e : Event) → Known (s .variables) (earlier e) → Within r s₀ (stored r e s)
+    stores : {s : State} → Within r s₀ s → (e : Event) → Known (s .variables) (earlier e) → Within r s₀ (stored c r e s)
     reports : {s : State} → Within r s₀ s → (i : ℕ) → i < length (s .clauses) → Within r s₀ (setConflicts (snoc (s .conflicts) (r .number, i)) s)
     sets : {s : State} → Within r s₀ s → {i : ℕ} {l : Literal} → CanSet (s .clauses) i l → Undecided (s .decisions) (l .variable)
         → Within r s₀ (setDecisions (snoc (s .decisions) (forced r i l)) s)
@@ -174,15 +87,6 @@ module _ (c : Catalogue) where
     unfolding emit
     emit-within {s} w e n = effects-within (s .clauses) _ refl (Within.stores w e n)
 
-  emit-leaves : (r : Run) (e : Event) (s : State) → Leaves (stored r e s) (emit c r e s)
-  unfolding emit
-  emit-leaves r e s = effects-leave r _ _ _
-
-  emits-opening : (r : Run) (es : List Event) (s : State) → (emitAll c r es s) .opening ≡ s .opening
-  unfolding emitAll fold
-  emits-opening r [] s = refl
-  emits-opening r (e ∷ es) s = emits-opening r es (emit c r e s) ∙ emit-leaves r e s .opening
-
   -- ---- the line
 
   module _ {r : Run} {s₀ : State} where
@@ -198,7 +102,7 @@ module _ (c : Catalogue) where
 
   serveTask-tracked : (r : Run) (t : Task) (s : State) → (serveTask c r t s) .opening .tracked ≡ s .opening .tracked
   unfolding serveTask
-  serveTask-tracked r t s = ap (λ (o : Opening). o .tracked) (emit-leaves r (served t) _ .opening) ∙ serve-waits c (decidedTrue s) t (s .opening) .tracked
+  serveTask-tracked r t s = ap (λ (o : Opening). o .tracked) (emit-leaves c r (served t) _ .opening) ∙ serve-waits c (decidedTrue s) t (s .opening) .tracked
 
   serveLine-tracked : (r : Run) (fuel : ℕ) (ts : List Task) (s : State) → (serveLine c r fuel ts s) .opening .tracked ≡ s .opening .tracked
   unfolding serveLine
@@ -231,7 +135,7 @@ module _ (c : Catalogue) where
   joins-within {r} ts (p ∷ ps) {s} w k =
       let e = joins p (trackedOf c (nameOf c p) ts) in
       let g = withVariables-prefix (origins c e) (s .variables) in
-      let v : Known ((emit c r e s) .variables) (ts ++ (p ∷ [])) = rw (emit-leaves r e s .variables) (each-snoc (known-after g k) (joined-known p _ (s .variables))) in
+      let v : Known ((emit c r e s) .variables) (ts ++ (p ∷ [])) = rw (emit-leaves c r e s .variables) (each-snoc (known-after g k) (joined-known p _ (s .variables))) in
       rw append-snoc at (joins-within (ts ++ (p ∷ [])) ps (emit-within w e (earlier-known p _ (s .variables) k)) v)
 
   joinAll-within : {r : Run} {s₀ s : State} → Within r s₀ s → TrackedKnown s → Within r s₀ (joinAll c r s) × TrackedKnown (joinAll c r s)

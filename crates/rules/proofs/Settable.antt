@@ -18,7 +18,8 @@ use Rattle.rules.specs.Encoding.{Event, served, joins, links, Shape, dir
 use Rattle.rules.proofs.Each.{Each, each-append, each-imp, each-drop, each-listIf, each-map, each-map-of, each-in}
 use Rattle.rules.proofs.Grows.{Prefix, prefix-length, withVariables-prefix}
 use Rattle.rules.proofs.Places.{stands, keeps-variable, below-known, withVariables-known}
-use Rattle.rules.proofs.RunLaws.{settable, Known, earlier}
+use Rattle.rules.proofs.Effects.{settable}
+use Rattle.rules.proofs.RunLaws.{Known, earlier}
 
 -- the root's or a part's
 abbrev pub isChosen : Origin → Bool
