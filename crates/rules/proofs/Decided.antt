@@ -3,8 +3,8 @@
 -- whether judged at the run's start or when its task is served (READINGS.md, 5).
 use mathlib.Core.Path.{_≡_, refl, sym, _∙_, ap, fun-ext}
 use mathlib.Core.Logic.{_≢_}
-use mathlib.Core.Bool.{Bool, true, false, _&&_, true≢false, false≢true}
-use mathlib.Core.List.{List, [], _∷_, _++_, List·Memᴰ}
+use mathlib.Core.Bool.{Bool, true, false, true≢false}
+use mathlib.Core.List.{List, [], _∷_, _++_}
 use mathlib.Core.Option.{Option, none, some}
 use Prim.Native.Nat.{ℕ, zero, suc, _<_, _≤_}
 use native.Mathlib.Omega.{arith}
@@ -14,21 +14,22 @@ use Rattle.rules.specs.Lists.{snoc}
 use Rattle.rules.specs.Literal.{Literal}
 use Rattle.rules.specs.Clause.{Clause, install}
 use Rattle.rules.specs.Catalogue.{Owner, root, Catalogue}
-use Rattle.rules.specs.Decisions.{Decision, isTrue, upToLevel}
-use Rattle.rules.specs.Variables.{Origin, chosen, known, variableOf, partOrigin, partVariable}
-use Rattle.rules.specs.Opening.{Task, setLine, serve}
+use Rattle.rules.specs.Decisions.{Decision, upToLevel}
+use Rattle.rules.specs.Variables.{Origin, chosen, known, partOrigin, partVariable}
+use Rattle.rules.specs.Opening.{Task, serve}
 use Rattle.rules.specs.Encoding.{Event, served, origins}
 use Rattle.rules.specs.State.{State, setOpening, setDecisions, start, decidedTrue, Run, emit}
 use Rattle.rules.specs.Run.{lineTaken, serveTask, serveLine, begun, runOnce}
 use Rattle.rules.specs.Records.{Command}
 use Rattle.rules.specs.Limits.{Limits}
 use Rattle.rules.specs.Sheet.{wanted, decide, commandRefusals, carriedOut}
+use Rattle.rules.proofs.Bools.{by-cases, and-false}
 use Rattle.rules.proofs.Each.{Each, each-append, each-snoc, each-imp, each-filter, each-at, each-out, Pairwise, pairwise-snoc, pairwise-filter, when-cases}
 use Rattle.rules.proofs.Evaluation.{Undecided, undecided-out, not-true, true-after}
 use Rattle.rules.proofs.Effects.{settable, forced, variablesAfter, stored}
 use Rattle.rules.proofs.Grows.{Prefix, prefix-length, withVariables-prefix}
 use Rattle.rules.proofs.Places.{stands, keeps-variable, unknown-beyond}
-use Rattle.rules.proofs.Reached.{Passed, first-passed, rest-passed, Reached, command}
+use Rattle.rules.proofs.Reached.{first-passed, Reached, command}
 use Rattle.rules.proofs.RunLaws.{CanSet, Known, earlier, Within, within-prefix, emit-within, serveTask-within, serveLine-within, OneRun, every-run}
 use Rattle.rules.proofs.Settable.{isChosen, Settable, SetsOnly, sets-only-after, event-sets}
 
@@ -101,7 +102,8 @@ within-run {c} {r} {s₀} h w = record { before = omega (arith, h .before, prefi
     go Within.begins = h .decided-in
     go (Within.opens w o) = go w
     go (Within.stores {s} w e n) =
-        stores (withVariables-prefix (origins c e) (s .variables)) (event-sets c (r .before) e (s .variables) (omega (arith, h .before, prefix-length (within-prefix c w))) n) (go w)
+        let before : r .before ≤ length (s .variables) = omega (arith, h .before, prefix-length (within-prefix c w)) in
+        stores (withVariables-prefix (origins c e) (s .variables)) (event-sets c (r .before) e (s .variables) before n) (go w)
     go (Within.reports w i l) = go w
     go (Within.sets w t u) = let v = go w in decides _ (may-set v t .below) u (λ i e. rw (some-same e) at t) v
 
@@ -131,23 +133,20 @@ decided (command r (Command.undo level) p) = undoes level (decided r)
 -- "Only the sheet can make a part true", or the root
 pub only-sheet : {vs : List Origin} {ks : List Clause} {ds : List Decision} → Decided vs ks ds
     → Each (λ (d : Decision). d .value ≡ true → (o : Owner) → getD vs (d .variable) (chosen root) ≡ chosen o → d .clause ≡ none) ds
-only-sheet {vs} {ks} v = each-imp (λ d f t o e. go d t o e (d .clause) refl f) (v .forced)
+only-sheet v = each-imp (λ d f t o e. not-some (d .clause) (λ i q. true≢false (ap isChosen (sym e) ∙ may-set v (f i q) .no-owner t))) (v .forced)
   where
-    go : (d : Decision) → d .value ≡ true → (o : Owner) → getD vs (d .variable) (chosen root) ≡ chosen o → (i : Option ℕ) → d .clause ≡ i
-        → ((i : ℕ) → d .clause ≡ some i → CanSet ks i (literalOf d)) → i ≡ none
-    go d t o e none q f = refl
-    go d t o e (some i) q f = absurd (true≢false (ap isChosen (sym e) ∙ may-set v (f i q) .no-owner t))
+    not-some : (i : Option ℕ) → ((j : ℕ) → i ≡ some j → ⊥) → i ≡ none
+    not-some none h = refl
+    not-some (some j) h = absurd (h j refl)
 
 -- ---- no step of a run changes which parts are decided true
-
-and-false : (b : Bool) → (b && false) ≡ false
-and-false true = refl
-and-false false = refl
 
 -- new variables are undecided
 stores-same : (c : Catalogue) (r : Run) (e : Event) (s : State) → DecidedIn s → (p : ℕ) → decidedTrue (stored c r e s) p ≡ decidedTrue s p
 unfolding decidedTrue
-stores-same c r e s v p = go (known (s .variables) (partOrigin p)) refl
+stores-same c r e s v p =
+    by-cases (known (s .variables) (partOrigin p)) (λ q. let k = keeps-variable g (partOrigin p) q in rw (k .0, k .1, q))
+    (λ q. rw (q, not-true (beyond q)) (and-false (known (variablesAfter c e s) (partOrigin p))))
   where
     g : Prefix (s .variables) (variablesAfter c e s)
     g = withVariables-prefix (origins c e) (s .variables)
@@ -155,22 +154,17 @@ stores-same c r e s v p = go (known (s .variables) (partOrigin p)) refl
     beyond : known (s .variables) (partOrigin p) ≡ false → Undecided (s .decisions) (partVariable (variablesAfter c e s) p)
     beyond q = let h = unknown-beyond g (partOrigin p) q in each-imp (λ d l. omega arith) (v .below)
 
-    go : (b : Bool) → known (s .variables) (partOrigin p) ≡ b → unfold decidedTrue in decidedTrue (stored c r e s) p ≡ decidedTrue s p
-    go true q = let k = keeps-variable g (partOrigin p) q in rw (k .0, k .1, q)
-    go false q = rw (q, not-true (beyond q)) (and-false (known (variablesAfter c e s) (partOrigin p)))
-
 -- a literal that is set is no part made true
 sets-same : (r : Run) {i : ℕ} {l : Literal} (s : State) → DecidedIn s → CanSet (s .clauses) i l → (p : ℕ)
     → decidedTrue (setDecisions (snoc (s .decisions) (forced r i l)) s) p ≡ decidedTrue s p
 unfolding decidedTrue
-sets-same r {i} {l} s v t p = go (known (s .variables) (partOrigin p)) refl
+sets-same r {i} {l} s v t p =
+    by-cases (known (s .variables) (partOrigin p)) (λ q. rw (true-after (s .decisions) (forced r i l) (partVariable (s .variables) p) (other q))) (λ q. rw q)
   where
     other : known (s .variables) (partOrigin p) ≡ true → l .positive ≡ true → l .variable ≢ partVariable (s .variables) p
-    other q e h = true≢false (ap isChosen (sym (stands (s .variables) (partOrigin p) (chosen root) q .1)) ∙ (ap (λ x. isChosen (getD (s .variables) x (chosen root))) (sym h) ∙ may-set v t .no-owner e))
-
-    go : (b : Bool) → known (s .variables) (partOrigin p) ≡ b → unfold decidedTrue in decidedTrue (setDecisions (snoc (s .decisions) (forced r i l)) s) p ≡ decidedTrue s p
-    go true q = rw (true-after (s .decisions) (forced r i l) (partVariable (s .variables) p) (other q))
-    go false q = rw q
+    other q e h =
+        let at : getD (s .variables) (l .variable) (chosen root) ≡ partOrigin p = rw h (stands (s .variables) (partOrigin p) (chosen root) q .1) in
+        true≢false (ap isChosen (sym at) ∙ may-set v t .no-owner e)
 
 module _ (c : Catalogue) {r : Run} {s₀ : State} (h : InRun r s₀) where
   pub no-part-made-true : {s : State} → Within c r s₀ s → (p : ℕ) → decidedTrue s p ≡ decidedTrue s₀ p
@@ -226,3 +220,9 @@ begun-same c s p = refl
 
 pub runOnce-same : {l : Limits} {c : Catalogue} {s : State} → Reached l c s → (level p : ℕ) → decidedTrue (runOnce c level s) p ≡ decidedTrue s p
 runOnce-same {l} {c} {s} r level p = let w = every-run r level in no-part-made-true c (begin-run w (decided r)) (w .within) p ∙ begun-same c s p
+
+-- its line, judged by the decisions before it
+pub run-judged-at-start : {l : Limits} {c : Catalogue} {s : State} → Reached l c s → (r : Run) → r .before ≤ length (s .variables) → (fuel : ℕ) (ts : List Task)
+    → serveLine c r fuel ts (lineTaken (begun c s)) ≡ serveLineBy c r (decidedTrue s) fuel ts (lineTaken (begun c s))
+unfolding begun decidedTrue
+run-judged-at-start {c = c} h r b fuel ts = judged-at-start c (record { before = b; decided-in = decided h }) fuel ts

@@ -12,7 +12,8 @@ use Rattle.rules.specs.Catalogue.{Catalogue}
 use Rattle.rules.specs.Decisions.{Decision, Evaluation, undecided, satisfied, falsified}
 use Rattle.rules.specs.Variables.{Origin, withVariables}
 use Rattle.rules.specs.Encoding.{Event, origins, clauses}
-use Rattle.rules.specs.State.{State, setVariables, setClauses, setDecisions, setConflicts, Run, report, force, propagateBy, propagate, effect, effects, emit, emitAll}
+use Rattle.rules.specs.State.{State, setVariables, setClauses, setDecisions, setConflicts, Run}
+use Rattle.rules.specs.State.{report, force, propagateBy, propagate, effect, effects, emit, emitAll}
 use Rattle.rules.proofs.Each.{when-cases}
 use Rattle.rules.proofs.Evaluation.{Undecided, undecided-out}
 

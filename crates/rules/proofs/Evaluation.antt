@@ -2,7 +2,7 @@
 -- true only if it is about that variable and has the value true.
 use mathlib.Core.Path.{_≡_, refl, sym, _∙_, ap}
 use mathlib.Core.Logic.{_≢_}
-use mathlib.Core.Bool.{Bool, true, false, true≢false, false≢true}
+use mathlib.Core.Bool.{Bool, true, false, false≢true}
 use mathlib.Core.List.{List, [], _∷_, _++_}
 use Prim.Native.Nat.{ℕ}
 use native.Mathlib.Decide.{ℕ-discrete}
@@ -18,7 +18,8 @@ abbrev pub Undecided : List Decision → ℕ → Type 0
 Undecided ds x = Each (λ (d : Decision). d .variable ≢ x) ds
 
 -- the first decision about the variable counts
-evaluate-first : (d : Decision) (ds : List Decision) (l : Literal) → l .variable ≡ d .variable → evaluate (d ∷ ds) l ≡ decidedAs (same (l .positive) (d .value)) (d .level)
+evaluate-first : (d : Decision) (ds : List Decision) (l : Literal) → l .variable ≡ d .variable
+    → evaluate (d ∷ ds) l ≡ decidedAs (same (l .positive) (d .value)) (d .level)
 unfolding evaluate
 evaluate-first d ds l e = rw (eq-eqb, evaluate)
 

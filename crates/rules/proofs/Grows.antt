@@ -1,24 +1,22 @@
 -- In a run variables, clauses and waiting entries are only added at the end of their lists. So what is above a limit stays above it
 -- (READINGS.md, 22): a run that stops at the first excess gives the same answer.
 use mathlib.Core.Path.{_≡_, refl, sym, _∙_, ap}
-use mathlib.Core.Bool.{Bool, true, false, not, _&&_, _||_, true≢false, false≢true}
+use mathlib.Core.Bool.{Bool, true, false, _||_}
 use mathlib.Core.List.{List, [], _∷_, _++_, map, append-nil, append-assoc}
-use Prim.Native.Nat.{ℕ, zero, suc, _+_, _<_, _≤_}
+use Prim.Native.Nat.{ℕ, zero, suc, _+_, _≤_}
 use native.Mathlib.Omega.{arith}
 use lib.Dec.{ltb}
 use lib.ListN.{length, length-append}
 use borrow.Author.Tests.{ltb-true, lt-ltb}
-use Rattle.rules.specs.Lists.{any, elem, snoc, fold, when, unless, sum}
-use Rattle.rules.specs.Literal.{Literal, pos, neg}
-use Rattle.rules.specs.Clause.{Clause, install, requires, gated, excluded, constrains, forbid, auxOut, auxOwner, lock, anyGate, anyOne, conditionLiterals}
-use Rattle.rules.specs.Catalogue.{Owner, part, Catalogue, partAt, nameOf, rangeName, severalAllowed, goalAt, sameOwner, unknownOwner}
+use Rattle.rules.specs.Lists.{snoc, fold, when, unless, sum}
+use Rattle.rules.specs.Clause.{Clause, conditionLiterals}
+use Rattle.rules.specs.Catalogue.{Owner, part, Catalogue, rangeName, goalAt}
 use Rattle.rules.specs.Candidates.{candidates}
-use Rattle.rules.specs.Decisions.{Evaluation, undecided, satisfied, falsified, evaluate, isUndecided}
 use Rattle.rules.specs.Variables.{Origin, known, withVariable, withVariables}
 use Rattle.rules.specs.Opening.{Task, owner, name, condition, requirement, constraint, Opening, setOwners, setNames, setSeveral, setNamed, setAdded, setDrawn, setLine, queue, openOwner, openName, openNames, rangesOf, rangesFirst, tasksOf, serveOwner, serveName, fire, serveCondition, firedParts, nameForTracking, openReady, markHandled, serveRequirement, serve, beginRun, joining, endRun, mostTasks}
 use Rattle.rules.specs.Encoding.{Event, served, origins, clauses}
-use Rattle.rules.specs.State.{State, setOpening, setVariables, setClauses, decidedTrue, Run, report, force, propagateBy, propagate, effect, effects, emit, emitAll}
-use Rattle.rules.specs.Run.{lineTaken, joinsFrom, linksFor, serveTask, serveLine, joinAll, linkAll, begun, runOnce}
+use Rattle.rules.specs.State.{State, setOpening, decidedTrue, Run, emit, emitAll}
+use Rattle.rules.specs.Run.{lineTaken, serveTask, serveLine, joinAll, linkAll, begun, runOnce}
 use Rattle.rules.specs.Limits.{Limits, above}
 use Rattle.rules.proofs.Effects.{emit-leaves}
 

@@ -1,8 +1,8 @@
 -- Levels never fall along the decisions of a reached state, so an undo removes a last part of the list: every decision above its level, and no other.
-use mathlib.Core.Path.{_≡_, refl, sym, _∙_, ap}
-use mathlib.Core.Bool.{Bool, true, false, _||_, true≢false, false≢true}
+use mathlib.Core.Path.{_≡_, refl, ap}
+use mathlib.Core.Bool.{false, true≢false}
 use mathlib.Core.List.{List, [], _∷_, _++_}
-use Prim.Native.Nat.{ℕ, zero, suc, _<_, _≤_}
+use Prim.Native.Nat.{ℕ, _<_, _≤_}
 use native.Mathlib.Nat.{le-refl, le-trans}
 use native.Mathlib.Decide.{decLe, ℕ-discrete}
 use native.Mathlib.Omega.{arith}
@@ -11,14 +11,13 @@ use Rattle.rules.specs.Lists.{filter, snoc}
 use Rattle.rules.specs.Catalogue.{Catalogue}
 use Rattle.rules.specs.Decisions.{Decision, lastLevel, upToLevel}
 use Rattle.rules.specs.Opening.{add, draw}
-use Rattle.rules.specs.State.{State, setDecisions, Run}
+use Rattle.rules.specs.State.{State, Run}
 use Rattle.rules.specs.Run.{begun}
 use Rattle.rules.specs.Records.{Command}
-use Rattle.rules.specs.Refusals.{Refusal, _if_}
 use Rattle.rules.specs.Limits.{Limits}
 use Rattle.rules.specs.Sheet.{tooLow, decide, commandRefusals, carriedOut}
-use Rattle.rules.proofs.Each.{Each, each-append, each-imp, each-filter, each-snoc, each-passes, Pairwise, pairwise-snoc, pairwise-filter, when-cases}
-use Rattle.rules.proofs.Reached.{Passed, first-passed, rest-passed, Reached, command}
+use Rattle.rules.proofs.Each.{Each, each-imp, each-filter, each-snoc, each-passes, Pairwise, pairwise-snoc, pairwise-filter, when-cases}
+use Rattle.rules.proofs.Reached.{first-passed, rest-passed, Reached, command}
 use Rattle.rules.proofs.RunLaws.{Within, OneRun, every-run}
 
 -- no decision has a lower level than one before it
@@ -72,7 +71,9 @@ undone k Pairwise.nil = record { removed = []; is = unfold upToLevel filter in r
 undone k (Pairwise.cons {x = d} {xs = ds} q qs) = go (decLe (d .level) k) (undone k qs)
   where
     go : Dec (d .level ≤ k) → Undone k ds → Undone k (d ∷ ds)
-    go (yes h) u = record { removed = u .removed; is = rw (keeps-low k d ds h) (ap (λ l. d ∷ l) (u .is)); kept-low = kept k (d ∷ ds); removed-high = u .removed-high }
+    go (yes h) u =
+        let is : d ∷ ds ≡ d ∷ (upToLevel k ds ++ u .removed) = ap (λ l. d ∷ l) (u .is) in
+        record { removed = u .removed; is = rw (keeps-low k d ds h) is; kept-low = kept k (d ∷ ds); removed-high = u .removed-high }
     go (no n) u =
         let high : Each (λ (e : Decision). k < e .level) (d ∷ ds) = Each.cons {x = d} (omega arith) (each-imp (λ e h. omega arith) q) in
         record { removed = d ∷ ds; is = rw (keeps-none k high); kept-low = kept k (d ∷ ds); removed-high = high }

@@ -2,7 +2,7 @@
 -- first, and no origin stands twice.
 use mathlib.Core.Path.{_≡_, refl, sym, _∙_, ap}
 use mathlib.Core.Logic.{_≢_}
-use mathlib.Core.Bool.{Bool, true, false, _&&_, _||_, cond, true≢false, false≢true}
+use mathlib.Core.Bool.{Bool, true, false, _||_, cond, false≢true}
 use mathlib.Core.List.{List, [], _∷_, _++_, List·Memᴰ, List·Memᴰ·head, List·Memᴰ·tail}
 use Prim.Native.Nat.{ℕ, zero, suc, _<_, _≤_, zero-le, suc-le-suc}
 use native.Mathlib.Nat.{le-of-suc-le-suc, not-suc-le-zero}
@@ -12,9 +12,9 @@ use lib.Dec.{eqb}
 use lib.ListN.{length, getD}
 use borrow.Author.Tests.{eqb-true, eq-eqb}
 use Rattle.rules.specs.Lists.{any, indexOf, snoc, fold, unless}
-use Rattle.rules.specs.Catalogue.{Owner, root, part, Goal, range, union}
+use Rattle.rules.specs.Catalogue.{root, part, range, union}
 use Rattle.rules.specs.Variables.{Origin, chosen, forbid, one, violation, gate, key, sameKey, sameOrigin, known, variableOf, withVariable, withVariables}
-use Rattle.rules.proofs.Bools.{and-left, and-right, and-both, or-right}
+use Rattle.rules.proofs.Bools.{by-cases, and-left, and-right, and-both, or-right}
 use Rattle.rules.proofs.Each.{Each, each-imp, each-fails, Pairwise, pairwise-snoc, pairwise-at, unless-cases}
 use Rattle.rules.proofs.Grows.{Prefix, whole, withVariables-prefix}
 
@@ -107,11 +107,7 @@ unfolding known variableOf
 unknown-beyond {vs} p o e = rw (p .is) (past (sameOrigin o) (p .more) (each-fails (sameOrigin o) vs e))
 
 pub below-known : (vs : List Origin) (o : Origin) → variableOf vs o < length vs → known vs o ≡ true
-below-known vs o l = go (known vs o) refl
-  where
-    go : (b : Bool) → known vs o ≡ b → b ≡ true
-    go true e = refl
-    go false e = let h = unknown-beyond whole o e in let no : ⊥ = omega arith in absurd no
+below-known vs o l = by-cases (known vs o) (λ e. e) (λ e. let h = unknown-beyond whole o e in let no : ⊥ = omega arith in absurd no)
 
 -- ---- what is named is known
 

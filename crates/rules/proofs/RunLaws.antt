@@ -1,23 +1,22 @@
 -- A run is made of four kinds of step (`Within`): another opening, an event's variables and clauses stored, a conflict reported, an undecided
 -- literal of a stored clause set. What those keep, a run keeps: `emit`, `serveTask`, `serveLine` and `runOnce` make no other step.
 use mathlib.Core.Path.{_≡_, refl, sym, _∙_, ap}
-use mathlib.Core.Bool.{Bool, true, false}
-use mathlib.Core.List.{List, [], _∷_, _++_, map, append-nil, append-assoc, List·Memᴰ, List·Memᴰ·head, List·Memᴰ·tail}
-use mathlib.Core.Option.{some}
+use mathlib.Core.Bool.{true}
+use mathlib.Core.List.{List, [], _∷_, _++_, append-nil, List·Memᴰ, List·Memᴰ·head}
 use Prim.Native.Nat.{ℕ, zero, suc, _<_}
 use native.Mathlib.Omega.{arith}
 use lib.ListN.{length, getD, drop, length-append}
 use lib.Seq.{append-snoc, getD-at}
-use Rattle.rules.specs.Lists.{snoc, fold, when, concatMap}
-use Rattle.rules.specs.Literal.{Literal, pos, neg}
-use Rattle.rules.specs.Clause.{Clause, install, requires, gated, excluded, constrains, forbid, auxOut, auxOwner, lock, anyGate, anyOne}
+use Rattle.rules.specs.Lists.{snoc, fold, concatMap}
+use Rattle.rules.specs.Literal.{Literal}
+use Rattle.rules.specs.Clause.{Clause, install}
 use Rattle.rules.specs.Catalogue.{Catalogue, nameOf}
-use Rattle.rules.specs.Decisions.{Decision, Evaluation, undecided, satisfied, falsified}
+use Rattle.rules.specs.Decisions.{undecided}
 use Rattle.rules.specs.Variables.{Origin, known, withVariables, partOrigin}
-use Rattle.rules.specs.Opening.{Task, Opening, add, serve, draw, beginRun, joining, endRun, trackedOf}
+use Rattle.rules.specs.Opening.{Task, Opening, add, draw, joining, endRun, trackedOf}
 use Rattle.rules.specs.Encoding.{Event, served, joins, links, origins, clauses}
-use Rattle.rules.specs.State.{State, setOpening, setVariables, setClauses, setDecisions, setConflicts, decidedTrue, Run, report, force, propagateBy, propagate, effect, effects, emit, emitAll}
-use Rattle.rules.specs.Run.{lineTaken, nameIfOne, joinsFrom, linksFor, serveTask, serveLine, joinAll, linkAll, begun, runOnce}
+use Rattle.rules.specs.State.{State, setOpening, setDecisions, setConflicts, decidedTrue, Run, effects, emit, emitAll}
+use Rattle.rules.specs.Run.{nameIfOne, joinsFrom, linksFor, serveTask, serveLine, joinAll, linkAll, begun, runOnce}
 use Rattle.rules.specs.Records.{Command}
 use Rattle.rules.specs.Limits.{Limits}
 use Rattle.rules.specs.Sheet.{decide, carriedOut}
@@ -65,7 +64,8 @@ module _ (c : Catalogue) where
   within-prefix (Within.sets w t u) = within-prefix w
 
   module _ {r : Run} {s₀ : State} where
-    effect-within : {i : ℕ} {k : Clause} {s s′ : State} → Within r s₀ s → i < length (s .clauses) → getD (s .clauses) i install ≡ k → Effect r i k s s′ → Within r s₀ s′
+    effect-within : {i : ℕ} {k : Clause} {s s′ : State} → Within r s₀ s → i < length (s .clauses) → getD (s .clauses) i install ≡ k
+        → Effect r i k s s′ → Within r s₀ s′
     effect-within w b e Effect.nothing = w
     effect-within {i} w b e Effect.reports = Within.reports w i b
     effect-within w b e (Effect.sets {l} m u) = Within.sets w {l = l} (record { below = b; among = rw e m }) u
@@ -135,10 +135,11 @@ module _ (c : Catalogue) where
   joins-within {r} ts (p ∷ ps) {s} w k =
       let e = joins p (trackedOf c (nameOf c p) ts) in
       let g = withVariables-prefix (origins c e) (s .variables) in
-      let v : Known ((emit c r e s) .variables) (ts ++ (p ∷ [])) = rw (emit-leaves c r e s .variables) (each-snoc (known-after g k) (joined-known p _ (s .variables))) in
+      let k₁ = each-snoc (known-after g k) (joined-known p _ (s .variables)) in
+      let v : Known ((emit c r e s) .variables) (ts ++ (p ∷ [])) = rw (emit-leaves c r e s .variables) k₁ in
       rw append-snoc at (joins-within (ts ++ (p ∷ [])) ps (emit-within w e (earlier-known p _ (s .variables) k)) v)
 
-  joinAll-within : {r : Run} {s₀ s : State} → Within r s₀ s → TrackedKnown s → Within r s₀ (joinAll c r s) × TrackedKnown (joinAll c r s)
+  pub joinAll-within : {r : Run} {s₀ s : State} → Within r s₀ s → TrackedKnown s → Within r s₀ (joinAll c r s) × TrackedKnown (joinAll c r s)
   unfolding joinAll endRun
   joinAll-within {r} {s₀} {s} w k =
       let p = joins-within (s .opening .tracked) (joining c (s .opening)) (Within.opens w (endRun c (s .opening))) (k .known-parts) in
@@ -148,7 +149,7 @@ module _ (c : Catalogue) where
   unfolding linksFor earlier
   links-none-earlier new ts = each-map-of _ (concatMap nameIfOne new) (λ n. refl)
 
-  linkAll-within : {r : Run} {s₀ s : State} → Within r s₀ s → TrackedKnown s → Within r s₀ (linkAll c r s) × TrackedKnown (linkAll c r s)
+  pub linkAll-within : {r : Run} {s₀ s : State} → Within r s₀ s → TrackedKnown s → Within r s₀ (linkAll c r s) × TrackedKnown (linkAll c r s)
   unfolding linkAll
   linkAll-within {r} {s₀} {s} w k =
       let n = links-none-earlier (drop (r .before) (s .variables)) (s .opening .tracked) in

@@ -1,20 +1,21 @@
 -- The literals that an event's clauses can set: each has a variable, and none sets the root or a part to true.
-use mathlib.Core.Path.{_≡_, refl, sym, _∙_, ap}
-use mathlib.Core.Bool.{Bool, true, false, true≢false, false≢true}
-use mathlib.Core.List.{List, [], _∷_, _++_, map, List·Memᴰ, List·Memᴰ·head, List·Memᴰ·tail, Memᴰ·append-right, Memᴰ·map}
+use mathlib.Core.Path.{_≡_, refl}
+use mathlib.Core.Bool.{Bool, true, false, false≢true}
+use mathlib.Core.List.{List, map, List·Memᴰ, List·Memᴰ·head, List·Memᴰ·tail, Memᴰ·append-right, Memᴰ·map}
 use Prim.Native.Nat.{ℕ, suc, _<_, _≤_}
 use native.Mathlib.Omega.{arith}
-use lib.ListN.{length, getD, drop, length-append, List·getD-append}
+use lib.ListN.{length, getD, length-append, List·getD-append}
 use borrow.Author.Tests.{ltb-true}
-use Rattle.rules.specs.Lists.{listIf, upTo}
-use Rattle.rules.specs.Literal.{Literal, pos, neg}
+use Rattle.rules.specs.Lists.{upTo}
+use Rattle.rules.specs.Literal.{Literal, neg}
 use Rattle.rules.specs.Clause.{Clause}
 use Rattle.rules.specs.AtMostOne.{helpersFor, helperClauses, helpersClauses, partClauses, joinClauses}
-use Rattle.rules.specs.Catalogue.{Owner, root, part, Catalogue, constraintAt, nameOf, ownerAt, goalAt}
+use Rattle.rules.specs.Catalogue.{Owner, root, part, Catalogue, nameOf, ownerAt, goalAt}
 use Rattle.rules.specs.Candidates.{nonMatching, candidates, lockedOut, excludedParts}
-use Rattle.rules.specs.Variables.{Origin, chosen, forbid, one, violation, gate, known, variableOf, withVariables, partOrigin, partVariable}
+use Rattle.rules.specs.Variables.{Origin, chosen, forbid, one, violation, gate, known, variableOf, withVariables, partOrigin}
 use Rattle.rules.specs.Opening.{Task, owner, name, condition, requirement, constraint}
-use Rattle.rules.specs.Encoding.{Event, served, joins, links, Shape, direct, throughGate, onFiring, few, helpersOf, shapeOf, shapeOrigins, constraintOrigins, taskOrigins, origins, requirementClauses, constraintClauses, taskClauses, clauses}
+use Rattle.rules.specs.Encoding.{Event, served, joins, links, Shape, direct, throughGate, onFiring, helpersOf, shapeOf}
+use Rattle.rules.specs.Encoding.{shapeOrigins, constraintOrigins, taskOrigins, origins, requirementClauses, constraintClauses, taskClauses, clauses}
 use Rattle.rules.proofs.Each.{Each, each-append, each-imp, each-drop, each-listIf, each-map, each-map-of, each-in}
 use Rattle.rules.proofs.Grows.{Prefix, prefix-length, withVariables-prefix}
 use Rattle.rules.proofs.Places.{stands, keeps-variable, below-known, withVariables-known}
@@ -85,7 +86,8 @@ module _ {vs : List Origin} where
 -- ---- each event: `new` are the variables after it, and what it names is known there
 
 module _ (c : Catalogue) (old new : List Origin) where
-  requirement-sets : (h : Shape) (q : ℕ) (is : List ℕ) → known new (chosen (ownerAt c q)) ≡ true → ((o : Origin) → List·Memᴰ o (shapeOrigins c h q is) → known new o ≡ true)
+  requirement-sets : (h : Shape) (q : ℕ) (is : List ℕ) → known new (chosen (ownerAt c q)) ≡ true
+      → ((o : Origin) → List·Memᴰ o (shapeOrigins c h q is) → known new o ≡ true)
       → Each (SetsOnly new) (requirementClauses c old new h (ownerAt c q) (goalAt c q) q is)
   unfolding requirementClauses shapeOrigins settable
   requirement-sets direct q is w k = Each.cons Each.nil Each.nil
@@ -110,10 +112,12 @@ module _ (c : Catalogue) (old new : List Origin) where
   task-sets (name n) k = each-append (each-map-of _ (lockedOut c n) (λ p. Each.nil)) (each-map-of _ (excludedParts c n) (λ p. Each.nil))
   task-sets (condition q) k = Each.nil
   task-sets (requirement q is) k =
-      requirement-sets (shapeOf c q) q is (k _ (List·Memᴰ·head refl)) (λ o m. k o (List·Memᴰ·tail (Memᴰ·append-right (map partOrigin (candidates c (goalAt c q))) m)))
+      let after = map partOrigin (candidates c (goalAt c q)) in
+      requirement-sets (shapeOf c q) q is (k _ (List·Memᴰ·head refl)) (λ o m. k o (List·Memᴰ·tail (Memᴰ·append-right after m)))
   task-sets (constraint i) k = constraint-sets _ _ _ (λ o m. k o (List·Memᴰ·tail m))
 
-helpers-may : (vs : List Origin) (n k : ℕ) → ((o : Origin) → List·Memᴰ o (helpersOf n k) → known vs o ≡ true) → Each (λ o. Helper vs (variableOf vs o)) (helpersOf n k)
+helpers-may : (vs : List Origin) (n k : ℕ) → ((o : Origin) → List·Memᴰ o (helpersOf n k) → known vs o ≡ true)
+    → Each (λ o. Helper vs (variableOf vs o)) (helpersOf n k)
 unfolding helpersOf
 helpers-may vs n k h = each-map (forbid n) (upTo 0 _) (each-in (upTo 0 _) (λ j m. helper (forbid n j) refl (h (forbid n j) (Memᴰ·map (forbid n) m))))
 

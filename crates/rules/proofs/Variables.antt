@@ -1,6 +1,6 @@
 -- In every reached state the root is variable 0, and no origin has two variables.
 use mathlib.Core.Path.{_≡_, refl}
-use mathlib.Core.List.{[], _∷_}
+use mathlib.Core.List.{[]}
 use Prim.Native.Nat.{ℕ, _<_}
 use lib.ListN.{length, getD}
 use Rattle.rules.specs.Catalogue.{root, Catalogue}
@@ -14,7 +14,7 @@ use Rattle.rules.specs.Sheet.{decide, carriedOut}
 use Rattle.rules.proofs.Each.{Each, Pairwise, when-cases}
 use Rattle.rules.proofs.Places.{Distinct, withVariables-distinct, root-at, root-only, distinct-at, variable-at}
 use Rattle.rules.proofs.Reached.{Reached, command}
-use Rattle.rules.proofs.RunLaws.{Within, OneRun, every-run}
+use Rattle.rules.proofs.RunLaws.{Within, every-run}
 
 pub within-distinct : {c : Catalogue} {r : Run} {s₀ s : State} → Distinct (s₀ .variables) → Within c r s₀ s → Distinct (s .variables)
 within-distinct d Within.begins = d
