@@ -6,13 +6,13 @@ use mathlib.Core.Logic.{_≢_}
 use mathlib.Core.Bool.{Bool, true, false, true≢false}
 use mathlib.Core.List.{List, [], _∷_, _++_}
 use mathlib.Core.Option.{Option, none, some}
-use Prim.Native.Nat.{ℕ, zero, suc, _<_, _≤_}
+use Prim.Native.Nat.{ℕ, zero, suc, _<_, _≤_, zero-le, suc-le-suc}
 use native.Mathlib.Omega.{arith}
 use lib.ListN.{length, getD, length-append, List·getD-append}
 use borrow.Author.Tests.{leb-false}
 use Rattle.rules.specs.Lists.{snoc}
 use Rattle.rules.specs.Literal.{Literal}
-use Rattle.rules.specs.Clause.{Clause, install}
+use Rattle.rules.specs.Clause.{Clause, install, literals}
 use Rattle.rules.specs.Catalogue.{Owner, root, Catalogue}
 use Rattle.rules.specs.Decisions.{Decision, upToLevel}
 use Rattle.rules.specs.Variables.{Origin, chosen, known, partOrigin, partVariable}
@@ -31,14 +31,14 @@ use Rattle.rules.proofs.Grows.{Prefix, prefix-length, withVariables-pre
 use Rattle.rules.proofs.Places.{stands, keeps-variable, unknown-beyond}
 use Rattle.rules.proofs.Reached.{first-passed, Reached, command}
 use Rattle.rules.proofs.RunLaws.{CanSet, Known, earlier, Within, within-prefix, emit-within, serveTask-within, serveLine-within, OneRun, every-run}
-use Rattle.rules.proofs.Settable.{isChosen, Settable, SetsOnly, sets-only-after, event-sets}
+use Rattle.rules.proofs.Clauses.{isChosen, Settable, Exists, WellMade, well-made-after, event-made}
 
 -- what a decision makes true
 abbrev pub literalOf : Decision → Literal
 literalOf d = record { variable = d .variable; positive = d .value }
 
 pub record Decided (vs : List Origin) (ks : List Clause) (ds : List Decision) : Type 0 where
-  pub sets-only : Each (SetsOnly vs) ks
+  pub well-made : Each (WellMade vs) ks
   pub below : Each (λ (d : Decision). d .variable < length vs) ds
   pub once : Pairwise (λ (d e : Decision). d .variable ≢ e .variable) ds
   pub forced : Each (λ (d : Decision). (i : ℕ) → d .clause ≡ some i → CanSet ks i (literalOf d)) ds
@@ -49,8 +49,14 @@ DecidedIn s = Decided (s .variables) (s .clauses) (s .decisions)
 -- ---- one step
 
 at-start : DecidedIn start
-unfolding settable
-at-start = record { sets-only = Each.cons Each.nil Each.nil; below = Each.nil; once = Pairwise.nil; forced = Each.nil }
+unfolding settable literals
+at-start =
+    record {
+      well-made = Each.cons (record { exist = Each.cons (suc-le-suc zero-le) Each.nil; sets = Each.nil }) Each.nil;
+      below = Each.nil;
+      once = Pairwise.nil;
+      forced = Each.nil;
+    }
 
 can-set-after : {ks : List Clause} {i : ℕ} {l : Literal} (new : List Clause) → CanSet ks i l → CanSet (ks ++ new) i l
 can-set-after {ks} {i} new f =
@@ -60,11 +66,11 @@ can-set-after {ks} {i} new f =
     }
 
 -- variables and clauses are added
-stores : {vs ws : List Origin} {ks new : List Clause} {ds : List Decision} → Prefix vs ws → Each (SetsOnly ws) new → Decided vs ks ds → Decided ws (ks ++ new) ds
+stores : {vs ws : List Origin} {ks new : List Clause} {ds : List Decision} → Prefix vs ws → Each (WellMade ws) new → Decided vs ks ds → Decided ws (ks ++ new) ds
 stores {ks = ks} {new = new} g h v =
     let longer = prefix-length g in
     record {
-      sets-only = each-append (each-imp (λ k. sets-only-after k g) (v .sets-only)) h;
+      well-made = each-append (each-imp (λ k. well-made-after g) (v .well-made)) h;
       below = each-imp (λ d l. omega arith) (v .below);
       once = v .once;
       forced = each-imp (λ d f i e. can-set-after new (f i e)) (v .forced);
@@ -74,16 +80,16 @@ stores {ks = ks} {new = new} g h v =
 decides : {vs : List Origin} {ks : List Clause} {ds : List Decision} (d : Decision) → d .variable < length vs → Undecided ds (d .variable)
     → ((i : ℕ) → d .clause ≡ some i → CanSet ks i (literalOf d)) → Decided vs ks ds → Decided vs ks (snoc ds d)
 decides d l u f v =
-    record { sets-only = v .sets-only; below = each-snoc (v .below) l; once = pairwise-snoc (v .once) u; forced = each-snoc (v .forced) f }
+    record { well-made = v .well-made; below = each-snoc (v .below) l; once = pairwise-snoc (v .once) u; forced = each-snoc (v .forced) f }
 
 undoes : {vs : List Origin} {ks : List Clause} {ds : List Decision} (level : ℕ) → Decided vs ks ds → Decided vs ks (upToLevel level ds)
 unfolding upToLevel
 undoes level v =
-    record { sets-only = v .sets-only; below = each-filter _ (v .below); once = pairwise-filter _ (v .once); forced = each-filter _ (v .forced) }
+    record { well-made = v .well-made; below = each-filter _ (v .below); once = pairwise-filter _ (v .once); forced = each-filter _ (v .forced) }
 
 -- what a stored clause can set has a variable, and is no part made true
 may-set : {vs : List Origin} {ks : List Clause} {ds : List Decision} {i : ℕ} {l : Literal} → Decided vs ks ds → CanSet ks i l → Settable vs l
-may-set {i = i} v t = each-out (each-at (v .sets-only) i install (t .below)) (t .among)
+may-set {i = i} v t = each-out (each-at (v .well-made) i install (t .below) .sets) (t .among)
 
 some-same : {i j : ℕ} → _≡_ {A = Option ℕ} (some i) (some j) → i ≡ j
 some-same e = cc
@@ -103,7 +109,7 @@ within-run {c} {r} {s₀} h w = record { before = omega (arith, h .before, prefi
     go (Within.opens w o) = go w
     go (Within.stores {s} w e n) =
         let before : r .before ≤ length (s .variables) = omega (arith, h .before, prefix-length (within-prefix c w)) in
-        stores (withVariables-prefix (origins c e) (s .variables)) (event-sets c (r .before) e (s .variables) before n) (go w)
+        stores (withVariables-prefix (origins c e) (s .variables)) (event-made c (r .before) e (s .variables) before n) (go w)
     go (Within.reports w i l) = go w
     go (Within.sets w t u) = let v = go w in decides _ (may-set v t .below) u (λ i e. rw (some-same e) at t) v
 
@@ -129,6 +135,10 @@ decided (command r (Command.draw k) p) = decided r
 decided (command r (Command.run level) p) = let w = every-run r level in within-run (begin-run w (decided r)) (w .within) .decided-in
 decided (command {s} r (Command.decide x value level) p) = decide-decided x value level s (leb-false _ _ (first-passed p)) (decided r)
 decided (command r (Command.undo level) p) = undoes level (decided r)
+
+-- "every literal of a stored clause is below the count" of variables
+pub literals-exist : {l : Limits} {c : Catalogue} {s : State} → Reached l c s → Each (λ k. Each (Exists (s .variables)) (literals k)) (s .clauses)
+literals-exist r = each-imp (λ k m. m .exist) (decided r .well-made)
 
 -- "Only the sheet can make a part true", or the root
 pub only-sheet : {vs : List Origin} {ks : List Clause} {ds : List Decision} → Decided vs ks ds
