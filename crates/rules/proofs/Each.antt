@@ -23,6 +23,14 @@ module _ {A : Type 0} {P : A → Type 0} where
   each-append Each.nil q = q
   each-append (Each.cons p ps) q = Each.cons p (each-append ps q)
 
+  pub each-left : (xs ys : List A) → Each P (xs ++ ys) → Each P xs
+  each-left [] ys p = Each.nil
+  each-left (x ∷ xs) ys (Each.cons p ps) = Each.cons p (each-left xs ys ps)
+
+  pub each-right : (xs : List A) {ys : List A} → Each P (xs ++ ys) → Each P ys
+  each-right [] p = p
+  each-right (x ∷ xs) (Each.cons p ps) = each-right xs ps
+
   pub each-snoc : {xs : List A} {x : A} → Each P xs → P x → Each P (snoc xs x)
   unfolding snoc
   each-snoc ps p = each-append ps (Each.cons p Each.nil)

@@ -143,13 +143,12 @@ unknown-differs vs o e = each-imp (λ a n q. false≢true (sym n ∙ ap (sameOri
 
 pub withVariable-distinct : (o : Origin) {vs : List Origin} → Distinct vs → Distinct (withVariable o vs)
 unfolding withVariable
-withVariable-distinct o {vs} d =
-    unless-cases Distinct _ _ vs d (λ e.
-        record {
-          rest = snoc (d .rest) o;
-          root-first = unfold snoc in ap (λ us. us ++ (o ∷ [])) (d .root-first);
-          once = pairwise-snoc (d .once) (unknown-differs vs o e);
-        })
+withVariable-distinct o {vs} d = unless-cases Distinct _ _ vs d more
+  where
+    more : known vs o ≡ false → Distinct (snoc vs o)
+    more e =
+        let first : snoc vs o ≡ chosen root ∷ snoc (d .rest) o = unfold snoc in ap (λ us. us ++ (o ∷ [])) (d .root-first) in
+        record { rest = snoc (d .rest) o; root-first = first; once = pairwise-snoc (d .once) (unknown-differs vs o e) }
 
 pub withVariables-distinct : (os : List Origin) {vs : List Origin} → Distinct vs → Distinct (withVariables os vs)
 unfolding withVariables fold
