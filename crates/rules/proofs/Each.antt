@@ -1,11 +1,12 @@
 -- A property of each element of a list (`Each`), and a relation of each element to every later one (`Pairwise`): what appending, mapping,
 -- filtering and looking up keep. And a step that is taken only if a test passes, by cases of the test.
 use mathlib.Core.Path.{_≡_, refl}
-use mathlib.Core.Bool.{Bool, true, false, _||_, cond, true≢false}
+use mathlib.Core.Bool.{Bool, true, false, true≢false}
 use mathlib.Core.List.{List, [], _∷_, _++_, map, List·Memᴰ, List·Memᴰ·head, List·Memᴰ·tail}
 use Prim.Native.Nat.{ℕ, zero, suc, _<_}
 use native.Mathlib.Nat.{le-of-suc-le-suc, not-suc-le-zero}
 use lib.ListN.{length, getD, drop}
+use Rattle.rules.proofs.Bools.{by-cases}
 use Rattle.rules.specs.Lists.{filter, any, snoc, listIf, when, unless}
 
 pub data Each {A : Type 0} (P : A → Type 0) : List A → Type 0 where
@@ -46,11 +47,7 @@ module _ {A : Type 0} {P : A → Type 0} where
   pub each-filter : (f : A → Bool) {xs : List A} → Each P xs → Each P (filter f xs)
   unfolding filter
   each-filter f Each.nil = Each.nil
-  each-filter f (Each.cons {x} {xs} p ps) = go (f x) (each-filter f ps)
-    where
-      go : (b : Bool) → Each P (filter f xs) → Each P (elim b [ true ↦ x ∷ filter f xs | false ↦ filter f xs ])
-      go true q = Each.cons p q
-      go false q = q
+  each-filter f (Each.cons {x} p ps) = by-cases (f x) (λ q. rw (q, filter) (Each.cons p (each-filter f ps))) (λ q. rw (q, filter) (each-filter f ps))
 
   pub each-drop : (n : ℕ) {xs : List A} → Each P xs → Each P (drop n xs)
   each-drop zero ps = ps
@@ -86,20 +83,12 @@ each-map-of f xs h = each-map f xs (each-of xs h)
 pub each-passes : {A : Type 0} (f : A → Bool) (xs : List A) → Each (λ x. f x ≡ true) (filter f xs)
 unfolding filter
 each-passes f [] = Each.nil
-each-passes {A} f (x ∷ xs) = go (f x) refl (each-passes f xs)
-  where
-    go : (b : Bool) → f x ≡ b → Each (λ y. f y ≡ true) (filter f xs) → Each {A = A} (λ y. f y ≡ true) (elim b [ true ↦ x ∷ filter f xs | false ↦ filter f xs ])
-    go true e q = Each.cons e q
-    go false e q = q
+each-passes f (x ∷ xs) = by-cases (f x) (λ q. rw (q, filter) (Each.cons q (each-passes f xs))) (λ q. rw (q, filter) (each-passes f xs))
 
 pub each-fails : {A : Type 0} (f : A → Bool) (xs : List A) → any f xs ≡ false → Each (λ x. f x ≡ false) xs
 unfolding any
 each-fails f [] e = Each.nil
-each-fails f (x ∷ xs) e = go (f x) refl e (each-fails f xs)
-  where
-    go : (b : Bool) → f x ≡ b → (b || any f xs) ≡ false → (any f xs ≡ false → Each (λ y. f y ≡ false) xs) → Each (λ y. f y ≡ false) (x ∷ xs)
-    go true q e h = absurd (true≢false e)
-    go false q e h = Each.cons q (h e)
+each-fails f (x ∷ xs) e = by-cases (f x) (λ q. absurd (true≢false (rw q at e))) (λ q. Each.cons q (each-fails f xs (rw q at e)))
 
 -- ---- each with each later one
 
@@ -112,11 +101,8 @@ module _ {A : Type 0} {R : A → A → Type 0} where
   pub pairwise-filter : (f : A → Bool) {xs : List A} → Pairwise R xs → Pairwise R (filter f xs)
   unfolding filter
   pairwise-filter f Pairwise.nil = Pairwise.nil
-  pairwise-filter f (Pairwise.cons {x} {xs} q qs) = go (f x) (pairwise-filter f qs)
-    where
-      go : (b : Bool) → Pairwise R (filter f xs) → Pairwise R (elim b [ true ↦ x ∷ filter f xs | false ↦ filter f xs ])
-      go true r = Pairwise.cons (each-filter f q) r
-      go false r = r
+  pairwise-filter f (Pairwise.cons {x} q qs) =
+      by-cases (f x) (λ e. rw (e, filter) (Pairwise.cons (each-filter f q) (pairwise-filter f qs))) (λ e. rw (e, filter) (pairwise-filter f qs))
 
   pub pairwise-at : {xs : List A} → Pairwise R xs → (i j : ℕ) (d : A) → i < j → j < length xs → R (getD xs i d) (getD xs j d)
   pairwise-at Pairwise.nil i j d h l = absurd (not-suc-le-zero l)
@@ -132,11 +118,7 @@ module _ {A : Type 0} (P : A → Type 0) where
   when-cases true f s p q = q refl
   when-cases false f s p q = p
 
-  pub unless-cases : (b : Bool) (f : A → A) (s : A) → P s → (b ≡ false → P (f s)) → P (unless b f s)
+  pub unless-cases : (b : Bool) (f : A → A) (s : A) → (b ≡ true → P s) → (b ≡ false → P (f s)) → P (unless b f s)
   unfolding unless
-  unless-cases true f s p q = p
+  unless-cases true f s p q = p refl
   unless-cases false f s p q = q refl
-
-  pub cond-cases : (b : Bool) (x y : A) → (b ≡ true → P x) → (b ≡ false → P y) → P (cond b x y)
-  cond-cases true x y p q = p refl
-  cond-cases false x y p q = q refl

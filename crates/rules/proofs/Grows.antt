@@ -12,12 +12,13 @@ use Rattle.rules.specs.Lists.{snoc, fold, when, unless, sum}
 use Rattle.rules.specs.Clause.{Clause, conditionLiterals}
 use Rattle.rules.specs.Catalogue.{Owner, part, Catalogue, rangeName, goalAt}
 use Rattle.rules.specs.Candidates.{candidates}
-use Rattle.rules.specs.Variables.{Origin, known, withVariable, withVariables}
+use Rattle.rules.specs.Variables.{Origin, withVariable, withVariables}
 use Rattle.rules.specs.Opening.{Task, owner, name, condition, requirement, constraint, Opening, setOwners, setNames, setSeveral, setNamed, setAdded, setDrawn, setLine, queue, openOwner, openName, openNames, rangesOf, rangesFirst, tasksOf, serveOwner, serveName, fire, serveCondition, firedParts, nameForTracking, openReady, markHandled, serveRequirement, serve, beginRun, joining, endRun, mostTasks}
 use Rattle.rules.specs.Encoding.{Event, served, origins, clauses}
 use Rattle.rules.specs.State.{State, setOpening, decidedTrue, Run, emit, emitAll}
 use Rattle.rules.specs.Run.{lineTaken, serveTask, serveLine, joinAll, linkAll, begun, runOnce}
 use Rattle.rules.specs.Limits.{Limits, above}
+use Rattle.rules.proofs.Each.{unless-cases}
 use Rattle.rules.proofs.Effects.{emit-leaves}
 
 -- ---- a list and what was added at its end
@@ -135,11 +136,7 @@ opening-grows o s w = record { variables = whole; clauses = whole; waiting = w }
 
 pub withVariable-prefix : (o : Origin) (vs : List Origin) → Prefix vs (withVariable o vs)
 unfolding withVariable snoc
-withVariable-prefix o vs = go (known vs o)
-  where
-    go : (b : Bool) → Prefix vs (unless b (λ us. us ++ (o ∷ [])) vs)
-    go true = unfold unless in whole
-    go false = unfold unless in ending vs (o ∷ [])
+withVariable-prefix o vs = unless-cases (Prefix vs) _ _ vs (λ e. whole) (λ e. ending vs (o ∷ []))
 
 pub withVariables-prefix : (os vs : List Origin) → Prefix vs (withVariables os vs)
 unfolding withVariables fold

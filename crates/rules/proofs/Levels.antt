@@ -10,7 +10,6 @@ use borrow.Author.Tests.{eq-eqb, ne-eqb, ltb-false, leb-true, le-leb, lt-leb}
 use Rattle.rules.specs.Lists.{filter, snoc}
 use Rattle.rules.specs.Catalogue.{Catalogue}
 use Rattle.rules.specs.Decisions.{Decision, lastLevel, upToLevel}
-use Rattle.rules.specs.Opening.{add, draw}
 use Rattle.rules.specs.State.{State, Run}
 use Rattle.rules.specs.Run.{begun}
 use Rattle.rules.specs.Records.{Command}

@@ -2,7 +2,7 @@
 -- first, and no origin stands twice.
 use mathlib.Core.Path.{_≡_, refl, sym, _∙_, ap}
 use mathlib.Core.Logic.{_≢_}
-use mathlib.Core.Bool.{Bool, true, false, _||_, cond, false≢true}
+use mathlib.Core.Bool.{Bool, true, false, cond, false≢true}
 use mathlib.Core.List.{List, [], _∷_, _++_, List·Memᴰ, List·Memᴰ·head, List·Memᴰ·tail}
 use Prim.Native.Nat.{ℕ, zero, suc, _<_, _≤_, zero-le, suc-le-suc}
 use native.Mathlib.Nat.{le-of-suc-le-suc, not-suc-le-zero}
@@ -11,7 +11,7 @@ use native.Mathlib.Omega.{arith}
 use lib.Dec.{eqb}
 use lib.ListN.{length, getD}
 use borrow.Author.Tests.{eqb-true, eq-eqb}
-use Rattle.rules.specs.Lists.{any, indexOf, snoc, fold, unless}
+use Rattle.rules.specs.Lists.{any, indexOf, snoc, fold}
 use Rattle.rules.specs.Catalogue.{root, part, range, union}
 use Rattle.rules.specs.Variables.{Origin, chosen, forbid, one, violation, gate, key, sameKey, sameOrigin, known, variableOf, withVariable, withVariables}
 use Rattle.rules.proofs.Bools.{by-cases, and-left, and-right, and-both, or-right}
@@ -63,13 +63,9 @@ origin-self a =
 pub stands : (vs : List Origin) (o d : Origin) → known vs o ≡ true → (variableOf vs o < length vs) × (getD vs (variableOf vs o) d ≡ o)
 unfolding known variableOf any indexOf
 stands [] o d e = absurd (false≢true e)
-stands (v ∷ vs) o d e = go (sameOrigin o v) refl e (stands vs o d)
-  where
-    go : (b : Bool) → sameOrigin o v ≡ b → (b || any (sameOrigin o) vs) ≡ true
-        → (any (sameOrigin o) vs ≡ true → (indexOf (sameOrigin o) vs < length vs) × (getD vs (indexOf (sameOrigin o) vs) d ≡ o))
-        → (elim b [ true ↦ 0 | false ↦ suc (indexOf (sameOrigin o) vs) ] < suc (length vs)) × (getD (v ∷ vs) (elim b [ true ↦ 0 | false ↦ suc (indexOf (sameOrigin o) vs) ]) d ≡ o)
-    go true q e h = (suc-le-suc zero-le, sym (origin-same o v q))
-    go false q e h = let p = h e in (suc-le-suc (p .0), p .1)
+stands (v ∷ vs) o d e =
+    by-cases (sameOrigin o v) (λ q. rw (q, indexOf) (suc-le-suc zero-le, sym (origin-same o v q)))
+    (λ q. let p = stands vs o d (rw q at e) in rw (q, indexOf) (suc-le-suc (p .0), p .1))
 
 -- what stands in the list is known
 pub at-known : (vs : List Origin) (i : ℕ) (d : Origin) → i < length vs → known vs (getD vs i d) ≡ true
@@ -83,14 +79,9 @@ at-known (v ∷ vs) (suc i) d l = or-right (sameOrigin (getD vs i d) v) _ (at-kn
 known-more : (vs ws : List Origin) (o : Origin) → known vs o ≡ true → (known (vs ++ ws) o ≡ true) × (variableOf (vs ++ ws) o ≡ variableOf vs o)
 unfolding known variableOf any indexOf
 known-more [] ws o e = absurd (false≢true e)
-known-more (v ∷ vs) ws o e = go (sameOrigin o v) e (known-more vs ws o)
-  where
-    go : (b : Bool) → (b || any (sameOrigin o) vs) ≡ true
-        → (any (sameOrigin o) vs ≡ true → (any (sameOrigin o) (vs ++ ws) ≡ true) × (indexOf (sameOrigin o) (vs ++ ws) ≡ indexOf (sameOrigin o) vs))
-        → ((b || any (sameOrigin o) (vs ++ ws)) ≡ true)
-        × (_≡_ {A = ℕ} (elim b [ true ↦ 0 | false ↦ suc (indexOf (sameOrigin o) (vs ++ ws)) ]) (elim b [ true ↦ 0 | false ↦ suc (indexOf (sameOrigin o) vs) ]))
-    go true e h = (refl, refl)
-    go false e h = let p = h e in (p .0, ap suc (p .1))
+known-more (v ∷ vs) ws o e =
+    by-cases (sameOrigin o v) (λ q. rw (q, indexOf) (refl, refl))
+    (λ q. let p = known-more vs ws o (rw q at e) in rw (q, indexOf) (p .0, ap suc (p .1)))
 
 pub keeps-variable : {vs ws : List Origin} → Prefix vs ws → (o : Origin) → known vs o ≡ true → (known ws o ≡ true) × (variableOf ws o ≡ variableOf vs o)
 keeps-variable {vs} {ws} p o e = let q = known-more vs (p .more) o e in rw (p .is) q
@@ -118,11 +109,7 @@ end-known o (u ∷ us) = or-right (sameOrigin o u) _ (end-known o us)
 
 withVariable-known : (o : Origin) (vs : List Origin) → known (withVariable o vs) o ≡ true
 unfolding withVariable snoc
-withVariable-known o vs = go (known vs o) refl
-  where
-    go : (b : Bool) → known vs o ≡ b → known (unless b (λ us. us ++ (o ∷ [])) vs) o ≡ true
-    go true e = unfold unless in e
-    go false e = unfold unless in end-known o vs
+withVariable-known o vs = unless-cases (λ us. known us o ≡ true) _ _ vs (λ e. e) (λ e. end-known o vs)
 
 pub withVariables-known : (os vs : List Origin) (o : Origin) → List·Memᴰ o os → known (withVariables os vs) o ≡ true
 unfolding withVariables fold
@@ -143,7 +130,7 @@ unknown-differs vs o e = each-imp (λ a n q. false≢true (sym n ∙ ap (sameOri
 
 pub withVariable-distinct : (o : Origin) {vs : List Origin} → Distinct vs → Distinct (withVariable o vs)
 unfolding withVariable
-withVariable-distinct o {vs} d = unless-cases Distinct _ _ vs d more
+withVariable-distinct o {vs} d = unless-cases Distinct _ _ vs (λ e. d) more
   where
     more : known vs o ≡ false → Distinct (snoc vs o)
     more e =

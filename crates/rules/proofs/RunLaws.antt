@@ -11,10 +11,9 @@ use Rattle.rules.specs.Lists.{snoc, fold, concatMap}
 use Rattle.rules.specs.Literal.{Literal}
 use Rattle.rules.specs.Clause.{Clause, install}
 use Rattle.rules.specs.Catalogue.{Catalogue, nameOf}
-use Rattle.rules.specs.Decisions.{undecided}
 use Rattle.rules.specs.Variables.{Origin, known, withVariables, partOrigin}
 use Rattle.rules.specs.Opening.{Task, Opening, add, draw, joining, endRun, trackedOf}
-use Rattle.rules.specs.Encoding.{Event, served, joins, links, origins, clauses}
+use Rattle.rules.specs.Encoding.{Event, served, joins, links, origins}
 use Rattle.rules.specs.State.{State, setOpening, setDecisions, setConflicts, decidedTrue, Run, effects, emit, emitAll}
 use Rattle.rules.specs.Run.{nameIfOne, joinsFrom, linksFor, serveTask, serveLine, joinAll, linkAll, begun, runOnce}
 use Rattle.rules.specs.Records.{Command}
@@ -41,13 +40,14 @@ Known vs ps = Each (λ p. known vs (partOrigin p) ≡ true) ps
 pub record TrackedKnown (s : State) : Type 0 where
   pub known-parts : Known (s .variables) (s .opening .tracked)
 
--- the parts that an event does not name but takes to have variables
+-- The parts that an event takes to have variables without naming them. Only a join has such, and they joined before.
 unfoldable pub earlier : Event → List ℕ
 earlier (served t) = []
 earlier (joins p ps) = ps
 earlier (links n ps) = []
 
 module _ (c : Catalogue) where
+  -- the states at the points of run r, which began in s₀
   pub data Within (r : Run) (s₀ : State) : State → Type 0 where
     begins : Within r s₀ s₀
     opens : {s : State} → Within r s₀ s → (o : Opening) → Within r s₀ (setOpening o s)
