@@ -24,7 +24,9 @@ use Rattle.reader.specs.declared.Item.the-variants.{Name, Part, Range, M
 use Rattle.reader.specs.declared.Command.{Command}
 use Rattle.reader.specs.declared.Command.the-variants.{Add, Draw, Run, Decide, Undo}
 use Rattle.reader.specs.declared.Record.{Record}
-use Rattle.reader.specs.declared.Record.the-variants.{Catalogue, Sheet, UnknownKind, OutOfPlace, CutShort}
+use Rattle.reader.specs.declared.Record.the-variants.{Catalogue, Sheet, Refused}
+use Rattle.refusal.specs.declared.Refusal.the-variants.{UnknownKind, OutOfPlace, CutShort}
+use Rattle.refusal.specs.Refusing.{refusalOf}
 use Rattle.reader.specs.Reading.{itemOf, commandOf, resultOf, lengths, bodyLength, itemRead, commandRead}
 
 -- ---- lengths, bytes and parts
@@ -229,21 +231,21 @@ by-number Kind.undo b = refl
 -- ---- the record at a place
 
 module _ (begun : Bool) (job : List ℕ) (at n : ℕ) (e : n ≡ bodyLength (getD job at 0)) where
-  pub at-unknown : n ≡ 99 → resultOf UnknownKind ≡ read begun (getD job at 0) (drop (at + 1) job)
-  unfolding resultOf read readKind
+  pub at-unknown : n ≡ 99 → resultOf (Refused UnknownKind) ≡ read begun (getD job at 0) (drop (at + 1) job)
+  unfolding resultOf refusalOf read readKind
   at-unknown h = rw (kind-none (getD job at 0) (sym e ∙ h))
 
   module _ (m : Bool) (d : m ≡ (begun && not (ofSheet (getD job at 0)))) (u : n ≡ 99 → ⊥) where
     found : KindOf (getD job at 0)
     found = kind-some (getD job at 0) (λ h. u (e ∙ h))
 
-    pub at-misplaced : m ≡ true → resultOf OutOfPlace ≡ read begun (getD job at 0) (drop (at + 1) job)
-    unfolding resultOf read readKind
+    pub at-misplaced : m ≡ true → resultOf (Refused OutOfPlace) ≡ read begun (getD job at 0) (drop (at + 1) job)
+    unfolding resultOf refusalOf read readKind
     at-misplaced h = rw (← d, h, found .found)
 
     module _ (p : m ≡ false) where
-      pub at-short : length job - at - 1 < n → resultOf CutShort ≡ read begun (getD job at 0) (drop (at + 1) job)
-      unfolding resultOf read readKind readBody
+      pub at-short : length job - at - 1 < n → resultOf (Refused CutShort) ≡ read begun (getD job at 0) (drop (at + 1) job)
+      unfolding resultOf refusalOf read readKind readBody
       at-short h =
           let l : length (drop (at + 1) job) < bodyLength (getD job at 0) = rw length-drop (omega arith) in
           rw (← d, p, found .found, lt-ltb _ _ l)

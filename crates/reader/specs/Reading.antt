@@ -5,14 +5,15 @@ use Prim.Native.Nat.{ℕ}
 use lib.Dec.{eqb}
 use lib.ListN.{getD, replicate}
 use Rattle.rules.specs.Bytes.{byteAt, wordAt}
-use Rattle.rules.specs.Refusals.{unknownKind, outOfPlace, cutShort, Result, ok, refuse}
+use Rattle.rules.specs.Refusals.{Result, ok, refuse}
+use Rattle.refusal.specs.Refusing.{refusalOf}
 use Rattle.rules.specs.Records as rules
 use Rattle.reader.specs.declared.Item.{Item}
 use Rattle.reader.specs.declared.Item.the-variants.{Name, Part, Range, Member, Union, UnionMember, Leaf, Joined, Requirement, Constraint}
 use Rattle.reader.specs.declared.Command.{Command}
 use Rattle.reader.specs.declared.Command.the-variants.{Add, Draw, Run, Decide, Undo}
 use Rattle.reader.specs.declared.Record.{Record}
-use Rattle.reader.specs.declared.Record.the-variants.{Catalogue, Sheet, UnknownKind, OutOfPlace, CutShort}
+use Rattle.reader.specs.declared.Record.the-variants.{Catalogue, Sheet, Refused}
 
 unfoldable pub itemOf : Item → rules.Item
 itemOf (Name f) = rules.Item.name f
@@ -36,9 +37,7 @@ commandOf (Undo l) = rules.Command.undo l
 unfoldable pub resultOf : Record → Result rules.Record
 resultOf (Catalogue i) = ok (rules.catalogue (itemOf i))
 resultOf (Sheet o) = ok (rules.sheet (commandOf o))
-resultOf UnknownKind = refuse unknownKind
-resultOf OutOfPlace = refuse outOfPlace
-resultOf CutShort = refuse cutShort
+resultOf (Refused f) = refuse (refusalOf f)
 
 -- ---- by number of the kind
 

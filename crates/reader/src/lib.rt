@@ -1,4 +1,5 @@
 // Job bytes to records: one byte of kind, then a body whose length the kind fixes. Refusals 2 and 1.
+use refusal::Refusal;
 ghost use mathlib.Core.Path.{_≡_};
 ghost use Prim.Native.Nat.{_+_, _*_, _<_, _≤_, _-_};
 ghost use lib.ListN.{length, take, drop, getD};
@@ -34,9 +35,7 @@ pub enum Command {
 pub enum Record {
     Catalogue(Item),
     Sheet(Command),
-    UnknownKind,
-    OutOfPlace,
-    CutShort,
+    Refused(Refusal),
 }
 
 // The length of each kind's body, and 99 for a number that is no kind.
@@ -119,13 +118,13 @@ pub fn record_at(job: &[u8], at: usize, begun: bool) -> Record
     let kind = job[at];
     let n = body_length(kind);
     if n == 99 {
-        return Record::UnknownKind;
+        return Record::Refused(Refusal::UnknownKind);
     }
     if out_of_place(begun, kind) {
-        return Record::OutOfPlace;
+        return Record::Refused(Refusal::OutOfPlace);
     }
     if job.len() - at - 1 < n as usize {
-        return Record::CutShort;
+        return Record::Refused(Refusal::CutShort);
     }
     let b = body(job, at, n as usize);
     if kind < 32 {
