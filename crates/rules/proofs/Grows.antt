@@ -15,7 +15,7 @@ use Rattle.rules.specs.Catalogue.{Owner, part, Catalogue, partAt, nameOf
 use Rattle.rules.specs.Candidates.{candidates}
 use Rattle.rules.specs.Decisions.{Evaluation, undecided, satisfied, falsified, evaluate, isUndecided}
 use Rattle.rules.specs.Variables.{Origin, known, withVariable, withVariables}
-use Rattle.rules.specs.Opening.{Task, owner, name, condition, requirement, constraint, Opening, setOwners, setNames, setSeveral, setNamed, setAdded, setDrawn, setLine, queue, openOwner, openName, openNames, rangesOf, rangesFirst, tasksOf, serveOwner, serveName, fire, serveCondition, firedParts, nameForTracking, openReady, markHandled, serveRequirement, serve, beginRun, joining, endRun, mostTasks}
+use Rattle.rules.specs.Opening.{Task, owner, name, condition, requirement, constraint, Opening, setOwners, setNames, setSeveral, setNamed, setAdded, setDrawn, setLine, queue, openOwner, openName, openNames, rangesOf, rangesFirst, tasksOf, serveOwner, serveName, fire, serveCondition, firedParts, nameForTracking, openReady, markHandled, serveRequirement, serve, beginRun, joining, endRun}
 use Rattle.rules.specs.Encoding.{Event, served, origins, clauses}
 use Rattle.rules.specs.State.{State, setOpening, setVariables, setClauses, decidedTrue, Run, report, force, propagateBy, propagate, effect, effects, emit, emitAll}
 use Rattle.rules.specs.Run.{lineTaken, joinsFrom, linksFor, serveTask, serveLine, joinAll, linkAll, begun, runOnce}
@@ -234,7 +234,7 @@ runOnce-grows c level s =
     let s₁ = begun c s in
     let w = begin-waits c (s .opening) in
     and-then {s′ = lineTaken s₁} (record { variables = whole; clauses = whole; waiting = w .waits })
-    (and-then (serveLine-grows c r (mostTasks c (s₁ .opening)) (s₁ .opening .line) (lineTaken s₁)) (and-then (joinAll-grows c r _) (linkAll-grows c r _)))
+    (and-then (serveLine-grows c r _ (s₁ .opening .line) (lineTaken s₁)) (and-then (joinAll-grows c r _) (linkAll-grows c r _)))
 
 -- ---- above a limit, and still above it
 
