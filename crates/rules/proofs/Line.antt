@@ -5,6 +5,7 @@ use mathlib.Core.Bool.{Bool, true, false}
 use mathlib.Core.List.{List, [], _∷_, _++_}
 use Prim.Native.Nat.{ℕ, zero, suc, _+_}
 use native.Mathlib.Nat.{add-zero, zero-add, add-suc, suc-add}
+use lib.ListN.{length}
 use Rattle.rules.specs.Lists.{when, fold}
 use Rattle.rules.specs.Literal.{Literal, pos, neg}
 use Rattle.rules.specs.Clause.{Clause, install, requires, gated, excluded, constrains, forbid, auxOut, auxOwner, lock, anyGate, anyOne}
@@ -13,7 +14,7 @@ use Rattle.rules.specs.Decisions.{Evaluation, undecided, satisfied, fals
 use Rattle.rules.specs.Opening.{Task, setLine, serve, endRun}
 use Rattle.rules.specs.Encoding.{Event, served}
 use Rattle.rules.specs.State.{State, setOpening, decidedTrue, Run, report, force, propagateBy, propagate, effect, effects, emit, emitAll}
-use Rattle.rules.specs.Run.{lineTaken, serveTask, serveLine, joinAll, linkAll, begun, runOnce}
+use Rattle.rules.specs.Run.{lineTaken, serveTask, serveLine, joinAll, linkAll, begun, mostTasks, runOnce}
 
 -- ---- clauses, decisions and conflicts leave the opening alone
 
@@ -73,11 +74,11 @@ module _ (c : Catalogue) (r : Run) where
   emitAll-opening [] s = refl
   emitAll-opening (e ∷ es) s = emitAll-opening es (emit c r e s) ∙ emit-opening e s
 
-  pub joinAll-opening : (s : State) → (joinAll c r s) .opening ≡ endRun c (s .opening)
+  joinAll-opening : (s : State) → (joinAll c r s) .opening ≡ endRun c (s .opening)
   unfolding joinAll
   joinAll-opening s = emitAll-opening _ _
 
-  pub linkAll-opening : (s : State) → (linkAll c r s) .opening ≡ s .opening
+  linkAll-opening : (s : State) → (linkAll c r s) .opening ≡ s .opening
   unfolding linkAll
   linkAll-opening s = emitAll-opening _ _
 
@@ -116,3 +117,27 @@ module _ (c : Catalogue) (r : Run) where
     serveLine-after zero a = (_, _, a)
     serveLine-after (suc fuel) {ts = []} a = (_, _, a)
     serveLine-after (suc fuel) {ts = t ∷ ts} a = serveLine-after fuel (serves a)
+
+-- ---- the run that begins in s
+
+abbrev pub firstLine : Catalogue → State → List Task
+firstLine c s = (begun c s) .opening .line
+
+abbrev pub firstState : Catalogue → State → State
+firstState c s = lineTaken (begun c s)
+
+abbrev pub runFrom : ℕ → State → Run
+runFrom level s = record { number = suc (s .runs); level = level; before = length (s .variables) }
+
+-- what is left of a run when its line has been served
+abbrev pub runEnd : Catalogue → Run → State → State
+runEnd c r s = linkAll c r (joinAll c r s)
+
+pub runEnd-opening : (c : Catalogue) (r : Run) (s : State) → (runEnd c r s) .opening ≡ endRun c (s .opening)
+runEnd-opening c r s = linkAll-opening c r (joinAll c r s) ∙ joinAll-opening c r s
+
+-- `runOnce` is: begin, serve the line, end
+pub runOnce-is : (c : Catalogue) (level : ℕ) (s : State)
+    → runOnce c level s ≡ runEnd c (runFrom level s) (serveLine c (runFrom level s) (mostTasks c (s .opening)) (firstLine c s) (firstState c s))
+unfolding runOnce
+runOnce-is c level s = refl

@@ -26,6 +26,10 @@ module _ {A : Type 0} where
   unfolding snoc
   all-snoc P xs x p q = all-append P xs (x ∷ []) p (q, tt)
 
+  pub all-every : (P : A → Type 0) → ((x : A) → P x) → (xs : List A) → All P xs
+  all-every P f [] = tt
+  all-every P f (x ∷ xs) = (f x, all-every P f xs)
+
   pub all-weaken : (P Q : A → Type 0) → ((x : A) → P x → Q x) → (xs : List A) → All P xs → All Q xs
   all-weaken P Q f [] p = tt
   all-weaken P Q f (x ∷ xs) p = (f x (p .0), all-weaken P Q f xs (p .1))
@@ -44,11 +48,13 @@ module _ {A B : Type 0} where
   all-map P f [] p = tt
   all-map P f (x ∷ xs) p = (p .0, all-map P f xs (p .1))
 
-  pub all-concatMap : (P : A → Type 0) (Q : B → Type 0) (f : A → List B) → ((x : A) → P x → All Q (f x))
-      → (xs : List A) → All P xs → All Q (concatMap f xs)
+  pub all-concatMap : (P : B → Type 0) (f : A → List B) (xs : List A) → All (λ x. All P (f x)) xs → All P (concatMap f xs)
   unfolding concatMap
-  all-concatMap P Q f h [] p = tt
-  all-concatMap P Q f h (x ∷ xs) p = all-append Q (f x) (concatMap f xs) (h x (p .0)) (all-concatMap P Q f h xs (p .1))
+  all-concatMap P f [] p = tt
+  all-concatMap P f (x ∷ xs) p = all-append P (f x) (concatMap f xs) (p .0) (all-concatMap P f xs (p .1))
+
+  pub every-concatMap : (P : B → Type 0) (f : A → List B) → ((x : A) → All P (f x)) → (xs : List A) → All P (concatMap f xs)
+  every-concatMap P f h xs = all-concatMap P f xs (all-every _ h xs)
 
 -- ---- the numbers below a number
 

@@ -158,10 +158,10 @@ module _ (c : Catalogue) (i : Item) where
 -- ---- what a record's tests have shown
 
 -- test n of the list
-tested : List (Refusal × Bool) → ℕ → Bool
+unfoldable pub tested : List (Refusal × Bool) → ℕ → Bool
 tested ts n = (getD ts n (unfit if false)) .1
 
-passes : {ts : List (Refusal × Bool)} → Passed ts → (n : ℕ) → tested ts n ≡ false
+pub passes : {ts : List (Refusal × Bool)} → Passed ts → (n : ℕ) → tested ts n ≡ false
 unfolding tested
 passes none-left n = refl
 passes (passed p) zero = refl
@@ -176,7 +176,7 @@ module _ (c : Catalogue) where
   unfolding atCeiling
   below-ceiling t e = leb-false (ceiling t) (given c t) e
 
-  owner-present : (n : ℕ) → ownerAbsent c n ≡ false → OwnerGiven c (ownerOf n)
+  pub owner-present : (n : ℕ) → ownerAbsent c n ≡ false → OwnerGiven c (ownerOf n)
   unfolding ownerAbsent ownerOf given
   owner-present n e = go (eqb n 65535) e
     where
@@ -271,7 +271,7 @@ kept c (Item.leaf r) p v m =
     let x = each-snoc (ConditionFits c) _ (c .conditions) (leaf r) (v .conditions) (present c Thing.range r (passes p 1)) in
     record { parts = v .parts; ranges = v .ranges; unions = v .unions; conditions = x; requirements = v .requirements; constraints = v .constraints; ceilings = m }
 kept c (Item.joined o l r) p v m =
-    let halves = (present c Thing.condition l (passes p 1), present c Thing.condition r (passes p 2)) in
+    let halves : (l < length (c .conditions)) × (r < length (c .conditions)) = (present c Thing.condition l (passes p 1), present c Thing.condition r (passes p 2)) in
     let x = each-snoc (ConditionFits c) _ (c .conditions) (joined (operatorOf o) l r) (v .conditions) halves in
     record { parts = v .parts; ranges = v .ranges; unions = v .unions; conditions = x; requirements = v .requirements; constraints = v .constraints; ceilings = m }
 kept c (Item.requirement o form n k) p v m =
