@@ -20,6 +20,7 @@ use Rattle.rules.specs.Encoding.{Event, served, origins, clauses}
 use Rattle.rules.specs.State.{State, setOpening, setVariables, setClauses, decidedTrue, Run, report, force, propagateBy, propagate, effect, effects, emit, emitAll}
 use Rattle.rules.specs.Run.{lineTaken, joinsFrom, linksFor, serveTask, serveLine, joinAll, linkAll, begun, runOnce}
 use Rattle.rules.specs.Limits.{Limits, above}
+use Rattle.rules.proofs.ListLaws.{sum-append}
 
 -- ---- a list and what was added at its end
 
@@ -241,17 +242,8 @@ runOnce-grows c level s =
 prefix-length : {A : Type 0} {xs ys : List A} → Prefix xs ys → length xs ≤ length ys
 prefix-length {A} {xs} p = rw (p .is, length-append xs (p .more)) (omega arith)
 
-sum-append : (ms ns : List ℕ) → sum (ms ++ ns) ≡ sum ms + sum ns
-unfolding sum
-sum-append [] ns = omega arith
-sum-append (m ∷ ms) ns = omega (arith, sum-append ms ns)
-
-map-append : {A B : Type 0} (f : A → B) (xs ys : List A) → map f (xs ++ ys) ≡ map f xs ++ map f ys
-map-append f [] ys = refl
-map-append f (x ∷ xs) ys = ap (λ l. f x ∷ l) (map-append f xs ys)
-
 prefix-sum : {xs ys : List Clause} → Prefix xs ys → sum (map conditionLiterals xs) ≤ sum (map conditionLiterals ys)
-prefix-sum {xs} p = rw (p .is, map-append conditionLiterals xs (p .more), sum-append (map conditionLiterals xs) (map conditionLiterals (p .more))) (omega arith)
+prefix-sum {xs} p = rw (p .is, sum-append conditionLiterals xs (p .more)) (omega arith)
 
 over : (l m n : ℕ) → m ≤ n → ltb l m ≡ true → ltb l n ≡ true
 over l m n h e = let a = ltb-true l m e in lt-ltb l n (omega arith)

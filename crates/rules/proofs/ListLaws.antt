@@ -8,7 +8,7 @@ use native.Mathlib.Omega.{arith}
 use lib.Dec.{eqb, ltb}
 use lib.ListN.{length, getD, set, length-append, length-set, List·getD-append}
 use lib.Seq.{getD-append-seam, getD-set-same, getD-set-other}
-use borrow.Author.Tests.{eqb-true, eqb-false, ltb-true, ltb-false}
+use borrow.Author.Tests.{eqb-true, eqb-false, ne-eqb, ltb-true, ltb-false}
 use Rattle.rules.specs.Lists.{filter, any, count, snoc, concatMap, fold, upTo, sum, when, unless}
 
 -- ---- what holds of every element
@@ -58,13 +58,13 @@ module _ {A B : Type 0} where
 
 -- ---- the numbers below a number
 
-upTo-all : (i n : ℕ) → All (λ j. j < i + n) (upTo i n)
+upTo-all : (i n : ℕ) → All (λ j. (i ≤ j) × (j < i + n)) (upTo i n)
 unfolding upTo
 upTo-all i zero = tt
 upTo-all i (suc n) = (omega arith, all-weaken _ _ (λ j h. omega arith) (upTo (suc i) n) (upTo-all (suc i) n))
 
 pub upTo-below : (n : ℕ) → All (λ j. j < n) (upTo 0 n)
-upTo-below n = all-weaken (λ j. j < 0 + n) (λ j. j < n) (λ j h. omega arith) (upTo 0 n) (upTo-all 0 n)
+upTo-below n = all-weaken (λ j. (0 ≤ j) × (j < 0 + n)) (λ j. j < n) (λ j h. omega arith) (upTo 0 n) (upTo-all 0 n)
 
 upTo-has : (i n j : ℕ) → i ≤ j → j < i + n → List·Memᴰ j (upTo i n)
 unfolding upTo
@@ -82,6 +82,32 @@ pub length-upTo : (i n : ℕ) → length (upTo i n) ≡ n
 unfolding upTo
 length-upTo i zero = refl
 length-upTo i (suc n) = ap suc (length-upTo (suc i) n)
+
+-- ---- counts
+
+module _ {A : Type 0} where
+  pub count-none : (f : A → Bool) (xs : List A) → All (λ x. f x ≡ false) xs → count f xs ≡ 0
+  unfolding count
+  count-none f [] p = refl
+  count-none f (x ∷ xs) p = rw (p .0) (omega (arith, count-none f xs (p .1)))
+
+pub count-map : {A B : Type 0} (f : B → Bool) (g : A → B) (xs : List A) → count f (map g xs) ≡ count (λ x. f (g x)) xs
+unfolding count
+count-map f g [] = refl
+count-map f g (x ∷ xs) = omega (arith, count-map f g xs)
+
+-- a number stands once among those from i on
+pub upTo-once : (p i n : ℕ) → count (λ j. eqb j p) (upTo i n) ≤ 1
+unfolding upTo count
+upTo-once p i zero = zero-le
+upTo-once p i (suc n) = go (eqb i p) refl (upTo-once p (suc i) n)
+  where
+    later : i ≡ p → All (λ j. eqb j p ≡ false) (upTo (suc i) n)
+    later e = all-weaken _ _ (λ j h. ne-eqb j p (λ q. omega arith)) (upTo (suc i) n) (upTo-all (suc i) n)
+
+    go : (b : Bool) → eqb i p ≡ b → count (λ j. eqb j p) (upTo (suc i) n) ≤ 1 → cond b 1 0 + count (λ j. eqb j p) (upTo (suc i) n) ≤ 1
+    go true e h = omega (arith, count-none (λ j. eqb j p) (upTo (suc i) n) (later (eqb-true i p e)))
+    go false e h = omega arith
 
 -- ---- one element more, or one replaced; `P` may name the place
 
@@ -148,10 +174,15 @@ fold-keeps P Q f h (x ∷ xs) q s p = fold-keeps P Q f h xs (q .1) (f x s) (h x 
 
 -- ---- sums
 
-pub sum-append : (ms ns : List ℕ) → sum (ms ++ ns) ≡ sum ms + sum ns
+pub sum-append : {A : Type 0} (f : A → ℕ) (xs ys : List A) → sum (map f (xs ++ ys)) ≡ sum (map f xs) + sum (map f ys)
 unfolding sum
-sum-append [] ns = omega arith
-sum-append (m ∷ ms) ns = omega (arith, sum-append ms ns)
+sum-append f [] ys = omega arith
+sum-append f (x ∷ xs) ys = omega (arith, sum-append f xs ys)
+
+pub sum-map : {A B : Type 0} (f : B → ℕ) (g : A → B) (h : A → ℕ) → ((x : A) → f (g x) ≡ h x) → (xs : List A) → sum (map f (map g xs)) ≡ sum (map h xs)
+unfolding sum
+sum-map f g h e [] = refl
+sum-map f g h e (x ∷ xs) = omega (arith, e x, sum-map f g h e xs)
 
 module _ {A : Type 0} (f g : A → ℕ) where
   pub sum-both : (xs : List A) → sum (map (λ x. f x + g x) xs) ≡ sum (map f xs) + sum (map g xs)

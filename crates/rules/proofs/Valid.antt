@@ -289,7 +289,7 @@ module _ (c : Catalogue) (w : WellFormed c) where
       let o : ValidOpening c ((serveTask c r t s) .opening) = rw (serveTask-opening c r t s) o in
       record { opening = taken-valid _ o; tasks = all-append _ ts _ (u .tasks .1) (o .line); taken = refl }
 
-  first-valid : (s : State) → ValidOpening c (s .opening) → ValidPoint c (firstLine c s) (firstState c s)
+  pub first-valid : (s : State) → ValidOpening c (s .opening) → ValidPoint c (firstLine c s) (firstState c s)
   unfolding begun
   first-valid s v = let o = begin-valid (s .opening) v in record { opening = taken-valid _ o; tasks = o .line; taken = refl }
 
