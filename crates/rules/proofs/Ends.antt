@@ -1,27 +1,27 @@
 -- A run ends: `mostTasks` is fuel enough for the task line of every run of every job, and room enough for the line itself.
 -- What is left to do is measured by weights: it falls with each task served, and is at most `mostTasks` when the run begins.
-use mathlib.Core.Path.{_≡_, refl, sym, _∙_, ap}
+use mathlib.Core.Path.{_≡_, refl, _∙_, ap}
 use mathlib.Core.Bool.{Bool, true, false, _||_, cond}
 use mathlib.Core.List.{List, [], _∷_, _++_, map, List·Memᴰ, List·Memᴰ·head, List·Memᴰ·tail, Memᴰ·map}
 use Prim.Native.Nat.{ℕ, zero, suc, _+_, _*_, _<_, _≤_, zero-le}
-use native.Mathlib.Nat.{le-refl, le-trans}
+use native.Mathlib.Nat.{le-refl}
 use native.Mathlib.Omega.{arith}
 use lib.Dec.{eqb}
 use lib.ListN.{length, length-map}
 use borrow.Author.Tests.{eq-eqb}
-use Rattle.rules.specs.Lists.{filter, any, count, elem, snoc, fold, upTo, sum}
+use Rattle.rules.specs.Lists.{any, count, elem, snoc, fold, upTo, sum}
 use Rattle.rules.specs.Catalogue.{Owner, root, part, Catalogue, constraintAt, rangeName, ownerAt, goalAt, sameOwner}
 use Rattle.rules.specs.Candidates.{candidates, requirementsOf, constraintsOf}
 use Rattle.rules.specs.Conditions.{unconditional}
 use Rattle.rules.specs.Opening.{Task, owner, name, condition, requirement, constraint, Opening, setOwners, setNames, setAdded, setDrawn, queue, openOwner, openName, openNames, rangesOf, rangesFirst, taskBy, tasksOf, serveOwner, serveName, fire, serveCondition, firedParts, nameForTracking, openReady, markHandled, serveRequirement, serve, beginRun}
 use Rattle.rules.specs.State.{State, decidedTrue, Run}
-use Rattle.rules.specs.Run.{serveTask, serveLine, begun, mostTasks, runOnce}
+use Rattle.rules.specs.Run.{serveLine, begun, mostTasks, runOnce}
 use Rattle.rules.specs.Limits.{Limits}
 use Rattle.rules.proofs.ListLaws.{All, all-every, upTo-member, length-upTo, upTo-once, count-none, count-map, any-snoc, when-keeps, unless-keeps, fold-keeps, sum-append, sum-map, sum-both, sum-le, sum-falls, sum-constant, sum-owned}
 use Rattle.rules.proofs.Reached.{Given, Reached}
 use Rattle.rules.proofs.WellFormed.{OwnerGiven, WellFormed, well-formed}
 use Rattle.rules.proofs.Line.{serveTask-opening, lineAfter, stateAfter, After, begins, serves, Served, done, next, served-after, firstLine, firstState, runFrom, runEnd, runOnce-is}
-use Rattle.rules.proofs.Valid.{Entry, TaskGiven, ValidOpening, ValidPoint, Valid, valid, candidates-given, rangesOf-given, rangesFirst-given, first-valid, point-valid}
+use Rattle.rules.proofs.Valid.{Entry, TaskGiven, ValidOpening, ValidPoint, valid, candidates-given, rangesOf-given, rangesFirst-given, first-valid, point-valid}
 
 -- ---- what is not yet in a list
 
@@ -124,12 +124,15 @@ module _ (c : Catalogue) where
 module _ (c : Catalogue) (w : WellFormed c) where
   openNames-todo : (rs : List ℕ) (s : Opening) → All (λ r. r < length (c .ranges)) rs → todo c (openNames c rs s) ≤ todo c s
   unfolding openNames
-  openNames-todo rs s h = fold-keeps (λ u. todo c u ≤ todo c s) _ _ (λ r u l. openName-todo c (todo c s) (rangeName c r) u (w .ranges r l .name)) rs h s (le-refl _)
+  openNames-todo rs s h =
+      let m = todo c s in
+      fold-keeps (λ u. todo c u ≤ m) _ _ (λ r u l. openName-todo c m (rangeName c r) u (w .ranges r l .name)) rs h s (le-refl _)
 
   fire-todo : (q : ℕ) (is : List ℕ) (s : Opening) → q < length (c .requirements) → todo c (fire c q is s) ≤ suc (todo c s)
   unfolding fire weight
   fire-todo q [] s h = omega arith
-  fire-todo q (i ∷ is) s h = omega (arith, queue-todo c (requirement q (i ∷ is)) (openNames c (rangesOf c q) s), openNames-todo (rangesOf c q) s (rangesOf-given c w q h))
+  fire-todo q (i ∷ is) s h =
+      omega (arith, queue-todo c (requirement q (i ∷ is)) (openNames c (rangesOf c q) s), openNames-todo (rangesOf c q) s (rangesOf-given c w q h))
 
   -- ---- each task served leaves less to do
 
@@ -168,8 +171,9 @@ module _ (c : Catalogue) (w : WellFormed c) where
   unfolding serveRequirement
   serveRequirement-todo q is s =
       let ps = candidates c (goalAt c q) in
-      fold-keeps (λ v. todo c v ≤ todo c s) _ (openReady c) ready ps (candidates-given c (goalAt c q)) _
-      (fold-keeps (λ v. todo c v ≤ todo c s) (λ _. Unit {0}) (nameForTracking c) naming (ps ++ firedParts c q is) (all-every _ (λ _. tt) (ps ++ firedParts c q is)) _ handled)
+      let named = ps ++ firedParts c q is in
+      fold-keeps (λ u. todo c u ≤ todo c s) _ (openReady c) ready ps (candidates-given c (goalAt c q)) _
+      (fold-keeps (λ u. todo c u ≤ todo c s) (λ _. Unit {0}) (nameForTracking c) naming named (all-every _ (λ _. tt) named) _ handled)
     where
       ready : (p : ℕ) (u : Opening) → p < length (c .parts) → todo c u ≤ todo c s → todo c (openReady c p u) ≤ todo c s
       ready p u h b = unfold openReady in when-keeps (λ v. todo c v ≤ todo c s) _ _ u b (openOwner-todo c (todo c s) (part p) u h b)
@@ -190,27 +194,28 @@ module _ (c : Catalogue) (w : WellFormed c) where
 
   -- ---- at most `mostTasks` is to do when a run begins
 
-  fires-todo : (es : List (ℕ × ℕ)) (s : Opening) → All (Entry c) es → todo c (fold (λ (e : ℕ × ℕ). fire c (e .0) (e .1 ∷ [])) es s) ≤ todo c s + length es
+  -- steps that add at most one each
+  fold-adds : {A : Type 0} (Q : A → Type 0) (f : A → Opening → Opening) → ((x : A) (s : Opening) → Q x → todo c (f x s) ≤ suc (todo c s))
+      → (xs : List A) → All Q xs → (m : ℕ) (s : Opening) → todo c s ≤ m → todo c (fold f xs s) ≤ m + length xs
   unfolding fold
-  fires-todo [] s h = omega arith
-  fires-todo (e ∷ es) s h = omega (arith, fire-todo (e .0) (e .1 ∷ []) s (h .0 .requirement), fires-todo es (fire c (e .0) (e .1 ∷ []) s) (h .1))
+  fold-adds Q f h [] q m s b = omega arith
+  fold-adds Q f h (x ∷ xs) q m s b = omega (arith, fold-adds Q f h xs (q .1) (suc m) (f x s) (omega (arith, h x s (q .0))))
 
   begin-todo : (s : Opening) → ValidOpening c s → todo c (beginRun c s) ≤ todo c s + length (s .drawn)
   unfolding beginRun
   begin-todo s v =
-      let u = setAdded [] (setDrawn [] s) in
-      let a = fold-keeps (λ x. todo c x ≤ todo c s) _ openOwner (openOwner-todo c (todo c s)) (s .added) (v .added) u (le-refl _) in
-      omega (arith, fires-todo (s .drawn) (fold openOwner (s .added) u) (v .drawn))
+      fold-adds (Entry c) _ (λ e u h. fire-todo (e .0) (e .1 ∷ []) u (h .requirement)) (s .drawn) (v .drawn) (todo c s) _
+      (fold-keeps (λ u. todo c u ≤ todo c s) _ openOwner (openOwner-todo c (todo c s)) (s .added) (v .added) _ (le-refl _))
 
 module _ (c : Catalogue) where
   owner-once : (o : Owner) → count (λ x. sameOwner x o) (everyOwner c) ≤ 1
   unfolding everyOwner count
   owner-once root =
-      let n = upTo 0 (length (c .parts)) in
-      omega (arith, count-map (λ x. sameOwner x root) part n, count-none (λ p. sameOwner (part p) root) n (all-every _ (λ p. refl) n))
+      let ps = upTo 0 (length (c .parts)) in
+      omega (arith, count-map (λ x. sameOwner x root) part ps, count-none (λ p. sameOwner (part p) root) ps (all-every _ (λ p. refl) ps))
   owner-once (part p) =
-      let n = upTo 0 (length (c .parts)) in
-      omega (arith, count-map (λ x. sameOwner x (part p)) part n, upTo-once p 0 (length (c .parts)))
+      let ps = upTo 0 (length (c .parts)) in
+      omega (arith, count-map (λ x. sameOwner x (part p)) part ps, upTo-once p 0 (length (c .parts)))
 
   -- a requirement has one owner, so those of all owners together are no more than all
   requirements-owned : sum (map (λ o. sum (map (ruleWeight c) (requirementsOf c o))) (everyOwner c)) ≤ 2 * length (c .requirements)
@@ -230,8 +235,11 @@ module _ (c : Catalogue) where
   constraints-owned =
       let ks = upTo 0 (length (c .constraints)) in
       let a = sum-owned _ (λ _. 1) (everyOwner c) (λ k. owner-once ((constraintAt c k) .owner)) ks in
-      let b = sum-le (λ o. length (constraintsOf c o)) (λ o. sum (map (λ _. 1) (constraintsOf c o))) (λ o. omega (arith, sum-constant 1 (constraintsOf c o))) (everyOwner c) in
+      let b = sum-le _ (λ o. sum (map (λ _. 1) (constraintsOf c o))) ones (everyOwner c) in
       omega (arith, sum-constant 1 ks, length-upTo 0 (length (c .constraints)))
+    where
+      ones : (o : Owner) → length (constraintsOf c o) ≤ sum (map (λ _. 1) (constraintsOf c o))
+      ones o = omega (arith, sum-constant 1 (constraintsOf c o))
 
   owners-weight : sum (map (λ o. weight c (owner o)) (everyOwner c)) ≤ suc (length (c .parts)) + 2 * length (c .requirements) + length (c .constraints)
   unfolding weight
@@ -254,11 +262,11 @@ module _ (c : Catalogue) where
 
 -- ---- at every point of a run
 
--- what is to do at a point
-abbrev left : Catalogue → List Task → State → ℕ
-left c ts s = toDo c (s .opening .owners) (s .opening .names) ts
+module _ (c : Catalogue) where
+  -- what is to do at a point
+  abbrev left : List Task → State → ℕ
+  left ts s = toDo c (s .opening .owners) (s .opening .names) ts
 
-module _ (c : Catalogue) (w : WellFormed c) (r : Run) where
   -- u: the opening o with a task served
   falls-by : (t : Task) (ts : List Task) (o u : Opening) → o .line ≡ [] → suc (todo c u) ≤ todo c o + weight c t
       → toDo c (u .owners) (u .names) (ts ++ u .line) < toDo c (o .owners) (o .names) (t ∷ ts)
@@ -266,15 +274,6 @@ module _ (c : Catalogue) (w : WellFormed c) (r : Run) where
   falls-by t ts o u e h =
       let l : sum (map (weight c) (o .line)) ≡ 0 = ap (λ us. sum (map (weight c) us)) e in
       omega (arith, sum-append (weight c) ts (u .line))
-
-  falls : (t : Task) (ts : List Task) (s : State) → ValidPoint c (t ∷ ts) s → left c (lineAfter c r t ts s) (stateAfter c r t s) < left c (t ∷ ts) s
-  falls t ts s v =
-      let o = s .opening in
-      rw (serveTask-opening c r t s) (falls-by t ts o (serve c (decidedTrue s) t o) (v .taken) (serve-todo c w (decidedTrue s) t o (v .tasks .0)))
-
-  point-left : {ts₀ : List Task} {s₀ : State} → ValidPoint c ts₀ s₀ → {n : ℕ} {ts : List Task} {s : State} → After c r ts₀ s₀ n ts s → n + left c ts s ≤ left c ts₀ s₀
-  point-left v begins = omega arith
-  point-left v (serves {t = t} {ts = ts} {s = s} a) = omega (arith, point-left v a, falls t ts s (point-valid c w r v a))
 
   each-weighs : (ts : List Task) → length ts ≤ sum (map (weight c) ts)
   unfolding sum
@@ -287,6 +286,17 @@ module _ (c : Catalogue) (w : WellFormed c) (r : Run) where
       some (condition q) = unfold weight in omega arith
       some (requirement q is) = unfold weight in omega arith
       some (constraint k) = unfold weight in omega arith
+
+module _ (c : Catalogue) (w : WellFormed c) (r : Run) where
+  falls : (t : Task) (ts : List Task) (s : State) → ValidPoint c (t ∷ ts) s → left c (lineAfter c r t ts s) (stateAfter c r t s) < left c (t ∷ ts) s
+  falls t ts s v =
+      let o = s .opening in
+      rw (serveTask-opening c r t s) (falls-by c t ts o (serve c (decidedTrue s) t o) (v .taken) (serve-todo c w (decidedTrue s) t o (v .tasks .0)))
+
+  point-left : {ts₀ : List Task} {s₀ : State} → ValidPoint c ts₀ s₀ → {n : ℕ} {ts : List Task} {s : State} → After c r ts₀ s₀ n ts s
+      → n + left c ts s ≤ left c ts₀ s₀
+  point-left v begins = omega arith
+  point-left v (serves {t = t} {ts = ts} {s = s} a) = omega (arith, point-left v a, falls t ts s (point-valid c w r v a))
 
 -- ---- the theorems
 
@@ -303,17 +313,17 @@ pub record RunEnds (c : Catalogue) (r : Run) (s end : State) : Type 0 where
 
 module _ {l : Limits} {c : Catalogue} {s : State} (g : Given c) (reached : Reached l c s) where
   module _ (r : Run) where
-    -- At every point of a run the tasks served and those in the line are together at most `mostTasks`: a line of that many places is long enough.
+    -- At every point of a run the tasks served and those still in the line are together at most `mostTasks`: so many places are enough.
     pub room : {n : ℕ} {ts : List Task} {s′ : State} → After c r (firstLine c s) (firstState c s) n ts s′ → n + length ts ≤ mostTasks c (s .opening)
     unfolding toDo begun
     room {n} {ts} a =
         let w = well-formed g in
         let v = valid g reached in
         let p = first-valid c w s (v .opening) in
-        omega (arith, point-left c w r p a, each-weighs c w r ts, begin-todo c w (s .opening) (v .opening), idle-todo c (s .opening) (v .line-empty))
+        omega (arith, point-left c w r p a, each-weighs c ts, begin-todo c w (s .opening) (v .opening), idle-todo c (s .opening) (v .line-empty))
 
-    served-from : (fuel : ℕ) {k : ℕ} {ts : List Task} {s′ : State} → After c r (firstLine c s) (firstState c s) k ts s′ → mostTasks c (s .opening) ≤ k + fuel
-        → (n : ℕ) × Served c r n ts s′ (serveLine c r fuel ts s′)
+    served-from : (fuel : ℕ) {k : ℕ} {ts : List Task} {s′ : State} → After c r (firstLine c s) (firstState c s) k ts s′
+        → mostTasks c (s .opening) ≤ k + fuel → (n : ℕ) × Served c r n ts s′ (serveLine c r fuel ts s′)
     unfolding serveLine
     served-from zero {ts = []} a h = (0, done)
     served-from zero {ts = t ∷ ts} a h = let no-such : ⊥ = omega (arith, room a) in absurd no-such

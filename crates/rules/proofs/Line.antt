@@ -1,6 +1,6 @@
 -- The task line of a run, without fuel: what stands in the line after so many tasks (`After`), and the line served to its end (`Served`).
 -- Clauses, decisions and conflicts leave the opening alone, so a task's effect on it is `serve`, and a run's end is `endRun`.
-use mathlib.Core.Path.{_≡_, refl, sym, _∙_, ap}
+use mathlib.Core.Path.{_≡_, refl, _∙_}
 use mathlib.Core.Bool.{Bool, true, false}
 use mathlib.Core.List.{List, [], _∷_, _++_}
 use Prim.Native.Nat.{ℕ, zero, suc, _+_}
@@ -11,7 +11,7 @@ use Rattle.rules.specs.Literal.{Literal, pos, neg}
 use Rattle.rules.specs.Clause.{Clause, install, requires, gated, excluded, constrains, forbid, auxOut, auxOwner, lock, anyGate, anyOne}
 use Rattle.rules.specs.Catalogue.{Catalogue}
 use Rattle.rules.specs.Decisions.{Evaluation, undecided, satisfied, falsified}
-use Rattle.rules.specs.Opening.{Task, setLine, serve, endRun}
+use Rattle.rules.specs.Opening.{Task, serve, endRun}
 use Rattle.rules.specs.Encoding.{Event, served}
 use Rattle.rules.specs.State.{State, setOpening, decidedTrue, Run, report, force, propagateBy, propagate, effect, effects, emit, emitAll}
 use Rattle.rules.specs.Run.{lineTaken, serveTask, serveLine, joinAll, linkAll, begun, mostTasks, runOnce}

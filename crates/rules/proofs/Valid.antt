@@ -1,19 +1,18 @@
 -- A reached state is valid, and so is every point of a run: each number in its opening names something that the catalogue gives.
-use mathlib.Core.Path.{_≡_, refl, sym, _∙_, ap}
-use mathlib.Core.Bool.{Bool, true, false, not, true≢false}
+use mathlib.Core.Path.{_≡_, refl, _∙_, ap}
+use mathlib.Core.Bool.{Bool, true, false}
 use mathlib.Core.List.{List, [], _∷_, _++_, map}
-use mathlib.Core.Option.{Option, none, some}
-use Prim.Native.Nat.{ℕ, zero, suc, _+_, _<_, _≤_}
-use lib.ListN.{length, getD}
-use Rattle.rules.specs.Lists.{filter, snoc, fold, concatMap, upTo, distinct}
-use Rattle.rules.specs.Catalogue.{Owner, root, part, Goal, range, union, Catalogue, partAt, constraintAt, rangeName, goalAt, conditionAt}
+use Prim.Native.Nat.{ℕ, _<_}
+use lib.ListN.{length}
+use Rattle.rules.specs.Lists.{filter, concatMap, upTo}
+use Rattle.rules.specs.Catalogue.{Owner, part, Goal, range, union, Catalogue, rangeName, goalAt}
 use Rattle.rules.specs.Candidates.{partsOf, matching, nonMatching, favouredFirst, sorted, goalRanges, candidates, requirementsOf, constraintsOf}
-use Rattle.rules.specs.Conditions.{isNone, disjunctsOf, disjunctAt, indices, unconditional}
+use Rattle.rules.specs.Conditions.{disjunctsOf, disjunctAt, indices, unconditional}
 use Rattle.rules.specs.Records.{Command}
-use Rattle.rules.specs.Items.{ownerOf, ownerAbsent}
-use Rattle.rules.specs.Opening.{Task, owner, name, condition, requirement, constraint, Opening, setOwners, setNames, setSeveral, setWaiting, setNamed, setAdded, setDrawn, setLine, unopened, queue, openOwner, openName, markHandled, add, openNames, rangesOf, rangesFirst, taskBy, tasksOf, serveOwner, serveName, fire, serveCondition, firedParts, nameForTracking, openReady, serveRequirement, serve, draw, beginRun, joining, endRun}
-use Rattle.rules.specs.State.{State, start, setOpening, decidedTrue, Run}
-use Rattle.rules.specs.Run.{lineTaken, serveTask, serveLine, joinAll, linkAll, begun, mostTasks, runOnce}
+use Rattle.rules.specs.Items.{ownerOf}
+use Rattle.rules.specs.Opening.{Task, owner, name, condition, requirement, constraint, Opening, setAdded, setDrawn, setLine, unopened, queue, openOwner, openName, markHandled, add, openNames, rangesOf, rangesFirst, taskBy, tasksOf, serveOwner, serveName, fire, serveCondition, firedParts, nameForTracking, openReady, serveRequirement, serve, draw, beginRun, joining, endRun}
+use Rattle.rules.specs.State.{State, start, decidedTrue, Run}
+use Rattle.rules.specs.Run.{serveTask, begun, mostTasks, runOnce}
 use Rattle.rules.specs.Limits.{Limits}
 use Rattle.rules.specs.Sheet.{decide, commandRefusals, carriedOut}
 use Rattle.rules.proofs.ListLaws.{All, all-append, all-snoc, all-weaken, filter-all, all-map, all-concatMap, every-concatMap, upTo-below, when-keeps, unless-keeps, fold-keeps}
@@ -146,21 +145,17 @@ module _ (c : Catalogue) (w : WellFormed c) where
 
   pub openOwner-valid : (o : Owner) (s : Opening) → OwnerGiven c o → ValidOpening c s → ValidOpening c (openOwner o s)
   unfolding openOwner
-  openOwner-valid o s h v =
-      let u : ValidOpening c (setOwners (snoc (s .owners) o) s) = record {
-        owners = all-snoc _ (s .owners) o (v .owners) h; names = v .names; several = v .several; handled = v .handled; fired = v .fired;
-        waiting = v .waiting; drawn = v .drawn; added = v .added; named = v .named; tracked = v .tracked; line = v .line;
-      } in
-      unless-keeps (ValidOpening c) _ _ s v (λ _. queue-valid (owner o) _ h u)
+  openOwner-valid o s h v = unless-keeps (ValidOpening c) _ _ s v (λ _. queue-valid (owner o) _ h (record {
+    owners = all-snoc _ (s .owners) o (v .owners) h; names = v .names; several = v .several; handled = v .handled; fired = v .fired;
+    waiting = v .waiting; drawn = v .drawn; added = v .added; named = v .named; tracked = v .tracked; line = v .line;
+  }))
 
   openName-valid : (n : ℕ) (s : Opening) → n < length (c .names) → ValidOpening c s → ValidOpening c (openName n s)
   unfolding openName
-  openName-valid n s h v =
-      let u : ValidOpening c (setNames (snoc (s .names) n) s) = record {
-        owners = v .owners; names = all-snoc _ (s .names) n (v .names) h; several = v .several; handled = v .handled; fired = v .fired;
-        waiting = v .waiting; drawn = v .drawn; added = v .added; named = v .named; tracked = v .tracked; line = v .line;
-      } in
-      unless-keeps (ValidOpening c) _ _ s v (λ _. queue-valid (name n) _ h u)
+  openName-valid n s h v = unless-keeps (ValidOpening c) _ _ s v (λ _. queue-valid (name n) _ h (record {
+    owners = v .owners; names = all-snoc _ (s .names) n (v .names) h; several = v .several; handled = v .handled; fired = v .fired;
+    waiting = v .waiting; drawn = v .drawn; added = v .added; named = v .named; tracked = v .tracked; line = v .line;
+  }))
 
   openNames-valid : (rs : List ℕ) (s : Opening) → All (λ r. r < length (c .ranges)) rs → ValidOpening c s → ValidOpening c (openNames c rs s)
   unfolding openNames
@@ -179,12 +174,10 @@ module _ (c : Catalogue) (w : WellFormed c) where
 
   serveName-valid : (n : ℕ) (s : Opening) → n < length (c .names) → ValidOpening c s → ValidOpening c (serveName c n s)
   unfolding serveName
-  serveName-valid n s h v =
-      let u : ValidOpening c (setSeveral (snoc (s .several) n) s) = record {
-        owners = v .owners; names = v .names; several = all-snoc _ (s .several) n (v .several) h; handled = v .handled; fired = v .fired;
-        waiting = v .waiting; drawn = v .drawn; added = v .added; named = v .named; tracked = v .tracked; line = v .line;
-      } in
-      when-keeps (ValidOpening c) _ _ s v u
+  serveName-valid n s h v = when-keeps (ValidOpening c) _ _ s v (record {
+    owners = v .owners; names = v .names; several = all-snoc _ (s .several) n (v .several) h; handled = v .handled; fired = v .fired;
+    waiting = v .waiting; drawn = v .drawn; added = v .added; named = v .named; tracked = v .tracked; line = v .line;
+  })
 
   serveCondition-valid : (f : ℕ → Bool) (q : ℕ) (s : Opening) → TaskGiven c (condition q) → ValidOpening c s → ValidOpening c (serveCondition c f q s)
   unfolding serveCondition
@@ -206,12 +199,10 @@ module _ (c : Catalogue) (w : WellFormed c) where
 
   naming-valid : (p : ℕ) (s : Opening) → p < length (c .parts) → ValidOpening c s → ValidOpening c (nameForTracking c p s)
   unfolding nameForTracking
-  naming-valid p s h v =
-      let u : ValidOpening c (setNamed (snoc (s .named) p) s) = record {
-        owners = v .owners; names = v .names; several = v .several; handled = v .handled; fired = v .fired; waiting = v .waiting; drawn = v .drawn;
-        added = v .added; named = all-snoc _ (s .named) p (v .named) h; tracked = v .tracked; line = v .line;
-      } in
-      unless-keeps (ValidOpening c) _ _ s v (λ _. u)
+  naming-valid p s h v = unless-keeps (ValidOpening c) _ _ s v (λ _. record {
+    owners = v .owners; names = v .names; several = v .several; handled = v .handled; fired = v .fired; waiting = v .waiting; drawn = v .drawn;
+    added = v .added; named = all-snoc _ (s .named) p (v .named) h; tracked = v .tracked; line = v .line;
+  })
 
   ready-valid : (p : ℕ) (s : Opening) → p < length (c .parts) → ValidOpening c s → ValidOpening c (openReady c p s)
   unfolding openReady

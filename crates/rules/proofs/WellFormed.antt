@@ -1,22 +1,21 @@
 -- A catalogue that items have given is well formed: every number in it names something given, and its counts keep their ceilings.
-use mathlib.Core.Path.{_≡_, refl, sym, _∙_, ap}
-use mathlib.Core.Bool.{Bool, true, false, not, _&&_, cond, true≢false, false≢true}
-use mathlib.Core.List.{List, [], _∷_, _++_}
+use mathlib.Core.Path.{_≡_, refl, _∙_, ap}
+use mathlib.Core.Bool.{Bool, true, false, not, _&&_, cond}
+use mathlib.Core.List.{List, [], _∷_}
 use mathlib.Core.Option.{Option, none, some}
-use Prim.Native.Nat.{ℕ, zero, suc, _+_, _<_, _≤_}
+use Prim.Native.Nat.{ℕ, zero, suc, _<_, _≤_}
 use native.Mathlib.Nat.{not-suc-le-zero}
 use native.Mathlib.Omega.{arith}
-use lib.Dec.{eqb, ltb, leb}
-use lib.ListN.{length, getD, set, length-append, length-set, List·getD-append}
+use lib.Dec.{eqb, ltb}
+use lib.ListN.{length, getD, length-set, List·getD-append}
 use borrow.Author.Tests.{eqb-true, eqb-false, eq-eqb, ltb-false, leb-false, not-false}
 use Rattle.rules.specs.Lists.{snoc}
 use Rattle.rules.specs.AtMostOne.{bit}
-use Rattle.rules.specs.Catalogue.{Owner, root, part, Goal, range, union, Part, Range, Operator, Condition, leaf, joined, Requirement, Constraint, Catalogue, emptyCatalogue, partAt, rangeAt, requirementAt, constraintAt, nameOf, rangeName, ownerAt, goalAt, conditionAt, unknownOwner}
-use Rattle.rules.specs.Candidates.{goalRanges}
+use Rattle.rules.specs.Catalogue.{Owner, root, part, Goal, range, union, Part, Range, Condition, leaf, joined, Requirement, Constraint, Catalogue, emptyCatalogue, partAt, rangeAt, requirementAt, constraintAt, nameOf, unknownOwner}
 use Rattle.rules.specs.Refusals.{Thing, Refusal, unfit, _if_}
 use Rattle.rules.specs.Records.{Item}
 use Rattle.rules.specs.Items.{ownerOf, conditionOf, goalOf, operatorOf, partOf, withMember, ceiling, given, atCeiling, absent, ownerAbsent, conditionAbsent, itemRefusals, withItem}
-use Rattle.rules.proofs.ListLaws.{All, all-snoc, all-weaken, Each, length-snoc, each-snoc, each-set}
+use Rattle.rules.proofs.ListLaws.{All, all-snoc, all-weaken, length-snoc, each-snoc, each-set}
 use Rattle.rules.proofs.Reached.{Passed, passed, none-left, Given, nothing, item}
 
 -- ---- what each thing of a catalogue has to name
