@@ -13,11 +13,11 @@ use Rattle.rules.specs.Lists.{any, count, elem, snoc, fold, upTo, sum}
 use Rattle.rules.specs.Catalogue.{Owner, root, part, Catalogue, constraintAt, rangeName, ownerAt, goalAt, sameOwner}
 use Rattle.rules.specs.Candidates.{candidates, requirementsOf, constraintsOf}
 use Rattle.rules.specs.Conditions.{unconditional}
-use Rattle.rules.specs.Opening.{Task, owner, name, condition, requirement, constraint, Opening, setOwners, setNames, setAdded, setDrawn, queue, openOwner, openName, openNames, rangesOf, rangesFirst, taskBy, tasksOf, serveOwner, serveName, fire, serveCondition, firedParts, nameForTracking, openReady, markHandled, serveRequirement, serve, beginRun}
+use Rattle.rules.specs.Opening.{Task, owner, name, condition, requirement, constraint, Opening, setOwners, setNames, queue, openOwner, openName, openNames, rangesOf, rangesFirst, taskBy, tasksOf, serveOwner, serveName, fire, serveCondition, firedParts, nameForTracking, openReady, markHandled, serveRequirement, serve, beginRun}
 use Rattle.rules.specs.State.{State, decidedTrue, Run}
 use Rattle.rules.specs.Run.{serveLine, begun, mostTasks, runOnce}
 use Rattle.rules.specs.Limits.{Limits}
-use Rattle.rules.proofs.ListLaws.{All, all-every, upTo-member, length-upTo, upTo-once, count-none, count-map, any-snoc, when-keeps, unless-keeps, fold-keeps, sum-append, sum-map, sum-both, sum-le, sum-falls, sum-constant, sum-owned}
+use Rattle.rules.proofs.ListLaws.{All, all-every, upTo-member, length-upTo, upTo-once, count-none, count-map, any-snoc, when-keeps, unless-keeps, fold-keeps, fold-every, sum-append, sum-map, sum-both, sum-le, sum-falls, sum-constant, sum-owned}
 use Rattle.rules.proofs.Reached.{Given, Reached}
 use Rattle.rules.proofs.WellFormed.{OwnerGiven, WellFormed, well-formed}
 use Rattle.rules.proofs.Line.{serveTask-opening, lineAfter, stateAfter, After, begins, serves, Served, done, next, served-after, firstLine, firstState, runFrom, runEnd, runOnce-is}
@@ -171,15 +171,14 @@ module _ (c : Catalogue) (w : WellFormed c) where
   unfolding serveRequirement
   serveRequirement-todo q is s =
       let ps = candidates c (goalAt c q) in
-      let named = ps ++ firedParts c q is in
       fold-keeps (λ u. todo c u ≤ todo c s) _ (openReady c) ready ps (candidates-given c (goalAt c q)) _
-      (fold-keeps (λ u. todo c u ≤ todo c s) (λ _. Unit {0}) (nameForTracking c) naming named (all-every _ (λ _. tt) named) _ handled)
+      (fold-every (λ u. todo c u ≤ todo c s) (nameForTracking c) naming (ps ++ firedParts c q is) _ handled)
     where
       ready : (p : ℕ) (u : Opening) → p < length (c .parts) → todo c u ≤ todo c s → todo c (openReady c p u) ≤ todo c s
       ready p u h b = unfold openReady in when-keeps (λ v. todo c v ≤ todo c s) _ _ u b (openOwner-todo c (todo c s) (part p) u h b)
 
-      naming : (p : ℕ) (u : Opening) → Unit {0} → todo c u ≤ todo c s → todo c (nameForTracking c p u) ≤ todo c s
-      naming p u h b = unfold nameForTracking in unless-keeps (λ v. todo c v ≤ todo c s) _ _ u b (λ _. b)
+      naming : (p : ℕ) (u : Opening) → todo c u ≤ todo c s → todo c (nameForTracking c p u) ≤ todo c s
+      naming p u b = unfold nameForTracking in unless-keeps (λ v. todo c v ≤ todo c s) _ _ u b (λ _. b)
 
       handled : todo c (markHandled q is s) ≤ todo c s
       handled = unfold markHandled in le-refl _

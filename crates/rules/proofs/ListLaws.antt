@@ -1,6 +1,6 @@
 -- Laws of the lists of specs/Lists.antt that say nothing of catalogues: what holds of every element, lists grown by one, folds, sums.
 use mathlib.Core.Path.{_≡_, refl, ap}
-use mathlib.Core.Bool.{Bool, true, false, _||_, cond}
+use mathlib.Core.Bool.{Bool, true, false, not, _||_, cond}
 use mathlib.Core.List.{List, [], _∷_, _++_, map, List·Memᴰ, List·Memᴰ·head, List·Memᴰ·tail}
 use Prim.Native.Nat.{ℕ, zero, suc, _+_, _*_, _<_, _≤_, zero-le}
 use native.Mathlib.Nat.{le-refl, mul-le-mul-right}
@@ -42,6 +42,18 @@ module _ {A : Type 0} where
       go : (b : Bool) → All P (filter f xs) → All P (elim b [ true ↦ x ∷ filter f xs | false ↦ filter f xs ])
       go true q = (p .0, q)
       go false q = q
+
+  -- those that pass and those that do not
+  pub length-filters : (f : A → Bool) (xs : List A) → length (filter f xs) + length (filter (λ x. not (f x)) xs) ≡ length xs
+  unfolding filter
+  length-filters f [] = omega arith
+  length-filters f (x ∷ xs) = go (f x) (length-filters f xs)
+    where
+      go : (b : Bool) → length (filter f xs) + length (filter (λ x. not (f x)) xs) ≡ length xs
+          → length {A = A} (elim b [ true ↦ x ∷ filter f xs | false ↦ filter f xs ])
+          + length {A = A} (elim (not b) [ true ↦ x ∷ filter (λ x. not (f x)) xs | false ↦ filter (λ x. not (f x)) xs ]) ≡ length (x ∷ xs)
+      go true h = omega arith
+      go false h = omega arith
 
 module _ {A B : Type 0} where
   pub all-map : (P : B → Type 0) (f : A → B) (xs : List A) → All (λ x. P (f x)) xs → All P (map f xs)
@@ -172,6 +184,9 @@ unfolding fold
 fold-keeps P Q f h [] q s p = p
 fold-keeps P Q f h (x ∷ xs) q s p = fold-keeps P Q f h xs (q .1) (f x s) (h x s (q .0) p)
 
+pub fold-every : {A B : Type 0} (P : B → Type 0) (f : A → B → B) → ((x : A) (s : B) → P s → P (f x s)) → (xs : List A) (s : B) → P s → P (fold f xs s)
+fold-every P f h xs s p = fold-keeps P (λ _. Unit {0}) f (λ x s _. h x s) xs (all-every _ (λ _. tt) xs) s p
+
 -- ---- sums
 
 pub sum-append : {A : Type 0} (f : A → ℕ) (xs ys : List A) → sum (map f (xs ++ ys)) ≡ sum (map f xs) + sum (map f ys)
@@ -179,7 +194,8 @@ unfolding sum
 sum-append f [] ys = omega arith
 sum-append f (x ∷ xs) ys = omega (arith, sum-append f xs ys)
 
-pub sum-map : {A B : Type 0} (f : B → ℕ) (g : A → B) (h : A → ℕ) → ((x : A) → f (g x) ≡ h x) → (xs : List A) → sum (map f (map g xs)) ≡ sum (map h xs)
+pub sum-map : {A B : Type 0} (f : B → ℕ) (g : A → B) (h : A → ℕ) → ((x : A) → f (g x) ≡ h x)
+    → (xs : List A) → sum (map f (map g xs)) ≡ sum (map h xs)
 unfolding sum
 sum-map f g h e [] = refl
 sum-map f g h e (x ∷ xs) = omega (arith, e x, sum-map f g h e xs)

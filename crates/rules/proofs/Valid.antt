@@ -1,13 +1,14 @@
 -- A reached state is valid, and so is every point of a run: each number in its opening names something that the catalogue gives.
 use mathlib.Core.Path.{_≡_, refl, _∙_, ap}
-use mathlib.Core.Bool.{Bool, true, false}
+use mathlib.Core.Bool.{Bool, true, false, true≢false}
 use mathlib.Core.List.{List, [], _∷_, _++_, map}
+use mathlib.Core.Option.{Option, none, some}
 use Prim.Native.Nat.{ℕ, _<_}
 use lib.ListN.{length}
 use Rattle.rules.specs.Lists.{filter, concatMap, upTo}
-use Rattle.rules.specs.Catalogue.{Owner, part, Goal, range, union, Catalogue, rangeName, goalAt}
+use Rattle.rules.specs.Catalogue.{Owner, part, Goal, range, union, Catalogue, rangeName, goalAt, conditionAt}
 use Rattle.rules.specs.Candidates.{partsOf, matching, nonMatching, favouredFirst, sorted, goalRanges, candidates, requirementsOf, constraintsOf}
-use Rattle.rules.specs.Conditions.{disjunctsOf, disjunctAt, indices, unconditional}
+use Rattle.rules.specs.Conditions.{isNone, disjunctsOf, disjunctAt, indices, unconditional}
 use Rattle.rules.specs.Records.{Command}
 use Rattle.rules.specs.Items.{ownerOf}
 use Rattle.rules.specs.Opening.{Task, owner, name, condition, requirement, constraint, Opening, setAdded, setDrawn, setLine, unopened, queue, openOwner, openName, markHandled, add, openNames, rangesOf, rangesFirst, taskBy, tasksOf, serveOwner, serveName, fire, serveCondition, firedParts, nameForTracking, openReady, serveRequirement, serve, draw, beginRun, joining, endRun}
@@ -16,8 +17,8 @@ use Rattle.rules.specs.Run.{serveTask, begun, mostTasks, runOnce}
 use Rattle.rules.specs.Limits.{Limits}
 use Rattle.rules.specs.Sheet.{decide, commandRefusals, carriedOut}
 use Rattle.rules.proofs.ListLaws.{All, all-append, all-snoc, all-weaken, filter-all, all-map, all-concatMap, every-concatMap, upTo-below, when-keeps, unless-keeps, fold-keeps}
-use Rattle.rules.proofs.Reached.{Passed, Given, Reached, command}
-use Rattle.rules.proofs.WellFormed.{OwnerGiven, GoalGiven, WellFormed, well-formed, tested, passes, owner-present}
+use Rattle.rules.proofs.Reached.{Passed, tested, passes, Given, Reached, command}
+use Rattle.rules.proofs.WellFormed.{OwnerGiven, GoalGiven, ConditionGiven, WellFormed, well-formed, owner-present}
 use Rattle.rules.proofs.Line.{serveTask-opening, After, begins, serves, serveLine-after, firstLine, firstState, runFrom, runEnd, runEnd-opening, runOnce-is}
 
 -- ---- what an opening may name
@@ -60,6 +61,15 @@ module _ (c : Catalogue) where
     pub opening : ValidOpening (s .opening)
     pub line-empty : s .opening .line ≡ []
     pub named-empty : s .opening .named ≡ []
+
+-- an entry's condition, and that it is given
+pub entry-condition : {c : Catalogue} → WellFormed c → {e : ℕ × ℕ} → Entry c e → (k : ℕ) × (conditionAt c (e .0) ≡ some k) × (k < length (c .conditions))
+unfolding unconditional
+entry-condition {c} w {e} h = go (conditionAt c (e .0)) (h .conditional) (w .requirements (e .0) (h .requirement) .condition)
+  where
+    go : (o : Option ℕ) → isNone o ≡ false → ConditionGiven c o → (k : ℕ) × (o ≡ some k) × (k < length (c .conditions))
+    go none n g = absurd (true≢false n)
+    go (some k) n g = (k, refl, g)
 
 -- ---- the lists that follow from a catalogue name what it gives
 
@@ -109,10 +119,11 @@ module _ (c : Catalogue) (w : WellFormed c) where
   pub rangesFirst-given : (o : Owner) → All (λ r. r < length (c .ranges)) (rangesFirst c o)
   unfolding rangesFirst
   rangesFirst-given o =
-      let qs = filter (unconditional c) (requirementsOf c o) in
-      all-append _ (concatMap (rangesOf c) qs) _
-      (all-concatMap _ (rangesOf c) qs (all-weaken _ _ rangesOf-given qs (filter-all _ _ (requirementsOf c o) (requirementsOf-given c o))))
-      (all-map _ _ (constraintsOf c o) (all-weaken _ _ (λ k h. w .constraints k h .range) (constraintsOf c o) (constraintsOf-given c o)))
+      let qs = requirementsOf c o in
+      let ks = constraintsOf c o in
+      all-append _ (concatMap (rangesOf c) (filter _ qs)) _
+      (all-concatMap _ (rangesOf c) (filter _ qs) (all-weaken _ _ rangesOf-given (filter _ qs) (filter-all _ _ qs (requirementsOf-given c o))))
+      (all-map _ _ ks (all-weaken _ _ (λ k h. w .constraints k h .range) ks (constraintsOf-given c o)))
 
   task-given : (q : ℕ) → q < length (c .requirements) → TaskGiven c (taskBy c (unconditional c q) q)
   unfolding taskBy
@@ -161,7 +172,8 @@ module _ (c : Catalogue) (w : WellFormed c) where
   unfolding openNames
   openNames-valid rs s h v = fold-keeps (ValidOpening c) _ _ (λ r u l. openName-valid (rangeName c r) u (w .ranges r l .name)) rs h s v
 
-  fire-valid : (q : ℕ) (is : List ℕ) (s : Opening) → q < length (c .requirements) → All (λ i. Entry c (q, i)) is → ValidOpening c s → ValidOpening c (fire c q is s)
+  fire-valid : (q : ℕ) (is : List ℕ) (s : Opening) → q < length (c .requirements) → All (λ i. Entry c (q, i)) is → ValidOpening c s
+      → ValidOpening c (fire c q is s)
   unfolding fire
   fire-valid q [] s h es v = v
   fire-valid q (i ∷ is) s h es v = queue-valid (requirement q (i ∷ is)) _ (h, es) (openNames-valid (rangesOf c q) s (rangesOf-given q h) v)
@@ -269,10 +281,10 @@ module _ (c : Catalogue) (w : WellFormed c) where
     added = v .added; named = tt; tracked = all-append _ (s .tracked) _ (v .tracked) (joining-given s v); line = v .line;
   }
 
-  -- ---- a run
+  -- ---- every point of a run
 
-  -- at every point of a run
-  pub point-valid : (r : Run) {ts₀ : List Task} {s₀ : State} → ValidPoint c ts₀ s₀ → {n : ℕ} {ts : List Task} {s : State} → After c r ts₀ s₀ n ts s → ValidPoint c ts s
+  pub point-valid : (r : Run) {ts₀ : List Task} {s₀ : State} → ValidPoint c ts₀ s₀ → {n : ℕ} {ts : List Task} {s : State} → After c r ts₀ s₀ n ts s
+      → ValidPoint c ts s
   point-valid r v begins = v
   point-valid r v (serves {t = t} {ts = ts} {s = s} a) =
       let u = point-valid r v a in

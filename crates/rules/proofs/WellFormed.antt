@@ -1,9 +1,9 @@
 -- A catalogue that items have given is well formed: every number in it names something given, and its counts keep their ceilings.
 use mathlib.Core.Path.{_≡_, refl, _∙_, ap}
 use mathlib.Core.Bool.{Bool, true, false, not, _&&_, cond}
-use mathlib.Core.List.{List, [], _∷_}
+use mathlib.Core.List.{[], _∷_}
 use mathlib.Core.Option.{Option, none, some}
-use Prim.Native.Nat.{ℕ, zero, suc, _<_, _≤_}
+use Prim.Native.Nat.{ℕ, _<_, _≤_}
 use native.Mathlib.Nat.{not-suc-le-zero}
 use native.Mathlib.Omega.{arith}
 use lib.Dec.{eqb, ltb}
@@ -12,11 +12,11 @@ use borrow.Author.Tests.{eqb-true, eqb-false, eq-eqb, ltb-false, leb-false, not-
 use Rattle.rules.specs.Lists.{snoc}
 use Rattle.rules.specs.AtMostOne.{bit}
 use Rattle.rules.specs.Catalogue.{Owner, root, part, Goal, range, union, Part, Range, Condition, leaf, joined, Requirement, Constraint, Catalogue, emptyCatalogue, partAt, rangeAt, requirementAt, constraintAt, nameOf, unknownOwner}
-use Rattle.rules.specs.Refusals.{Thing, Refusal, unfit, _if_}
+use Rattle.rules.specs.Refusals.{Thing}
 use Rattle.rules.specs.Records.{Item}
 use Rattle.rules.specs.Items.{ownerOf, conditionOf, goalOf, operatorOf, partOf, withMember, ceiling, given, atCeiling, absent, ownerAbsent, conditionAbsent, itemRefusals, withItem}
 use Rattle.rules.proofs.ListLaws.{All, all-snoc, all-weaken, length-snoc, each-snoc, each-set}
-use Rattle.rules.proofs.Reached.{Passed, passed, none-left, Given, nothing, item}
+use Rattle.rules.proofs.Reached.{Passed, tested, passes, Given, nothing, item}
 
 -- ---- what each thing of a catalogue has to name
 
@@ -68,6 +68,7 @@ pub record Ceilings (c : Catalogue) : Type 0 where
   pub requirements : length (c .requirements) ≤ ceiling Thing.requirement
   pub constraints : length (c .constraints) ≤ ceiling Thing.constraint
 
+-- by number, as the definitions look things up
 pub record WellFormed (c : Catalogue) : Type 0 where
   pub parts : (p : ℕ) → p < length (c .parts) → nameOf c p < length (c .names)
   pub ranges : (r : ℕ) → r < length (c .ranges) → RangeFits c (rangeAt c r)
@@ -152,19 +153,13 @@ module _ (c : Catalogue) (i : Item) where
   }
 
   constraint-stays : {x : Constraint} → ConstraintFits c x → ConstraintFits after x
-  constraint-stays {x} f = record { owner = owner-stays (x .owner) (f .owner); known = known-stays (x .owner) (f .owner) (f .known); range = omega (arith, grown c i) }
+  constraint-stays {x} f = record {
+    owner = owner-stays (x .owner) (f .owner);
+    known = known-stays (x .owner) (f .owner) (f .known);
+    range = omega (arith, grown c i);
+  }
 
 -- ---- what a record's tests have shown
-
--- test n of the list
-unfoldable pub tested : List (Refusal × Bool) → ℕ → Bool
-tested ts n = (getD ts n (unfit if false)) .1
-
-pub passes : {ts : List (Refusal × Bool)} → Passed ts → (n : ℕ) → tested ts n ≡ false
-unfolding tested
-passes none-left n = refl
-passes (passed p) zero = refl
-passes (passed p) (suc n) = passes p n
 
 module _ (c : Catalogue) where
   present : (t : Thing) (n : ℕ) → absent c t n ≡ false → n < given c t
@@ -202,7 +197,7 @@ module _ (c : Catalogue) where
           let one : form ≡ 1 = omega (arith, eqb-false form 0 e, ltb-false 1 form l) in
           present Thing.union n (rw (eq-eqb form 1 one) at b)
 
--- ---- each item keeps it
+-- ---- each item keeps a catalogue well formed
 
 ceilings-kept : (c : Catalogue) (i : Item) → Passed (itemRefusals c i) → Ceilings c → Ceilings (withItem c i)
 unfolding itemRefusals tested withItem given
@@ -249,7 +244,8 @@ kept c (Item.part n flags u e) p v m =
     let x = each-snoc (λ _ (q : Part). q .name < length (c .names)) _ (c .parts) (partOf n flags u e) (v .parts) (present c Thing.name n (passes p 1)) in
     record { parts = x; ranges = v .ranges; unions = v .unions; conditions = v .conditions; requirements = v .requirements; constraints = v .constraints; ceilings = m }
 kept c (Item.range n) p v m =
-    let x = each-snoc (λ _. RangeFits (withItem c (Item.range n))) _ (c .ranges) _ (v .ranges) (record { name = present c Thing.name n (passes p 1); members = tt }) in
+    let i = Item.range n in
+    let x = each-snoc (λ _. RangeFits (withItem c i)) _ (c .ranges) _ (v .ranges) (record { name = present c Thing.name n (passes p 1); members = tt }) in
     record { parts = v .parts; ranges = x; unions = v .unions; conditions = v .conditions; requirements = v .requirements; constraints = v .constraints; ceilings = m }
 kept c (Item.member r q) p v m =
     let old = v .ranges r (present c Thing.range r (passes p 0)) in
@@ -270,7 +266,8 @@ kept c (Item.leaf r) p v m =
     let x = each-snoc (ConditionFits c) _ (c .conditions) (leaf r) (v .conditions) (present c Thing.range r (passes p 1)) in
     record { parts = v .parts; ranges = v .ranges; unions = v .unions; conditions = x; requirements = v .requirements; constraints = v .constraints; ceilings = m }
 kept c (Item.joined o l r) p v m =
-    let halves : (l < length (c .conditions)) × (r < length (c .conditions)) = (present c Thing.condition l (passes p 1), present c Thing.condition r (passes p 2)) in
+    let k = length (c .conditions) in
+    let halves : (l < k) × (r < k) = (present c Thing.condition l (passes p 1), present c Thing.condition r (passes p 2)) in
     let x = each-snoc (ConditionFits c) _ (c .conditions) (joined (operatorOf o) l r) (v .conditions) halves in
     record { parts = v .parts; ranges = v .ranges; unions = v .unions; conditions = x; requirements = v .requirements; constraints = v .constraints; ceilings = m }
 kept c (Item.requirement o form n k) p v m =
@@ -293,7 +290,7 @@ kept c (Item.constraint o r) p v m =
     let x = each-snoc (λ _. ConstraintFits (withItem c i)) _ (c .constraints) _ (v .constraints) (constraint-stays c i new) in
     record { parts = v .parts; ranges = v .ranges; unions = v .unions; conditions = v .conditions; requirements = v .requirements; constraints = x; ceilings = m }
 
--- ---- and so does every given catalogue
+-- ---- so every given catalogue is well formed
 
 none-yet : WellFormed emptyCatalogue
 none-yet = record {
