@@ -69,16 +69,16 @@ module _ (c : Catalogue) (r : Run) where
   unfolding serveTask
   serveTask-opening t s = emit-opening (served t) (setOpening (serve c (decidedTrue s) t (s .opening)) s)
 
-  emitAll-opening : (es : List Event) (s : State) → (emitAll c r es s) .opening ≡ s .opening
+  pub emitAll-opening : (es : List Event) (s : State) → (emitAll c r es s) .opening ≡ s .opening
   unfolding emitAll fold
   emitAll-opening [] s = refl
   emitAll-opening (e ∷ es) s = emitAll-opening es (emit c r e s) ∙ emit-opening e s
 
-  joinAll-opening : (s : State) → (joinAll c r s) .opening ≡ endRun c (s .opening)
+  pub joinAll-opening : (s : State) → (joinAll c r s) .opening ≡ endRun c (s .opening)
   unfolding joinAll
   joinAll-opening s = emitAll-opening _ _
 
-  linkAll-opening : (s : State) → (linkAll c r s) .opening ≡ s .opening
+  pub linkAll-opening : (s : State) → (linkAll c r s) .opening ≡ s .opening
   unfolding linkAll
   linkAll-opening s = emitAll-opening _ _
 
