@@ -1,25 +1,26 @@
 -- In a run variables, clauses and waiting entries are only added at the end of their lists. So what is above a limit stays above it
 -- (READINGS.md, 22): a run that stops at the first excess gives the same answer.
 use mathlib.Core.Path.{_≡_, refl, sym, _∙_, ap}
-use mathlib.Core.Bool.{Bool, true, false, not, _&&_, _||_, true≢false, false≢true}
+use mathlib.Core.Bool.{Bool, true, false, _||_}
 use mathlib.Core.List.{List, [], _∷_, _++_, map, append-nil, append-assoc}
-use Prim.Native.Nat.{ℕ, zero, suc, _+_, _<_, _≤_}
+use Prim.Native.Nat.{ℕ, zero, suc, _≤_}
 use native.Mathlib.Omega.{arith}
 use lib.Dec.{ltb}
 use lib.ListN.{length, length-append}
 use borrow.Author.Tests.{ltb-true, lt-ltb}
-use Rattle.rules.specs.Lists.{any, elem, snoc, fold, when, unless, sum}
+use Rattle.rules.specs.Lists.{snoc, fold, when, unless, sum}
 use Rattle.rules.specs.Literal.{Literal, pos, neg}
 use Rattle.rules.specs.Clause.{Clause, install, requires, gated, excluded, constrains, forbid, auxOut, auxOwner, lock, anyGate, anyOne, conditionLiterals}
-use Rattle.rules.specs.Catalogue.{Owner, part, Catalogue, partAt, nameOf, rangeName, severalAllowed, goalAt, sameOwner, unknownOwner}
+use Rattle.rules.specs.Catalogue.{Owner, part, Catalogue, rangeName, goalAt}
 use Rattle.rules.specs.Candidates.{candidates}
-use Rattle.rules.specs.Decisions.{Evaluation, undecided, satisfied, falsified, evaluate, isUndecided}
+use Rattle.rules.specs.Decisions.{Evaluation, undecided, satisfied, falsified}
 use Rattle.rules.specs.Variables.{Origin, known, withVariable, withVariables}
-use Rattle.rules.specs.Opening.{Task, owner, name, condition, requirement, constraint, Opening, setOwners, setNames, setSeveral, setNamed, setAdded, setDrawn, setLine, queue, openOwner, openName, openNames, rangesOf, rangesFirst, tasksOf, serveOwner, serveName, fire, serveCondition, firedParts, nameForTracking, openReady, markHandled, serveRequirement, serve, beginRun, joining, endRun, mostTasks}
+use Rattle.rules.specs.Opening.{Task, owner, name, condition, requirement, constraint, Opening, setAdded, setDrawn, queue, openOwner, openName, openNames, rangesOf, rangesFirst, tasksOf, serveOwner, serveName, fire, serveCondition, firedParts, nameForTracking, openReady, markHandled, serveRequirement, serve, beginRun, endRun}
 use Rattle.rules.specs.Encoding.{Event, served, origins, clauses}
 use Rattle.rules.specs.State.{State, setOpening, setVariables, setClauses, decidedTrue, Run, report, force, propagateBy, propagate, effect, effects, emit, emitAll}
-use Rattle.rules.specs.Run.{lineTaken, joinsFrom, linksFor, serveTask, serveLine, joinAll, linkAll, begun, runOnce}
+use Rattle.rules.specs.Run.{lineTaken, serveTask, serveLine, joinAll, linkAll, begun, runOnce}
 use Rattle.rules.specs.Limits.{Limits, above}
+use Rattle.rules.proofs.ListLaws.{sum-append}
 
 -- ---- a list and what was added at its end
 
@@ -68,11 +69,11 @@ queue-waits t s = record { waits = whole }
 
 openOwner-waits : (o : Owner) (s : Opening) → Waits s (openOwner o s)
 unfolding openOwner queue
-openOwner-waits o s = unless-waits (any (sameOwner o) (s .owners)) _ (λ u. record { waits = whole }) s
+openOwner-waits o s = unless-waits _ _ (λ u. record { waits = whole }) s
 
 openName-waits : (n : ℕ) (s : Opening) → Waits s (openName n s)
 unfolding openName queue
-openName-waits n s = unless-waits (elem n (s .names)) _ (λ u. record { waits = whole }) s
+openName-waits n s = unless-waits _ _ (λ u. record { waits = whole }) s
 
 module _ (c : Catalogue) where
   openNames-waits : (rs : List ℕ) (s : Opening) → Waits s (openNames c rs s)
@@ -81,7 +82,7 @@ module _ (c : Catalogue) where
 
   owner-waits : (o : Owner) (s : Opening) → Waits s (serveOwner c o s)
   unfolding serveOwner
-  owner-waits o s = unless-waits (unknownOwner c o) _ (λ u. then (openNames-waits (rangesFirst c o) u) (each queue queue-waits (tasksOf c o) _)) s
+  owner-waits o s = unless-waits _ _ (λ u. then (openNames-waits (rangesFirst c o) u) (each queue queue-waits (tasksOf c o) _)) s
 
   fire-waits : (q : ℕ) (is : List ℕ) (s : Opening) → Waits s (fire c q is s)
   unfolding fire
@@ -90,11 +91,11 @@ module _ (c : Catalogue) where
 
   naming-waits : (p : ℕ) (s : Opening) → Waits s (nameForTracking c p s)
   unfolding nameForTracking
-  naming-waits p s = unless-waits (elem (nameOf c p) (s .several) || elem p (s .named)) _ (λ u. record { waits = whole }) s
+  naming-waits p s = unless-waits _ _ (λ u. record { waits = whole }) s
 
   ready-waits : (p : ℕ) (s : Opening) → Waits s (openReady c p s)
   unfolding openReady
-  ready-waits p s = when-waits ((partAt c p) .ready) (openOwner (part p)) (openOwner-waits (part p)) s
+  ready-waits p s = when-waits _ _ (openOwner-waits (part p)) s
 
   handled-waits : (q : ℕ) (is : List ℕ) (s : Opening) → Waits s (markHandled q is s)
   unfolding markHandled
@@ -103,7 +104,7 @@ module _ (c : Catalogue) where
   serve-waits : (f : ℕ → Bool) (t : Task) (s : Opening) → Waits s (serve c f t s)
   unfolding serve serveName serveCondition serveRequirement
   serve-waits f (owner o) s = owner-waits o s
-  serve-waits f (name n) s = when-waits (severalAllowed c n) (λ (u : Opening). setSeveral (snoc (u .several) n) u) (λ u. record { waits = whole }) s
+  serve-waits f (name n) s = when-waits _ _ (λ u. record { waits = whole }) s
   serve-waits f (condition q) s = then (record { waits = ending (s .waiting) _ }) (fire-waits q _ _)
   serve-waits f (requirement q is) s =
       then (handled-waits q is s) (then (each (nameForTracking c) naming-waits (candidates c (goalAt c q) ++ firedParts c q is) _)
@@ -158,7 +159,7 @@ withVariables-prefix (o ∷ os) vs = longer (withVariable-prefix o vs) (withVari
 module _ (c : Catalogue) (r : Run) where
   force-grows : (i : ℕ) (l : Literal) (s : State) → Grows s (force r i l s)
   unfolding force
-  force-grows i l s = when-grows (isUndecided (evaluate (s .decisions) l)) _ (λ u. record { variables = whole; clauses = whole; waiting = whole }) s
+  force-grows i l s = when-grows _ _ (λ u. record { variables = whole; clauses = whole; waiting = whole }) s
 
   report-grows : (i : ℕ) (s : State) → Grows s (report r i s)
   unfolding report
@@ -234,24 +235,15 @@ runOnce-grows c level s =
     let s₁ = begun c s in
     let w = begin-waits c (s .opening) in
     and-then {s′ = lineTaken s₁} (record { variables = whole; clauses = whole; waiting = w .waits })
-    (and-then (serveLine-grows c r (mostTasks c (s₁ .opening)) (s₁ .opening .line) (lineTaken s₁)) (and-then (joinAll-grows c r _) (linkAll-grows c r _)))
+    (and-then (serveLine-grows c r _ (s₁ .opening .line) (lineTaken s₁)) (and-then (joinAll-grows c r _) (linkAll-grows c r _)))
 
 -- ---- above a limit, and still above it
 
 prefix-length : {A : Type 0} {xs ys : List A} → Prefix xs ys → length xs ≤ length ys
 prefix-length {A} {xs} p = rw (p .is, length-append xs (p .more)) (omega arith)
 
-sum-append : (ms ns : List ℕ) → sum (ms ++ ns) ≡ sum ms + sum ns
-unfolding sum
-sum-append [] ns = omega arith
-sum-append (m ∷ ms) ns = omega (arith, sum-append ms ns)
-
-map-append : {A B : Type 0} (f : A → B) (xs ys : List A) → map f (xs ++ ys) ≡ map f xs ++ map f ys
-map-append f [] ys = refl
-map-append f (x ∷ xs) ys = ap (λ l. f x ∷ l) (map-append f xs ys)
-
 prefix-sum : {xs ys : List Clause} → Prefix xs ys → sum (map conditionLiterals xs) ≤ sum (map conditionLiterals ys)
-prefix-sum {xs} p = rw (p .is, map-append conditionLiterals xs (p .more), sum-append (map conditionLiterals xs) (map conditionLiterals (p .more))) (omega arith)
+prefix-sum {xs} p = rw (p .is, sum-append conditionLiterals xs (p .more)) (omega arith)
 
 over : (l m n : ℕ) → m ≤ n → ltb l m ≡ true → ltb l n ≡ true
 over l m n h e = let a = ltb-true l m e in lt-ltb l n (omega arith)

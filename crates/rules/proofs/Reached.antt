@@ -6,7 +6,7 @@ use mathlib.Core.List.{List, [], _∷_}
 use mathlib.Core.Option.{Option, none, some}
 use Prim.Native.Nat.{ℕ, zero, suc}
 use lib.Dec.{ltb}
-use lib.ListN.{length, take}
+use lib.ListN.{length, getD, take}
 use Rattle.rules.specs.Truth.{same}
 use Rattle.rules.specs.Compute.{computing}
 use Rattle.rules.specs.Lists.{all}
@@ -28,6 +28,16 @@ use Rattle.rules.specs.Job.{Progress, reading, carrying, stopped, bodyOf
 pub data Passed : List (Refusal × Bool) → Type 0 where
   none-left : Passed []
   passed : {f : Refusal} {ts : List (Refusal × Bool)} → Passed ts → Passed ((f if false) ∷ ts)
+
+-- test n of a list of refusals
+unfoldable pub tested : List (Refusal × Bool) → ℕ → Bool
+tested ts n = (getD ts n (unfit if false)) .1
+
+pub passes : {ts : List (Refusal × Bool)} → Passed ts → (n : ℕ) → tested ts n ≡ false
+unfolding tested
+passes none-left n = refl
+passes (passed p) zero = refl
+passes (passed p) (suc n) = passes p n
 
 pub unlessAny-ok : {A : Type 0} (ts : List (Refusal × Bool)) (x y : A) → unlessAny ts x ≡ ok y → Passed ts × (x ≡ y)
 unfolding unlessAny
