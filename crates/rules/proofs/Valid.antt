@@ -243,7 +243,7 @@ module _ (c : Catalogue) (w : WellFormed c) where
   unfolding add
   add-valid o s h v = record {
     owners = v .owners; names = v .names; several = v .several; handled = v .handled; fired = v .fired; waiting = v .waiting; drawn = v .drawn;
-    added = all-snoc _ (s .added) o (v .added) h; named = v .named; tracked = v .tracked; line = v .line;
+    added = unless-keeps (All (OwnerGiven c)) _ _ (s .added) (v .added) (λ _. all-snoc _ (s .added) o (v .added) h); named = v .named; tracked = v .tracked; line = v .line;
   }
 
   draw-valid : (f : ℕ → Bool) (k : ℕ) (s : Opening) → ValidOpening c s → ValidOpening c (draw c f k s)

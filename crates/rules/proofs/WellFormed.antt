@@ -1,6 +1,6 @@
 -- A catalogue that items have given is well formed: every number in it names something given, and its counts keep their ceilings.
 use mathlib.Core.Path.{_≡_, refl, _∙_, ap}
-use mathlib.Core.Bool.{Bool, true, false, not, _&&_, cond}
+use mathlib.Core.Bool.{Bool, true, false, not, _&&_, _||_, cond, false≢true}
 use mathlib.Core.List.{[], _∷_}
 use mathlib.Core.Option.{Option, none, some}
 use Prim.Native.Nat.{ℕ, _<_, _≤_}
@@ -40,7 +40,7 @@ module _ (c : Catalogue) where
 
   pub record RangeFits (x : Range) : Type 0 where
     pub name : x .name < length (c .names)
-    pub members : All (MemberOf (x .name)) (x .members)
+    pub members : (p : ℕ) → x .members p ≡ true → MemberOf (x .name) p
 
   -- condition k: its range is given, or its halves have smaller numbers
   abbrev pub ConditionFits : ℕ → Condition → Type 0
@@ -91,7 +91,7 @@ grown : (c : Catalogue) (i : Item) → Grown c (withItem c i)
 unfolding withItem
 grown c (Item.name flags) = omega (arith, length-snoc (c .names) (bit 0 flags))
 grown c (Item.part n flags u e) = omega (arith, length-snoc (c .parts) (partOf n flags u e))
-grown c (Item.range n) = omega (arith, length-snoc (c .ranges) (record { name = n; members = [] }))
+grown c (Item.range n) = omega (arith, length-snoc (c .ranges) (record { name = n; members = λ _. false }))
 grown c (Item.member r p) = omega (arith, length-set (c .ranges) r (withMember p (rangeAt c r)))
 grown c Item.union = omega (arith, length-snoc (c .unions) [])
 grown c (Item.unionMember u r) = omega (arith, length-set (c .unions) u (snoc (getD (c .unions) u []) r))
@@ -138,7 +138,7 @@ module _ (c : Catalogue) (i : Item) where
   member-stays {n} {p} m = record { given = omega (arith, grown c i); name = ap (λ (x : Part). x .name) (same-part c i p (m .given)) ∙ m .name }
 
   range-stays : {x : Range} → RangeFits c x → RangeFits after x
-  range-stays {x} f = record { name = omega (arith, grown c i); members = all-weaken _ _ (λ p. member-stays) (x .members) (f .members) }
+  range-stays {x} f = record { name = omega (arith, grown c i); members = λ p e. member-stays (f .members p e) }
 
   fits-stays : (k : ℕ) (x : Condition) → ConditionFits c k x → ConditionFits after k x
   fits-stays k (leaf r) h = omega (arith, grown c i)
@@ -199,11 +199,17 @@ module _ (c : Catalogue) where
 
 -- ---- each item keeps a catalogue well formed
 
+-- the new member, or one of the old
+member-or : (c : Catalogue) (i : Item) (b : Bool) {n : ℕ} {was : Bool} (x q : ℕ) → eqb x q ≡ b → MemberOf c n q → (was ≡ true → MemberOf (withItem c i) n x)
+    → (b || was) ≡ true → MemberOf (withItem c i) n x
+member-or c i true x q e new old h = rw (eqb-true x q e) (member-stays c i new)
+member-or c i false x q e new old h = old h
+
 ceilings-kept : (c : Catalogue) (i : Item) → Passed (itemRefusals c i) → Ceilings c → Ceilings (withItem c i)
 unfolding itemRefusals tested withItem given
 ceilings-kept c (Item.name flags) p h = omega (arith, below-ceiling c Thing.name (passes p 0), length-snoc (c .names) (bit 0 flags))
 ceilings-kept c (Item.part n flags u e) p h = omega (arith, below-ceiling c Thing.part (passes p 0), length-snoc (c .parts) (partOf n flags u e))
-ceilings-kept c (Item.range n) p h = omega (arith, below-ceiling c Thing.range (passes p 0), length-snoc (c .ranges) (record { name = n; members = [] }))
+ceilings-kept c (Item.range n) p h = omega (arith, below-ceiling c Thing.range (passes p 0), length-snoc (c .ranges) (record { name = n; members = λ _. false }))
 ceilings-kept c (Item.member r q) p h = omega (arith, length-set (c .ranges) r (withMember q (rangeAt c r)))
 ceilings-kept c Item.union p h = omega (arith, below-ceiling c Thing.union (passes p 0), length-snoc (c .unions) [])
 ceilings-kept c (Item.unionMember u r) p h = omega (arith, length-set (c .unions) u (snoc (getD (c .unions) u []) r))
@@ -245,13 +251,13 @@ kept c (Item.part n flags u e) p v m =
     record { parts = x; ranges = v .ranges; unions = v .unions; conditions = v .conditions; requirements = v .requirements; constraints = v .constraints; ceilings = m }
 kept c (Item.range n) p v m =
     let i = Item.range n in
-    let x = each-snoc (λ _. RangeFits (withItem c i)) _ (c .ranges) _ (v .ranges) (record { name = present c Thing.name n (passes p 1); members = tt }) in
+    let x = each-snoc (λ _. RangeFits (withItem c i)) _ (c .ranges) _ (v .ranges) (record { name = present c Thing.name n (passes p 1); members = λ q e. absurd (false≢true e) }) in
     record { parts = v .parts; ranges = x; unions = v .unions; conditions = v .conditions; requirements = v .requirements; constraints = v .constraints; ceilings = m }
 kept c (Item.member r q) p v m =
     let old = v .ranges r (present c Thing.range r (passes p 0)) in
     let new : MemberOf c ((rangeAt c r) .name) q = record { given = present c Thing.part q (passes p 1); name = eqb-true _ _ (not-false _ (passes p 2)) } in
     let i = Item.member r q in
-    let ms = all-snoc _ ((rangeAt c r) .members) q (old .members) (member-stays c i new) in
+    let ms : (x : ℕ) → (eqb x q || (rangeAt c r) .members x) ≡ true → MemberOf (withItem c i) ((rangeAt c r) .name) x = λ x. member-or c i (eqb x q) x q refl new (old .members x) in
     let x = each-set (λ _. RangeFits (withItem c i)) _ (c .ranges) r _ (v .ranges) (record { name = old .name; members = ms }) in
     record { parts = v .parts; ranges = x; unions = v .unions; conditions = v .conditions; requirements = v .requirements; constraints = v .constraints; ceilings = m }
 kept c Item.union p v m =

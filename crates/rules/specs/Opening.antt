@@ -78,7 +78,7 @@ unfoldable pub markHandled : ℕ → List ℕ → Opening → Opening
 markHandled q is s = setFired (s .fired ++ map (λ i. (q, i)) is) (setHandled (snoc (s .handled) q) s)
 
 unfoldable pub add : Owner → Opening → Opening
-add o s = setAdded (snoc (s .added) o) s
+add o s = setAdded (unless (any (sameOwner o) (s .added)) (λ os. snoc os o) (s .added)) s
 
 module _ (c : Catalogue) where
   unfoldable pub openNames : List ℕ → Opening → Opening
