@@ -33,6 +33,9 @@ use Rattle.rules.proofs.Member.{never-true, implies-out, implies-in, al
 abbrev pub Low : List Origin → List Literal → Type 0
 Low vs ls = (l : Literal) → l ∈ ls → l .variable < length vs
 
+abbrev signed : Bool → ℕ → Literal
+signed b x = record { variable = x; positive = b }
+
 -- the stored clauses are those that the opening calls for
 pub record Encodes (c : Catalogue) (o : Opening) (vs : List Origin) (ks : List Clause) : Type 0 where
   pub stored : (k : Clause) → k ∈ ks → Called c o vs k
@@ -90,9 +93,12 @@ shape-fires : (k : ℕ) (w : Owner) (n : ℕ) → shape (some k) w n ≡ onFirin
 unfolding shape
 shape-fires k w n = refl
 
-shape-none : (x : Option ℕ) (w : Owner) (n : ℕ) → (shape x w n ≡ onFiring → ⊥) → x ≡ none
+shape-none : (x : Option ℕ) (w : Owner) (n : ℕ) → (shape x w n ≡ onFiring → _≡_ {A = ℕ} 0 1) → x ≡ none
 shape-none none w n h = refl
-shape-none (some k) w n h = absurd (h (shape-fires k w n))
+shape-none (some k) w n h = absurd (not-one (h (shape-fires k w n)))
+
+unfired : (c : Catalogue) (q : ℕ) → (shapeOf c q ≡ onFiring → _≡_ {A = ℕ} 0 1) → conditionAt c q ≡ none
+unfired c q h = shape-none (conditionAt c q) (ownerAt c q) _ h
 
 shape-some : (x : Option ℕ) (w : Owner) (n : ℕ) → shape x w n ≡ onFiring → (k : ℕ) × (x ≡ some k)
 unfolding shape shapeBy
@@ -143,7 +149,7 @@ module _ {vs : List Origin} {P : Parts} {v : Values} (f : Fits vs P v) where
   unit-out p h = never-true (P p) (λ t. false≢true (implies-out (v (partVariable vs p)) false (h .holds) (first-is (part p) [] h ∙ t)))
 
   -- not w, or y has the value b
-  then-out : (w : Owner) (y : ℕ) (b : Bool) → Holds vs v (neg (variableOf vs (chosen w)) ∷ record { variable = y; positive = b } ∷ []) → chosenIn P w ≡ true → v y ≡ b
+  then-out : (w : Owner) (y : ℕ) (b : Bool) → Holds vs v (neg (variableOf vs (chosen w)) ∷ signed b y ∷ []) → chosenIn P w ≡ true → v y ≡ b
   then-out w y b h t = agree-out (v (variableOf vs (chosen w))) (v y) b (h .holds) (first-is w _ h ∙ t)
 
   -- y, or not w
@@ -295,18 +301,111 @@ module _ (c : Catalogue) (o : Opening) (P : Parts) where
       go (gate g) = tt
 
   module _ (vs : List Origin) where
-    value-is : (x : Origin) (b : Bool) (ls : List Literal) → Low vs ls → record { variable = variableOf vs x; positive = b } ∈ ls → values vs (variableOf vs x) ≡ value x
+    value-is : (x : Origin) (b : Bool) (ls : List Literal) → Low vs ls → signed b (variableOf vs x) ∈ ls → values vs (variableOf vs x) ≡ value x
     unfolding values
-    value-is x b ls low m = ap value (variable-stands vs x (low _ m))
+    value-is x b ls low m = ap value (variable-stands vs x (low (signed b (variableOf vs x)) m))
 
+    -- not x
     unit-in : (x : Origin) → Low vs (neg (variableOf vs x) ∷ []) → value x ≡ false → clauseTrue (values vs) (neg (variableOf vs x) ∷ []) ≡ true
     unit-in x low h = rw (value-is x false _ low (List·Memᴰ·head refl), h)
 
-    then-in : (x y : Origin) (b : Bool) → Low vs (neg (variableOf vs x) ∷ record { variable = variableOf vs y; positive = b } ∷ []) → (value x ≡ true → value y ≡ b)
-        → clauseTrue (values vs) (neg (variableOf vs x) ∷ record { variable = variableOf vs y; positive = b } ∷ []) ≡ true
-    then-in x y b low h = ?
+    -- not x, or y has the value b
+    then-in : (x y : Origin) (b : Bool) → Low vs (neg (variableOf vs x) ∷ signed b (variableOf vs y) ∷ []) → (value x ≡ true → value y ≡ b)
+        → clauseTrue (values vs) (neg (variableOf vs x) ∷ signed b (variableOf vs y) ∷ []) ≡ true
+    then-in x y b low h =
+        rw (value-is x false _ low (List·Memᴰ·head refl), value-is y b _ low (List·Memᴰ·tail (List·Memᴰ·head refl))) (agree-in (value x) (value y) b h)
 
+    -- y, or not x
     or-in : (x y : Origin) → Low vs (pos (variableOf vs y) ∷ neg (variableOf vs x) ∷ []) → (value x ≡ true → value y ≡ true)
         → clauseTrue (values vs) (pos (variableOf vs y) ∷ neg (variableOf vs x) ∷ []) ≡ true
-    or-in x y low h = ?
+    or-in x y low h =
+        rw (value-is x false _ low (List·Memᴰ·tail (List·Memᴰ·head refl)), value-is y true _ low (List·Memᴰ·head refl)) (back-in (value y) (value x) h)
 
+    abbrev Found : List Literal → Type 0
+    Found ls = (l : Literal) × (l ∈ ls) × (literalTrue (values vs) l ≡ true)
+
+    -- not x, or one of the others
+    rest-in : (x : Origin) (ls : List Literal) → Low vs (neg (variableOf vs x) ∷ ls) → (value x ≡ true → Found ls) → clauseTrue (values vs) (neg (variableOf vs x) ∷ ls) ≡ true
+    rest-in x ls low h =
+        rw (value-is x false _ low (List·Memᴰ·head refl)) (implies-in (value x) _ (λ t. let r = h t in clause-in (values vs) ls (r .0) (r .1) (r .2)))
+
+    candidate-in : (k : Literal) (ls : List Literal) (ps : List ℕ) → Low vs (k ∷ (ls ++ map pos (map (partVariable vs) ps))) → Has P ps
+        → Found (ls ++ map pos (map (partVariable vs) ps))
+    unfolding value
+    candidate-in k ls ps low h =
+        let m = Memᴰ·append-right ls (Memᴰ·map pos (Memᴰ·map (partVariable vs) (h .1))) in
+        (pos (partVariable vs (h .0)), m, value-is (chosen (part (h .0))) true _ low (List·Memᴰ·tail m) ∙ h .2)
+
+    range-member : (n : ℕ) (ps : List ℕ) (p : ℕ) → p ∈ ps → pos (partVariable vs p) ∈ rangeLiterals c vs vs n ps
+    unfolding rangeLiterals
+    range-member n (q ∷ ps) p m = Memᴰ·map (λ m. pos (partVariable vs m)) m
+
+    range-in : (ls : List Literal) → Low vs ls → (r : ℕ) → ((l : Literal) → l ∈ rangeLiterals c vs vs (rangeName c r) (nonMatching c r) → l ∈ ls) → Unmet c o P r
+        → Found (rangeLiterals c vs vs (rangeName c r) (nonMatching c r))
+    unfolding value
+    range-in ls low r into (another h) =
+        let m = range-member (rangeName c r) (nonMatching c r) (h .0) (h .1) in
+        (pos (partVariable vs (h .0)), m, value-is (chosen (part (h .0))) true ls low (into _ m) ∙ h .2)
+    range-in ls low r into (noneOfName e h) =
+        let m : neg (variableOf vs (one (rangeName c r))) ∈ rangeLiterals c vs vs (rangeName c r) (nonMatching c r) = rw e (unfold rangeLiterals in List·Memᴰ·head refl) in
+        (neg (variableOf vs (one (rangeName c r))), m, ap not (value-is (one (rangeName c r)) false ls low (into _ m) ∙ none-in P _ h))
+
+    disjunct-in : (k : Literal) (d : List ℕ) (ls : List Literal) → Low vs (k ∷ (disjunctLiterals c vs vs d ++ ls)) → (r : ℕ) → r ∈ d → Unmet c o P r
+        → Found (disjunctLiterals c vs vs d ++ ls)
+    unfolding disjunctLiterals
+    disjunct-in k d ls low r m u =
+        let a = range-in _ low r (λ l i. List·Memᴰ·tail (within l i)) u in
+        (a .0, within (a .0) (a .1), a .2)
+      where
+        within : (l : Literal) → l ∈ rangeLiterals c vs vs (rangeName c r) (nonMatching c r) → l ∈ disjunctLiterals c vs vs d ++ ls
+        within l i = Memᴰ·append-left ls (concat-in _ d r l m i)
+
+module _ {c : Catalogue} {o : Opening} {vs : List Origin} {ks : List Clause} (e : Encodes c o vs ks) {P : Parts} (s : Keeps c o P) where
+  abbrev v : Values
+  v = values c o P vs
+
+  root-true : v 0 ≡ true
+  unfolding values value
+  root-true = rw (e .root-first)
+
+  -- the one tracked part of a name that is in P, if any, has its number in the helpers
+  bit-true : (n i j : ℕ) → i < length (trackedOf c n (o .tracked)) → P (getD (trackedOf c n (o .tracked)) i 0) ≡ true
+      → bit j (indexOf P (trackedOf c n (o .tracked))) ≡ bit j i
+  unfolding trackedOf
+  bit-true n i j l h =
+      let xs = trackedOf c n (o .tracked) in
+      let a = filter-out _ (o .tracked) (getD xs i 0) (at-member xs i 0 l) in
+      let below : n < length (c .names) = rw (eqb-true _ n (a .1)) at (e .names-below _ (a .0)) in
+      ap (bit j) (index-one P xs (s .names n below) i l h)
+
+  called-true : {a : Clause} → Called c o vs a → Low vs (literals a) → clauseTrue v (literals a) ≡ true
+  unfolding literals value
+  called-true installed low = rw root-true
+  called-true (unknownPart {p} m h) low = unit-in c o P vs (chosen (part p)) low (s .unknowns p m h)
+  called-true (excludedPart {n} {p} m h) low = unit-in c o P vs (chosen (part p)) low (s .exclusions n m p h)
+  called-true (otherThanLocked {n} {p} m h) low =
+      agree-in (v 0) (v (partVariable vs p)) false (λ _. value-is c o P vs (chosen (part p)) false _ low (List·Memᴰ·tail (List·Memᴰ·head refl)) ∙ s .locks n m p h)
+  called-true (fewNonMatching {w} {k} {p} m hk _ hp) low =
+      then-in c o P vs (chosen w) (chosen (part p)) false low (λ hw. s .constraints w m hw k hk p hp)
+  called-true (partViolates {p = p} m hk _ hp) low = then-in c o P vs (chosen (part p)) (violation _) true low (any-in P _ p hp)
+  called-true (ownerForbidsViolation {w} {k} m hk _) low =
+      then-in c o P vs (chosen w) (violation _) false low (λ hw. none-in P _ (s .constraints w m hw k hk))
+  called-true (required {w} {q} m hq shaped) low =
+      rest-in c o P vs (chosen w) _ low (λ hw. candidate-in c o P vs _ [] _ low (s .unconditional w m hw q hq (unfired c q (λ fires. cc (shaped, fires)))))
+  called-true (gateRequires {w} {q} m hq _) low = rest-in c o P vs (gate (goalAt c q)) _ low (λ h. candidate-in c o P vs _ [] _ low (any-out P _ h))
+  called-true (ownerNeedsGate {w} {q} m hq shaped) low =
+      or-in c o P vs (chosen w) (gate (goalAt c q)) low (λ hw. let h = s .unconditional w m hw q hq (unfired c q (λ fires. cc (shaped, fires))) in any-in P _ (h .0) (h .1) (h .2))
+  called-true (firedRequires {w} {q} {i} m hq shaped fired) low =
+      let k = shape-some (conditionAt c q) (ownerAt c q) _ shaped in
+      rest-in c o P vs (chosen w) _ low (λ hw. ⊎-elim
+        (candidate-in c o P vs _ (disjunctLiterals c vs vs (disjunctAt c q i)) _ low)
+        (λ u. disjunct-in c o P vs _ (disjunctAt c q i) _ low (u .0) (u .1) (u .2))
+        (s .conditional w m hw q hq (k .0) (k .1) i fired))
+  called-true (bitAgrees n i j li lj) low = then-in c o P vs (chosen (part _)) (forbid n j) (bit j i) low (bit-true n i j li)
+  called-true (partIsOne {n} {p} needs m) low = or-in c o P vs (chosen (part p)) (one n) low (any-in P _ p m)
+
+pub meaning : {c : Catalogue} {o : Opening} {vs : List Origin} {ks : List Clause} → Encodes c o vs ks → (P : Parts) → Satisfiable vs ks P ↔ Keeps c o P
+meaning {c} {o} {vs} {ks} e P = (
+  λ s. kept e (fits vs P (s .0) (s .1)) (s .2),
+  λ s. (values c o P vs, (λ x l. values-agree c o P vs x), clauses-in _ ks (λ k m. called-true e s (e .stored k m) (e .below k m))),
+)
