@@ -2,8 +2,8 @@
 -- of them true exist exactly where P keeps every sentence of demand 3. It knows no task line, decision or number of a variable.
 use mathlib.Core.Path.{_≡_, refl, sym, _∙_, ap}
 use mathlib.Core.Logic.{_↔_, _⊎_, inl, inr, ⊎-elim}
-use mathlib.Core.Bool.{Bool, true, false, not, _&&_, _||_, cond, or-false, true≢false, false≢true}
-use mathlib.Core.List.{List, [], _∷_, _++_, map, List·Memᴰ·head, List·Memᴰ·tail, List·Memᴰ·eq-of-singleton, List·Memᴰ·append-cases, Memᴰ·append-left, Memᴰ·append-right, Memᴰ·cast, Memᴰ·map, Memᴰ·of-map}
+use mathlib.Core.Bool.{Bool, true, false, not, _&&_, _||_, cond, or-true, or-false, or-assoc, true≢false, false≢true}
+use mathlib.Core.List.{List, [], _∷_, _++_, map, List·Memᴰ·head, List·Memᴰ·tail, List·Memᴰ·not-nil, List·Memᴰ·eq-of-singleton, List·Memᴰ·append-cases, Memᴰ·append-left, Memᴰ·append-right, Memᴰ·cast, Memᴰ·map, Memᴰ·of-map, map-map}
 use mathlib.Core.Option.{Option, none, some}
 use Prim.Native.Nat.{ℕ, zero, suc, _+_, _^_, _<_, _≤_, zero-le}
 use native.Mathlib.Omega.{arith}
@@ -11,7 +11,7 @@ use lib.Dec.{eqb, ltb}
 use lib.Pow.{pow-pos}
 use lib.ListN.{length, getD}
 use borrow.Author.Tests.{ltb-false, eqb-true, not-true}
-use Rattle.rules.specs.Lists.{any, all, count, indexOf}
+use Rattle.rules.specs.Lists.{any, all, count, indexOf, concatMap}
 use Rattle.rules.specs.Literal.{Literal, pos, neg}
 use Rattle.rules.specs.Clause.{Clause, literals, exclusion}
 use Rattle.rules.specs.Truth.{Values, literalTrue, clauseTrue, allTrue}
@@ -27,46 +27,66 @@ use Rattle.rules.specs.Keeps.{Parts, most, chosenIn, Has, Lacks, Unmet, 
 use Rattle.rules.proofs.Bools.{and-left, and-right, and-both, agree-out, agree-in}
 use Rattle.rules.proofs.Bits.{bits-same}
 use Rattle.rules.proofs.Places.{stands}
-use Rattle.rules.proofs.Member.{never-true, implies-out, implies-in, all-out, all-in, any-out, any-in, none-in, filter-out, concat-out, concat-in, index-any, at-member, count-one, index-one}
-
--- every literal of the list has its variable
-abbrev pub Low : List Origin → List Literal → Type 0
-Low vs ls = (l : Literal) → l ∈ ls → l .variable < length vs
-
-abbrev signed : Bool → ℕ → Literal
-signed b x = record { variable = x; positive = b }
+use Rattle.rules.proofs.Member.{not-one, contrary, implies-out, implies-in, all-out, all-in, any-out, any-in, none-in, filter-out, concat-out, concat-in, index-any, at-member, count-one, index-one}
 
 -- the stored clauses are those that the opening calls for
 pub record Encodes (c : Catalogue) (o : Opening) (vs : List Origin) (ks : List Clause) : Type 0 where
   pub stored : (k : Clause) → k ∈ ks → Called c o vs k
   pub called : (k : Clause) → Called c o vs k → k ∈ ks
-  pub below : (k : Clause) → k ∈ ks → Low vs (literals k)
+  pub below : (k : Clause) → k ∈ ks → (l : Literal) → l ∈ literals k → l .variable < length vs
   pub root-first : getD vs 0 (chosen root) ≡ chosen root
   pub names-below : (p : ℕ) → p ∈ o .tracked → nameOf c p < length (c .names)
 
--- ---- clauses by their literals, and lists of clauses by their clauses
+-- ---- clauses, and their literals in part
 
-clause-any : (v : Values) (ls : List Literal) → clauseTrue v ls ≡ any (literalTrue v) ls
-unfolding any
-clause-any v [] = refl
-clause-any v (l ∷ ls) = ap (λ b. literalTrue v l || b) (clause-any v ls)
+module _ (v : Values) where
+  pub clause-append : (ks ls : List Literal) → clauseTrue v (ks ++ ls) ≡ (clauseTrue v ks || clauseTrue v ls)
+  clause-append [] ls = refl
+  clause-append (k ∷ ks) ls = ap (λ b. literalTrue v k || b) (clause-append ks ls) ∙ sym (or-assoc (literalTrue v k) _ _)
 
-pub clause-out : (v : Values) (ls : List Literal) → clauseTrue v ls ≡ true → (l : Literal) × (l ∈ ls) × (literalTrue v l ≡ true)
-clause-out v ls e = any-out (literalTrue v) ls (sym (clause-any v ls) ∙ e)
+  pub clause-concat : {A : Type 0} (f : A → List Literal) (xs : List A) → clauseTrue v (concatMap f xs) ≡ any (λ x. clauseTrue v (f x)) xs
+  unfolding concatMap any
+  clause-concat f [] = refl
+  clause-concat f (x ∷ xs) = clause-append (f x) (concatMap f xs) ∙ ap (λ b. clauseTrue v (f x) || b) (clause-concat f xs)
 
-pub clause-in : (v : Values) (ls : List Literal) (l : Literal) → l ∈ ls → literalTrue v l ≡ true → clauseTrue v ls ≡ true
-clause-in v ls l m e = clause-any v ls ∙ any-in (literalTrue v) ls l m e
+  clauses-all : (ks : List Clause) → allTrue v (map literals ks) ≡ all (λ k. clauseTrue v (literals k)) ks
+  unfolding all
+  clauses-all [] = refl
+  clauses-all (k ∷ ks) = ap (λ b. clauseTrue v (literals k) && b) (clauses-all ks)
 
-clauses-all : (v : Values) (ks : List Clause) → allTrue v (map literals ks) ≡ all (λ k. clauseTrue v (literals k)) ks
-unfolding all
-clauses-all v [] = refl
-clauses-all v (k ∷ ks) = ap (λ b. clauseTrue v (literals k) && b) (clauses-all v ks)
+  pub clauses-out : (ks : List Clause) → allTrue v (map literals ks) ≡ true → (k : Clause) → k ∈ ks → clauseTrue v (literals k) ≡ true
+  clauses-out ks e = all-out _ ks (sym (clauses-all ks) ∙ e)
 
-pub clauses-out : (v : Values) (ks : List Clause) → allTrue v (map literals ks) ≡ true → (k : Clause) → k ∈ ks → clauseTrue v (literals k) ≡ true
-clauses-out v ks e = all-out (λ k. clauseTrue v (literals k)) ks (sym (clauses-all v ks) ∙ e)
+  pub clauses-in : (ks : List Clause) → ((k : Clause) → k ∈ ks → clauseTrue v (literals k) ≡ true) → allTrue v (map literals ks) ≡ true
+  clauses-in ks h = clauses-all ks ∙ all-in _ ks h
 
-pub clauses-in : (v : Values) (ks : List Clause) → ((k : Clause) → k ∈ ks → clauseTrue v (literals k) ≡ true) → allTrue v (map literals ks) ≡ true
-clauses-in v ks h = clauses-all v ks ∙ all-in (λ k. clauseTrue v (literals k)) ks h
+abbrev signed : Bool → ℕ → Literal
+signed b x = record { variable = x; positive = b }
+
+-- every literal of a clause, or of a part of one, has its variable
+record Low (vs : List Origin) (ls : List Literal) : Type 0 where
+  below : (l : Literal) → l ∈ ls → l .variable < length vs
+
+low-tail : {vs : List Origin} {k : Literal} {ls : List Literal} → Low vs (k ∷ ls) → Low vs ls
+low-tail low = record { below = λ l m. low .below l (List·Memᴰ·tail m) }
+
+low-left : {vs : List Origin} (ks ls : List Literal) → Low vs (ks ++ ls) → Low vs ks
+low-left ks ls low = record { below = λ l m. low .below l (Memᴰ·append-left ls m) }
+
+low-right : {vs : List Origin} (ks ls : List Literal) → Low vs (ks ++ ls) → Low vs ls
+low-right ks ls low = record { below = λ l m. low .below l (Memᴰ·append-right ks m) }
+
+low-concat : {vs : List Origin} {A : Type 0} (f : A → List Literal) (xs : List A) (x : A) → Low vs (concatMap f xs) → x ∈ xs → Low vs (f x)
+low-concat f xs x low m = record { below = λ l i. low .below l (concat-in f xs x l m i) }
+
+or-out : (a b : Bool) → (a || b) ≡ true → (a ≡ true) ⊎ (b ≡ true)
+or-out true b e = inl refl
+or-out false b e = inr e
+
+-- "not x"
+unit-out : (a : Bool) → (not a || false) ≡ true → a ≡ false
+unit-out true e = sym e
+unit-out false e = refl
 
 -- "p, or not q"
 back-out : (p q : Bool) → (p || (not q || false)) ≡ true → q ≡ true → p ≡ true
@@ -85,48 +105,47 @@ variable-stands : (vs : List Origin) (x : Origin) → variableOf vs x < length v
 unfolding variableOf known
 variable-stands vs x l = stands vs x (chosen root) (index-any (sameOrigin x) vs l) .1
 
-not-one : _≡_ {A = ℕ} 0 1 → ⊥
-not-one z = omega arith
-
 -- only a conditional requirement waits for its firing
 shape-fires : (k : ℕ) (w : Owner) (n : ℕ) → shape (some k) w n ≡ onFiring
 unfolding shape
 shape-fires k w n = refl
 
+shapeBy-unfired : (b : Bool) → shapeBy b ≡ onFiring → _≡_ {A = ℕ} 0 1
+unfolding shapeBy
+shapeBy-unfired true e = cc
+shapeBy-unfired false e = cc
+
+shape-some : (x : Option ℕ) (w : Owner) (n : ℕ) → shape x w n ≡ onFiring → (k : ℕ) × (x ≡ some k)
+unfolding shape
+shape-some none root n e = absurd (not-one (cc))
+shape-some none (part p) n e = absurd (not-one (shapeBy-unfired _ e))
+shape-some (some k) w n e = (k, refl)
+
 shape-none : (x : Option ℕ) (w : Owner) (n : ℕ) → (shape x w n ≡ onFiring → _≡_ {A = ℕ} 0 1) → x ≡ none
 shape-none none w n h = refl
 shape-none (some k) w n h = absurd (not-one (h (shape-fires k w n)))
 
-unfired : (c : Catalogue) (q : ℕ) → (shapeOf c q ≡ onFiring → _≡_ {A = ℕ} 0 1) → conditionAt c q ≡ none
-unfired c q h = shape-none (conditionAt c q) (ownerAt c q) _ h
+module _ (c : Catalogue) (q : ℕ) where
+  fires-conditional : (k : ℕ) → conditionAt c q ≡ some k → shapeOf c q ≡ onFiring
+  fires-conditional k e = rw e (shape-fires k (ownerAt c q) _)
 
-shape-some : (x : Option ℕ) (w : Owner) (n : ℕ) → shape x w n ≡ onFiring → (k : ℕ) × (x ≡ some k)
-unfolding shape shapeBy
-shape-some none root n e = let z : _≡_ {A = ℕ} 0 1 = cc in absurd (not-one z)
-shape-some none (part p) n e = go (ltb n 4) e
-  where
-    go : (b : Bool) → shapeBy b ≡ onFiring → (k : ℕ) × (none ≡ some k)
-    go true e = let z : _≡_ {A = ℕ} 0 1 = cc in absurd (not-one z)
-    go false e = let z : _≡_ {A = ℕ} 0 1 = cc in absurd (not-one z)
-shape-some (some k) w n e = (k, refl)
+  conditional-fires : shapeOf c q ≡ onFiring → (k : ℕ) × (conditionAt c q ≡ some k)
+  conditional-fires e = shape-some (conditionAt c q) (ownerAt c q) _ e
+
+  unfired : (shapeOf c q ≡ onFiring → _≡_ {A = ℕ} 0 1) → conditionAt c q ≡ none
+  unfired h = shape-none (conditionAt c q) (ownerAt c q) _ h
 
 helpers-cover : (k : ℕ) → k ≤ 2 ^ helpersFor k
 unfolding helpersFor helpersAfter
 helpers-cover zero = zero-le
-helpers-cover (suc k) = go (ltb (2 ^ helpersFor k) (suc k)) refl (helpers-cover k)
+helpers-cover (suc k) = go (helpersFor k) _ (λ e. ltb-false _ _ e) (helpers-cover k)
   where
-    go : (b : Bool) → ltb (2 ^ helpersFor k) (suc k) ≡ b → k ≤ 2 ^ helpersFor k → suc k ≤ 2 ^ cond b (suc (helpersFor k)) (helpersFor k)
-    go true e h = let doubled : suc k ≤ 2 ^ suc (helpersFor k) = omega (arith, pow-pos (helpersFor k)) in doubled
-    go false e h = ltb-false _ _ e
+    go : (h : ℕ) (b : Bool) → (b ≡ false → suc k ≤ 2 ^ h) → k ≤ 2 ^ h → suc k ≤ 2 ^ cond b (suc h) h
+    go h true f l = let doubled : suc k ≤ 2 ^ suc h = omega (arith, pow-pos h) in doubled
+    go h false f l = f refl
 
--- ---- from the clauses to the sentences
+-- ---- values that agree with P
 
--- a clause whose literals have their variables, and which v makes true
-record Holds (vs : List Origin) (v : Values) (ls : List Literal) : Type 0 where
-  low : Low vs ls
-  holds : clauseTrue v ls ≡ true
-
--- values that agree with P, said of the variables of root and parts
 record Fits (vs : List Origin) (P : Parts) (v : Values) : Type 0 where
   owner-is : (w : Owner) → variableOf vs (chosen w) < length vs → v (variableOf vs (chosen w)) ≡ chosenIn P w
 
@@ -137,43 +156,63 @@ fits vs P v a = record { owner-is = λ w l. go w (v (variableOf vs (chosen w))) 
     go root b h = h
     go (part p) b h = h
 
+parts-are : {vs : List Origin} {P : Parts} {v : Values} → Fits vs P v → (ps : List ℕ) → Low vs (map pos (map (partVariable vs) ps))
+    → clauseTrue v (map pos (map (partVariable vs) ps)) ≡ any P ps
+unfolding any
+parts-are f [] low = refl
+parts-are f (p ∷ ps) low = rw (f .owner-is (part p) (low .below _ (List·Memᴰ·head refl)), parts-are f ps (low-tail low))
+
+range-parts : (c : Catalogue) (vs : List Origin) (n p : ℕ) (ps : List ℕ) → rangeLiterals c vs vs n (p ∷ ps) ≡ map pos (map (partVariable vs) (p ∷ ps))
+unfolding rangeLiterals
+range-parts c vs n p ps = sym (map-map pos (partVariable vs) (p ∷ ps))
+
+-- ---- from the clauses to the sentences
+
+-- a clause, or a part of one, with its variables, that v makes true
+record Holds (vs : List Origin) (v : Values) (ls : List Literal) : Type 0 where
+  low : Low vs ls
+  holds : clauseTrue v ls ≡ true
+
+module _ {vs : List Origin} {v : Values} where
+  holds-tail : {x : ℕ} {ls : List Literal} → Holds vs v (neg x ∷ ls) → v x ≡ true → Holds vs v ls
+  holds-tail {x} {ls} h t = record { low = low-tail (h .low); holds = implies-out (v x) (clauseTrue v ls) (h .holds) t }
+
+  holds-append : (ks ls : List Literal) → Holds vs v (ks ++ ls) → Holds vs v ks ⊎ Holds vs v ls
+  holds-append ks ls h =
+      ⊎-elim (λ e. inl (record { low = low-left ks ls (h .low); holds = e })) (λ e. inr (record { low = low-right ks ls (h .low); holds = e }))
+      (or-out (clauseTrue v ks) (clauseTrue v ls) (sym (clause-append v ks ls) ∙ h .holds))
+
+  holds-concat : {A : Type 0} (f : A → List Literal) (xs : List A) → Holds vs v (concatMap f xs) → (x : A) × (x ∈ xs) × Holds vs v (f x)
+  holds-concat f xs h =
+      let r = any-out (λ x. clauseTrue v (f x)) xs (sym (clause-concat v f xs) ∙ h .holds) in
+      (r .0, r .1, record { low = low-concat f xs (r .0) (h .low) (r .1); holds = r .2 })
+
 module _ {vs : List Origin} {P : Parts} {v : Values} (f : Fits vs P v) where
   first-is : (w : Owner) (ls : List Literal) → Holds vs v (neg (variableOf vs (chosen w)) ∷ ls) → v (variableOf vs (chosen w)) ≡ chosenIn P w
-  first-is w ls h = f .owner-is w (h .low (neg (variableOf vs (chosen w))) (List·Memᴰ·head refl))
+  first-is w ls h = f .owner-is w (h .low .below (neg (variableOf vs (chosen w))) (List·Memᴰ·head refl))
 
   second-is : (l : Literal) (w : Owner) → Holds vs v (l ∷ neg (variableOf vs (chosen w)) ∷ []) → v (variableOf vs (chosen w)) ≡ chosenIn P w
-  second-is l w h = f .owner-is w (h .low (neg (variableOf vs (chosen w))) (List·Memᴰ·tail (List·Memᴰ·head refl)))
+  second-is l w h = f .owner-is w (h .low .below (neg (variableOf vs (chosen w))) (List·Memᴰ·tail (List·Memᴰ·head refl)))
 
-  -- not part
-  unit-out : (p : ℕ) → Holds vs v (neg (partVariable vs p) ∷ []) → P p ≡ false
-  unit-out p h = never-true (P p) (λ t. false≢true (implies-out (v (partVariable vs p)) false (h .holds) (first-is (part p) [] h ∙ t)))
+  -- "not part"
+  never : (p : ℕ) → Holds vs v (neg (partVariable vs p) ∷ []) → P p ≡ false
+  never p h = sym (first-is (part p) [] h) ∙ unit-out (v (partVariable vs p)) (h .holds)
 
-  -- not w, or y has the value b
+  -- "not w, or y has the value b"
   then-out : (w : Owner) (y : ℕ) (b : Bool) → Holds vs v (neg (variableOf vs (chosen w)) ∷ signed b y ∷ []) → chosenIn P w ≡ true → v y ≡ b
   then-out w y b h t = agree-out (v (variableOf vs (chosen w))) (v y) b (h .holds) (first-is w _ h ∙ t)
 
-  -- y, or not w
-  or-out : (w : Owner) (y : ℕ) → Holds vs v (pos y ∷ neg (variableOf vs (chosen w)) ∷ []) → chosenIn P w ≡ true → v y ≡ true
-  or-out w y h t = back-out (v y) (v (variableOf vs (chosen w))) (h .holds) (second-is (pos y) w h ∙ t)
+  -- "y, or not w"
+  cause-out : (w : Owner) (y : ℕ) → Holds vs v (pos y ∷ neg (variableOf vs (chosen w)) ∷ []) → chosenIn P w ≡ true → v y ≡ true
+  cause-out w y h t = back-out (v y) (v (variableOf vs (chosen w))) (h .holds) (second-is (pos y) w h ∙ t)
 
-  -- not x, or one of the others: their literal that is true
-  rest-out : (x : ℕ) (ls : List Literal) → Holds vs v (neg x ∷ ls) → v x ≡ true → (l : Literal) × (l ∈ ls) × (literalTrue v l ≡ true)
-  rest-out x ls h t = clause-out v ls (implies-out (v x) (clauseTrue v ls) (h .holds) t)
-
-  -- a part's literal that is true
-  part-out : {ls : List Literal} → Holds vs v ls → (l : Literal) → l ∈ ls → literalTrue v l ≡ true → (p : ℕ) → pos (partVariable vs p) ≡ l → P p ≡ true
-  part-out h l m t p e = sym (f .owner-is (part p) (h .low (pos (partVariable vs p)) (Memᴰ·cast e m))) ∙ rw (← e) at t
-
-  candidate-out : {ls : List Literal} → Holds vs v ls → (ps : List ℕ) (l : Literal) → l ∈ map pos (map (partVariable vs) ps) → l ∈ ls → literalTrue v l ≡ true → Has P ps
-  candidate-out h ps l i m t =
-      let a = Memᴰ·of-map pos (map (partVariable vs) ps) i in
-      let b = Memᴰ·of-map (partVariable vs) ps (a .1) in
-      (b .0, b .1, part-out h l m t (b .0) (ap pos (b .2) ∙ a .2))
+  parts-out : (ps : List ℕ) → Holds vs v (map pos (map (partVariable vs) ps)) → Has P ps
+  parts-out ps h = any-out P ps (sym (parts-are f ps (h .low)) ∙ h .holds)
 
 module _ {c : Catalogue} {o : Opening} {vs : List Origin} {ks : List Clause} (e : Encodes c o vs ks) {P : Parts} {v : Values}
     (f : Fits vs P v) (t : allTrue v (map literals ks) ≡ true) where
-  states : {k : Clause} → Called c o vs k → Holds vs v (literals k)
-  states {k} d = record { low = e .below k (e .called k d); holds = clauses-out v ks t k (e .called k d) }
+  says : {k : Clause} → Called c o vs k → Holds vs v (literals k)
+  says {k} d = record { low = record { below = e .below k (e .called k d) }; holds = clauses-out v ks t k (e .called k d) }
 
   -- two tracked parts of a name that are both in P have the same bits
   names-out : (n : ℕ) → n < length (c .names) → count P (trackedOf c n (o .tracked)) ≤ most n
@@ -184,7 +223,7 @@ module _ {c : Catalogue} {o : Opening} {vs : List Origin} {ks : List Clause} (e 
       xs = trackedOf c n (o .tracked)
 
       bit-out : (i j : ℕ) → i < length xs → j < helpersFor (length xs) → P (getD xs i 0) ≡ true → v (variableOf vs (forbid n j)) ≡ bit j i
-      bit-out i j li lj h = then-out f (part (getD xs i 0)) _ (bit j i) (states (bitAgrees n i j li lj)) h
+      bit-out i j li lj h = then-out f (part (getD xs i 0)) _ (bit j i) (says (bitAgrees n i j li lj)) h
 
       same : (i j : ℕ) → i < length xs → j < length xs → P (getD xs i 0) ≡ true → P (getD xs j 0) ≡ true → i ≡ j
       same i j li lj hi hj =
@@ -194,8 +233,8 @@ module _ {c : Catalogue} {o : Opening} {vs : List Origin} {ks : List Clause} (e 
   locks-out : (n : ℕ) → n ∈ o .names → Lacks P (lockedOut c n)
   unfolding literals
   locks-out n m p h =
-      let d = states (otherThanLocked m h) in
-      let root-true : v 0 ≡ true = sym (or-false (v 0)) ∙ states installed .holds in
+      let d = says (otherThanLocked m h) in
+      let root-true : v 0 ≡ true = sym (or-false (v 0)) ∙ says installed .holds in
       sym (second-is f (neg 0) (part p) d) ∙ agree-out (v 0) (v (partVariable vs p)) false (d .holds) root-true
 
   constraints-out : (w : Owner) → w ∈ o .owners → chosenIn P w ≡ true → (k : ℕ) → k ∈ constraintsOf c w → Lacks P (nonMatching c (constraintRange c k))
@@ -206,13 +245,9 @@ module _ {c : Catalogue} {o : Opening} {vs : List Origin} {ks : List Clause} (e 
       y = variableOf vs (violation (constraintRange c k))
 
       go : (b : Bool) → few (nonMatching c (constraintRange c k)) ≡ b → P p ≡ false
-      go true s =
-          let d = states (fewNonMatching m hk s hp) in
-          sym (second-is f _ (part p) d) ∙ then-out f w (partVariable vs p) false d hw
+      go true s = let d = says (fewNonMatching m hk s hp) in sym (second-is f _ (part p) d) ∙ then-out f w (partVariable vs p) false d hw
       go false s =
-          never-true (P p) (λ h. true≢false (
-            sym (then-out f (part p) y true (states (partViolates m hk s hp)) h) ∙ then-out f w y false (states (ownerForbidsViolation m hk s)) hw
-          ))
+          contrary (P p) (v y) (then-out f (part p) y true (says (partViolates m hk s hp))) (then-out f w y false (says (ownerForbidsViolation m hk s)) hw)
 
   unconditional-out : (w : Owner) → w ∈ o .owners → chosenIn P w ≡ true → (q : ℕ) → q ∈ requirementsOf c w → conditionAt c q ≡ none
       → Has P (candidates c (goalAt c q))
@@ -220,64 +255,51 @@ module _ {c : Catalogue} {o : Opening} {vs : List Origin} {ks : List Clause} (e 
   unconditional-out w m hw q hq no-condition = go (shapeOf c q) refl
     where
       go : (s : Shape) → shapeOf c q ≡ s → Has P (candidates c (goalAt c q))
-      go direct s =
-          let d = states (required m hq s) in
-          let r = rest-out f (variableOf vs (chosen w)) _ d (first-is f w _ d ∙ hw) in
-          candidate-out f d _ (r .0) (r .1) (List·Memᴰ·tail (r .1)) (r .2)
-      go throughGate s =
-          let d = states (gateRequires m hq s) in
-          let r = rest-out f (variableOf vs (gate (goalAt c q))) _ d (or-out f w _ (states (ownerNeedsGate m hq s)) hw) in
-          candidate-out f d _ (r .0) (r .1) (List·Memᴰ·tail (r .1)) (r .2)
-      go onFiring s = let k = shape-some (conditionAt c q) _ _ s in let z : _≡_ {A = ℕ} 0 1 = cc (k .1, no-condition) in absurd (not-one z)
+      go direct s = let d = says (required m hq s) in parts-out f _ (holds-tail d (first-is f w _ d ∙ hw))
+      go throughGate s = parts-out f _ (holds-tail (says (gateRequires m hq s)) (cause-out f w _ (says (ownerNeedsGate m hq s)) hw))
+      go onFiring s = let k = conditional-fires c q s in absurd (not-one (cc (k .1, no-condition)))
 
   -- "not one-of-name" leaves out every tracked part of the name
   one-out : (n : ℕ) → NeedsOne c o n → v (variableOf vs (one n)) ≡ false → Lacks P (trackedOf c n (o .tracked))
   unfolding literals
-  one-out n needs h p m = never-true (P p) (λ hp. true≢false (sym (or-out f (part p) _ (states (partIsOne needs m)) hp) ∙ h))
+  one-out n needs h p m = contrary (P p) _ (cause-out f (part p) (variableOf vs (one n)) (says (partIsOne needs m))) h
 
-  -- a true literal of a fired range
-  range-out : {ls : List Literal} → Holds vs v ls → (r : ℕ) → (nonMatching c r ≡ [] → NeedsOne c o (rangeName c r))
-      → (l : Literal) → l ∈ rangeLiterals c vs vs (rangeName c r) (nonMatching c r) → l ∈ ls → literalTrue v l ≡ true → Unmet c o P r
-  unfolding rangeLiterals
-  range-out h r needs l i m t = go (nonMatching c r) refl i
+  range-out : (r : ℕ) → (nonMatching c r ≡ [] → NeedsOne c o (rangeName c r)) → Holds vs v (rangeLiterals c vs vs (rangeName c r) (nonMatching c r)) → Unmet c o P r
+  range-out r needs h = go (nonMatching c r) refl h
     where
-      go : (ps : List ℕ) → nonMatching c r ≡ ps → l ∈ rangeLiterals c vs vs (rangeName c r) ps → Unmet c o P r
-      go [] e i = noneOfName e (one-out (rangeName c r) (needs e) (not-true _ (rw (List·Memᴰ·eq-of-singleton i) at t)))
-      go (p ∷ ps) e i = let a = Memᴰ·of-map (λ m. pos (partVariable vs m)) (p ∷ ps) i in another (rw e (a .0, a .1, part-out f h l m t (a .0) (a .2)))
+      go : (ps : List ℕ) → nonMatching c r ≡ ps → Holds vs v (rangeLiterals c vs vs (rangeName c r) ps) → Unmet c o P r
+      go [] e h = noneOfName e (one-out (rangeName c r) (needs e) (unit-out _ (unfold rangeLiterals in h .holds)))
+      go (p ∷ ps) e h = another (rw e (parts-out f (p ∷ ps) (rw range-parts at h)))
 
   conditional-out : (w : Owner) → w ∈ o .owners → chosenIn P w ≡ true → (q : ℕ) → q ∈ requirementsOf c w → (k : ℕ) → conditionAt c q ≡ some k
       → (i : ℕ) → (q, i) ∈ o .fired → Has P (candidates c (goalAt c q)) ⊎ ((r : ℕ) × (r ∈ disjunctAt c q i) × Unmet c o P r)
   unfolding literals disjunctLiterals
   conditional-out w m hw q hq k condition i fired =
-      let fires : shapeOf c q ≡ onFiring = rw condition (shape-fires k (ownerAt c q) _) in
-      let d = states (firedRequires m hq fires fired) in
-      let r = rest-out f (variableOf vs (chosen w)) _ d (first-is f w _ d ∙ hw) in
-      ⊎-elim (λ a. inr (unmet d (r .0) a (List·Memᴰ·tail (r .1)) (r .2))) (λ a. inl (candidate-out f d _ (r .0) a (List·Memᴰ·tail (r .1)) (r .2)))
-      (List·Memᴰ·append-cases (disjunctLiterals c vs vs (disjunctAt c q i)) (r .1))
+      let d = says (firedRequires m hq (fires-conditional c q k condition) fired) in
+      ⊎-elim (λ h. inr (unmet h)) (λ h. inl (parts-out f _ h)) (holds-append (disjunctLiterals c vs vs (disjunctAt c q i)) _ (holds-tail d (first-is f w _ d ∙ hw)))
     where
-      unmet : {ls : List Literal} → Holds vs v ls → (l : Literal) → l ∈ disjunctLiterals c vs vs (disjunctAt c q i) → l ∈ ls → literalTrue v l ≡ true
-          → (r : ℕ) × (r ∈ disjunctAt c q i) × Unmet c o P r
-      unmet h l a m t =
-          let r = concat-out _ (disjunctAt c q i) l a in
-          (r .0, r .1, range-out h (r .0) (λ e. record { requirement = q; index = i; range = r .0; fired = fired; in-disjunct = r .1; of-name = refl; none-else = e }) l (r .2) m t)
+      unmet : Holds vs v (disjunctLiterals c vs vs (disjunctAt c q i)) → (r : ℕ) × (r ∈ disjunctAt c q i) × Unmet c o P r
+      unmet h =
+          let r = holds-concat _ (disjunctAt c q i) h in
+          (r .0, r .1, range-out (r .0) (λ e. record { requirement = q; index = i; range = r .0; fired = fired; in-disjunct = r .1; of-name = refl; none-else = e }) (r .2))
 
   kept : Keeps c o P
   unfolding literals
   kept =
       record {
         names = names-out;
-        exclusions = λ n m p h. unit-out f p (states (excludedPart m h));
+        exclusions = λ n m p h. never f p (says (excludedPart m h));
         locks = locks-out;
-        unknowns = λ p m h. unit-out f p (states (unknownPart m h));
+        unknowns = λ p m h. never f p (says (unknownPart m h));
         constraints = constraints-out;
         unconditional = unconditional-out;
-        conditional = conditional-out;
+        conditional = conditional-out
       }
 
 -- ---- from the sentences to the clauses
 
 module _ (c : Catalogue) (o : Opening) (P : Parts) where
-  -- the value that an origin's variable gets
+  -- a helper's value depends on its range, goal or name and on P, never on an owner
   value : Origin → Bool
   value (chosen w) = chosenIn P w
   value (forbid n j) = bit j (indexOf P (trackedOf c n (o .tracked)))
@@ -288,9 +310,9 @@ module _ (c : Catalogue) (o : Opening) (P : Parts) where
   values : List Origin → Values
   values vs x = value (getD vs x (chosen root))
 
-  values-agree : (vs : List Origin) (x : ℕ) → Agrees P (getD vs x (chosen root)) (values vs x)
+  values-agree : (vs : List Origin) (x : ℕ) → x < length vs → Agrees P (getD vs x (chosen root)) (values vs x)
   unfolding values value
-  values-agree vs x = go (getD vs x (chosen root))
+  values-agree vs x _ = go (getD vs x (chosen root))
     where
       go : (y : Origin) → Agrees P y (value y)
       go (chosen root) = refl
@@ -301,111 +323,101 @@ module _ (c : Catalogue) (o : Opening) (P : Parts) where
       go (gate g) = tt
 
   module _ (vs : List Origin) where
-    value-is : (x : Origin) (b : Bool) (ls : List Literal) → Low vs ls → signed b (variableOf vs x) ∈ ls → values vs (variableOf vs x) ≡ value x
+    abbrev v : Values
+    v = values vs
+
+    value-is : (x : Origin) → variableOf vs x < length vs → v (variableOf vs x) ≡ value x
     unfolding values
-    value-is x b ls low m = ap value (variable-stands vs x (low (signed b (variableOf vs x)) m))
+    value-is x l = ap value (variable-stands vs x l)
 
-    -- not x
-    unit-in : (x : Origin) → Low vs (neg (variableOf vs x) ∷ []) → value x ≡ false → clauseTrue (values vs) (neg (variableOf vs x) ∷ []) ≡ true
-    unit-in x low h = rw (value-is x false _ low (List·Memᴰ·head refl), h)
+    -- "not x"
+    unit-in : (x : Origin) → Low vs (neg (variableOf vs x) ∷ []) → value x ≡ false → clauseTrue v (neg (variableOf vs x) ∷ []) ≡ true
+    unit-in x low h = rw (value-is x (low .below _ (List·Memᴰ·head refl)), h)
 
-    -- not x, or y has the value b
+    -- "not x, or y has the value b"
     then-in : (x y : Origin) (b : Bool) → Low vs (neg (variableOf vs x) ∷ signed b (variableOf vs y) ∷ []) → (value x ≡ true → value y ≡ b)
-        → clauseTrue (values vs) (neg (variableOf vs x) ∷ signed b (variableOf vs y) ∷ []) ≡ true
+        → clauseTrue v (neg (variableOf vs x) ∷ signed b (variableOf vs y) ∷ []) ≡ true
     then-in x y b low h =
-        rw (value-is x false _ low (List·Memᴰ·head refl), value-is y b _ low (List·Memᴰ·tail (List·Memᴰ·head refl))) (agree-in (value x) (value y) b h)
+        rw (value-is x (low .below _ (List·Memᴰ·head refl)), value-is y (low .below _ (List·Memᴰ·tail (List·Memᴰ·head refl)))) (agree-in (value x) (value y) b h)
 
-    -- y, or not x
-    or-in : (x y : Origin) → Low vs (pos (variableOf vs y) ∷ neg (variableOf vs x) ∷ []) → (value x ≡ true → value y ≡ true)
-        → clauseTrue (values vs) (pos (variableOf vs y) ∷ neg (variableOf vs x) ∷ []) ≡ true
-    or-in x y low h =
-        rw (value-is x false _ low (List·Memᴰ·tail (List·Memᴰ·head refl)), value-is y true _ low (List·Memᴰ·head refl)) (back-in (value y) (value x) h)
+    -- "y, or not x"
+    cause-in : (x y : Origin) → Low vs (pos (variableOf vs y) ∷ neg (variableOf vs x) ∷ []) → (value x ≡ true → value y ≡ true)
+        → clauseTrue v (pos (variableOf vs y) ∷ neg (variableOf vs x) ∷ []) ≡ true
+    cause-in x y low h =
+        rw (value-is y (low .below _ (List·Memᴰ·head refl)), value-is x (low .below _ (List·Memᴰ·tail (List·Memᴰ·head refl)))) (back-in (value y) (value x) h)
 
-    abbrev Found : List Literal → Type 0
-    Found ls = (l : Literal) × (l ∈ ls) × (literalTrue (values vs) l ≡ true)
+    -- "not x, or some of these"
+    some-in : (x : Origin) (ls : List Literal) → Low vs (neg (variableOf vs x) ∷ ls) → (value x ≡ true → Low vs ls → clauseTrue v ls ≡ true)
+        → clauseTrue v (neg (variableOf vs x) ∷ ls) ≡ true
+    some-in x ls low h = rw (value-is x (low .below _ (List·Memᴰ·head refl))) (implies-in (value x) (clauseTrue v ls) (λ t. h t (low-tail low)))
 
-    -- not x, or one of the others
-    rest-in : (x : Origin) (ls : List Literal) → Low vs (neg (variableOf vs x) ∷ ls) → (value x ≡ true → Found ls) → clauseTrue (values vs) (neg (variableOf vs x) ∷ ls) ≡ true
-    rest-in x ls low h =
-        rw (value-is x false _ low (List·Memᴰ·head refl)) (implies-in (value x) _ (λ t. let r = h t in clause-in (values vs) ls (r .0) (r .1) (r .2)))
+    has-in : {ps : List ℕ} → Has P ps → any P ps ≡ true
+    has-in {ps} h = any-in P ps (h .0) (h .1) (h .2)
 
-    candidate-in : (k : Literal) (ls : List Literal) (ps : List ℕ) → Low vs (k ∷ (ls ++ map pos (map (partVariable vs) ps))) → Has P ps
-        → Found (ls ++ map pos (map (partVariable vs) ps))
+    parts-in : (ps : List ℕ) → Has P ps → Low vs (map pos (map (partVariable vs) ps)) → clauseTrue v (map pos (map (partVariable vs) ps)) ≡ true
+    parts-in ps h low = parts-are (fits vs P v (values-agree vs)) ps low ∙ has-in h
+
+    range-in : (r : ℕ) → Unmet c o P r → Low vs (rangeLiterals c vs vs (rangeName c r) (nonMatching c r))
+        → clauseTrue v (rangeLiterals c vs vs (rangeName c r) (nonMatching c r)) ≡ true
     unfolding value
-    candidate-in k ls ps low h =
-        let m = Memᴰ·append-right ls (Memᴰ·map pos (Memᴰ·map (partVariable vs) (h .1))) in
-        (pos (partVariable vs (h .0)), m, value-is (chosen (part (h .0))) true _ low (List·Memᴰ·tail m) ∙ h .2)
-
-    range-member : (n : ℕ) (ps : List ℕ) (p : ℕ) → p ∈ ps → pos (partVariable vs p) ∈ rangeLiterals c vs vs n ps
-    unfolding rangeLiterals
-    range-member n (q ∷ ps) p m = Memᴰ·map (λ m. pos (partVariable vs m)) m
-
-    range-in : (ls : List Literal) → Low vs ls → (r : ℕ) → ((l : Literal) → l ∈ rangeLiterals c vs vs (rangeName c r) (nonMatching c r) → l ∈ ls) → Unmet c o P r
-        → Found (rangeLiterals c vs vs (rangeName c r) (nonMatching c r))
-    unfolding value
-    range-in ls low r into (another h) =
-        let m = range-member (rangeName c r) (nonMatching c r) (h .0) (h .1) in
-        (pos (partVariable vs (h .0)), m, value-is (chosen (part (h .0))) true ls low (into _ m) ∙ h .2)
-    range-in ls low r into (noneOfName e h) =
-        let m : neg (variableOf vs (one (rangeName c r))) ∈ rangeLiterals c vs vs (rangeName c r) (nonMatching c r) = rw e (unfold rangeLiterals in List·Memᴰ·head refl) in
-        (neg (variableOf vs (one (rangeName c r))), m, ap not (value-is (one (rangeName c r)) false ls low (into _ m) ∙ none-in P _ h))
-
-    disjunct-in : (k : Literal) (d : List ℕ) (ls : List Literal) → Low vs (k ∷ (disjunctLiterals c vs vs d ++ ls)) → (r : ℕ) → r ∈ d → Unmet c o P r
-        → Found (disjunctLiterals c vs vs d ++ ls)
-    unfolding disjunctLiterals
-    disjunct-in k d ls low r m u =
-        let a = range-in _ low r (λ l i. List·Memᴰ·tail (within l i)) u in
-        (a .0, within (a .0) (a .1), a .2)
+    range-in r u low = go (nonMatching c r) refl u low
       where
-        within : (l : Literal) → l ∈ rangeLiterals c vs vs (rangeName c r) (nonMatching c r) → l ∈ disjunctLiterals c vs vs d ++ ls
-        within l i = Memᴰ·append-left ls (concat-in _ d r l m i)
+        go : (ps : List ℕ) → nonMatching c r ≡ ps → Unmet c o P r → Low vs (rangeLiterals c vs vs (rangeName c r) ps) → clauseTrue v (rangeLiterals c vs vs (rangeName c r) ps) ≡ true
+        go [] e (another h) low = absurd (List·Memᴰ·not-nil (rw e at (h .1)))
+        go [] e (noneOfName _ h) low = unfold rangeLiterals in unit-in (one (rangeName c r)) low (none-in P _ h)
+        go (p ∷ ps) e (another h) low = rw range-parts (parts-in (p ∷ ps) (rw e at h) (rw range-parts at low))
+        go (p ∷ ps) e (noneOfName e′ _) low = absurd (not-one (cc (e, e′)))
 
-module _ {c : Catalogue} {o : Opening} {vs : List Origin} {ks : List Clause} (e : Encodes c o vs ks) {P : Parts} (s : Keeps c o P) where
-  abbrev v : Values
-  v = values c o P vs
+    disjunct-in : (d : List ℕ) (r : ℕ) → r ∈ d → Unmet c o P r → Low vs (disjunctLiterals c vs vs d) → clauseTrue v (disjunctLiterals c vs vs d) ≡ true
+    unfolding disjunctLiterals
+    disjunct-in d r m u low = clause-concat v _ d ∙ any-in _ d r m (range-in r u (low-concat _ d r low m))
 
-  root-true : v 0 ≡ true
-  unfolding values value
-  root-true = rw (e .root-first)
+    requires-in : (ps d : List ℕ) → Has P ps ⊎ ((r : ℕ) × (r ∈ d) × Unmet c o P r) → Low vs (disjunctLiterals c vs vs d ++ map pos (map (partVariable vs) ps))
+        → clauseTrue v (disjunctLiterals c vs vs d ++ map pos (map (partVariable vs) ps)) ≡ true
+    requires-in ps d h low =
+        let ks = disjunctLiterals c vs vs d in
+        let ls = map pos (map (partVariable vs) ps) in
+        clause-append v ks ls ∙ ⊎-elim
+          (λ a. ap (λ b. clauseTrue v ks || b) (parts-in ps a (low-right ks ls low)) ∙ or-true (clauseTrue v ks))
+          (λ u. ap (λ b. b || clauseTrue v ls) (disjunct-in d (u .0) (u .1) (u .2) (low-left ks ls low))) h
 
-  -- the one tracked part of a name that is in P, if any, has its number in the helpers
-  bit-true : (n i j : ℕ) → i < length (trackedOf c n (o .tracked)) → P (getD (trackedOf c n (o .tracked)) i 0) ≡ true
-      → bit j (indexOf P (trackedOf c n (o .tracked))) ≡ bit j i
-  unfolding trackedOf
-  bit-true n i j l h =
-      let xs = trackedOf c n (o .tracked) in
-      let a = filter-out _ (o .tracked) (getD xs i 0) (at-member xs i 0 l) in
-      let below : n < length (c .names) = rw (eqb-true _ n (a .1)) at (e .names-below _ (a .0)) in
-      ap (bit j) (index-one P xs (s .names n below) i l h)
+    module _ {ks : List Clause} (e : Encodes c o vs ks) (s : Keeps c o P) where
+      root-true : v 0 ≡ true
+      unfolding values value
+      root-true = rw (e .root-first)
 
-  called-true : {a : Clause} → Called c o vs a → Low vs (literals a) → clauseTrue v (literals a) ≡ true
-  unfolding literals value
-  called-true installed low = rw root-true
-  called-true (unknownPart {p} m h) low = unit-in c o P vs (chosen (part p)) low (s .unknowns p m h)
-  called-true (excludedPart {n} {p} m h) low = unit-in c o P vs (chosen (part p)) low (s .exclusions n m p h)
-  called-true (otherThanLocked {n} {p} m h) low =
-      agree-in (v 0) (v (partVariable vs p)) false (λ _. value-is c o P vs (chosen (part p)) false _ low (List·Memᴰ·tail (List·Memᴰ·head refl)) ∙ s .locks n m p h)
-  called-true (fewNonMatching {w} {k} {p} m hk _ hp) low =
-      then-in c o P vs (chosen w) (chosen (part p)) false low (λ hw. s .constraints w m hw k hk p hp)
-  called-true (partViolates {p = p} m hk _ hp) low = then-in c o P vs (chosen (part p)) (violation _) true low (any-in P _ p hp)
-  called-true (ownerForbidsViolation {w} {k} m hk _) low =
-      then-in c o P vs (chosen w) (violation _) false low (λ hw. none-in P _ (s .constraints w m hw k hk))
-  called-true (required {w} {q} m hq shaped) low =
-      rest-in c o P vs (chosen w) _ low (λ hw. candidate-in c o P vs _ [] _ low (s .unconditional w m hw q hq (unfired c q (λ fires. cc (shaped, fires)))))
-  called-true (gateRequires {w} {q} m hq _) low = rest-in c o P vs (gate (goalAt c q)) _ low (λ h. candidate-in c o P vs _ [] _ low (any-out P _ h))
-  called-true (ownerNeedsGate {w} {q} m hq shaped) low =
-      or-in c o P vs (chosen w) (gate (goalAt c q)) low (λ hw. let h = s .unconditional w m hw q hq (unfired c q (λ fires. cc (shaped, fires))) in any-in P _ (h .0) (h .1) (h .2))
-  called-true (firedRequires {w} {q} {i} m hq shaped fired) low =
-      let k = shape-some (conditionAt c q) (ownerAt c q) _ shaped in
-      rest-in c o P vs (chosen w) _ low (λ hw. ⊎-elim
-        (candidate-in c o P vs _ (disjunctLiterals c vs vs (disjunctAt c q i)) _ low)
-        (λ u. disjunct-in c o P vs _ (disjunctAt c q i) _ low (u .0) (u .1) (u .2))
-        (s .conditional w m hw q hq (k .0) (k .1) i fired))
-  called-true (bitAgrees n i j li lj) low = then-in c o P vs (chosen (part _)) (forbid n j) (bit j i) low (bit-true n i j li)
-  called-true (partIsOne {n} {p} needs m) low = or-in c o P vs (chosen (part p)) (one n) low (any-in P _ p m)
+      -- the one tracked part of a name that is in P, if any, has its number in the helpers
+      bit-in : (n i j : ℕ) → i < length (trackedOf c n (o .tracked)) → P (getD (trackedOf c n (o .tracked)) i 0) ≡ true
+          → bit j (indexOf P (trackedOf c n (o .tracked))) ≡ bit j i
+      unfolding trackedOf
+      bit-in n i j l h =
+          let xs = trackedOf c n (o .tracked) in
+          let m = filter-out _ (o .tracked) (getD xs i 0) (at-member xs i 0 l) in
+          let below : n < length (c .names) = rw (eqb-true _ n (m .1)) at (e .names-below _ (m .0)) in
+          ap (bit j) (index-one P xs (s .names n below) i l h)
+
+      called-true : {k : Clause} → Called c o vs k → Low vs (literals k) → clauseTrue v (literals k) ≡ true
+      unfolding literals value
+      called-true installed low = rw root-true
+      called-true (unknownPart {p} m h) low = unit-in (chosen (part p)) low (s .unknowns p m h)
+      called-true (excludedPart {n} {p} m h) low = unit-in (chosen (part p)) low (s .exclusions n m p h)
+      called-true (otherThanLocked {n} {p} m h) low = rw root-true (unit-in (chosen (part p)) (low-tail low) (s .locks n m p h))
+      called-true (fewNonMatching {w} {k} {p} m hk _ hp) low = then-in (chosen w) (chosen (part p)) false low (λ hw. s .constraints w m hw k hk p hp)
+      called-true (partViolates {p = p} m hk _ hp) low = then-in (chosen (part p)) (violation _) true low (any-in P _ p hp)
+      called-true (ownerForbidsViolation {w} {k} m hk _) low = then-in (chosen w) (violation _) false low (λ hw. none-in P _ (s .constraints w m hw k hk))
+      called-true (required {w} {q} m hq shaped) low =
+          some-in (chosen w) _ low (λ hw. parts-in _ (s .unconditional w m hw q hq (unfired c q (λ fires. cc (shaped, fires)))))
+      called-true (gateRequires {q = q} m hq _) low = some-in (gate (goalAt c q)) _ low (λ h. parts-in _ (any-out P _ h))
+      called-true (ownerNeedsGate {w} {q} m hq shaped) low =
+          cause-in (chosen w) (gate (goalAt c q)) low (λ hw. has-in (s .unconditional w m hw q hq (unfired c q (λ fires. cc (shaped, fires)))))
+      called-true (firedRequires {w} {q} {i} m hq shaped fired) low =
+          let k = conditional-fires c q shaped in
+          some-in (chosen w) _ low (λ hw. requires-in _ (disjunctAt c q i) (s .conditional w m hw q hq (k .0) (k .1) i fired))
+      called-true (bitAgrees n i j li lj) low = then-in (chosen (part _)) (forbid n j) (bit j i) low (bit-in n i j li)
+      called-true (partIsOne {n} {p} needs m) low = cause-in (chosen (part p)) (one n) low (any-in P _ p m)
 
 pub meaning : {c : Catalogue} {o : Opening} {vs : List Origin} {ks : List Clause} → Encodes c o vs ks → (P : Parts) → Satisfiable vs ks P ↔ Keeps c o P
 meaning {c} {o} {vs} {ks} e P = (
   λ s. kept e (fits vs P (s .0) (s .1)) (s .2),
-  λ s. (values c o P vs, (λ x l. values-agree c o P vs x), clauses-in _ ks (λ k m. called-true e s (e .stored k m) (e .below k m))),
+  λ s. (values c o P vs, values-agree c o P vs, clauses-in _ ks (λ k m. called-true c o P vs e s (e .stored k m) (record { below = e .below k m }))),
 )

@@ -14,9 +14,17 @@ use Rattle.rules.proofs.Bools.{and-left, and-right, and-both}
 
 -- ---- tests
 
-pub never-true : (b : Bool) → (b ≡ true → ⊥) → b ≡ false
+-- `cc` proves equations only: where two constructors would be equal, it proves this one
+pub not-one : _≡_ {A = ℕ} 0 1 → ⊥
+not-one z = omega arith
+
+never-true : (b : Bool) → (b ≡ true → ⊥) → b ≡ false
 never-true true f = absurd (f refl)
 never-true false f = refl
+
+pub contrary : (a b : Bool) → (a ≡ true → b ≡ true) → b ≡ false → a ≡ false
+contrary true b f e = sym (f refl) ∙ e
+contrary false b f e = refl
 
 -- "not a, or b"
 pub implies-out : (a b : Bool) → (not a || b) ≡ true → a ≡ true → b ≡ true
@@ -59,10 +67,12 @@ module _ {A : Type 0} (f : A → Bool) where
       or-right false b e = e
 
   pub none-out : (xs : List A) → any f xs ≡ false → (x : A) → x ∈ xs → f x ≡ false
-  none-out xs e x m = never-true (f x) (λ h. true≢false (sym (any-in xs x m h) ∙ e))
+  none-out xs e x m = contrary (f x) (any f xs) (any-in xs x m) e
 
   pub none-in : (xs : List A) → ((x : A) → x ∈ xs → f x ≡ false) → any f xs ≡ false
-  none-in xs h = never-true (any f xs) (λ e. let r = any-out xs e in true≢false (sym (r .2) ∙ h (r .0) (r .1)))
+  unfolding any
+  none-in [] h = refl
+  none-in (y ∷ xs) h = rw (h y (List·Memᴰ·head refl)) (none-in xs (λ x m. h x (List·Memᴰ·tail m)))
 
   -- ---- chosen and joined
 
