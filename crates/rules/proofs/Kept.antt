@@ -18,7 +18,7 @@ use Rattle.rules.specs.Opening.{Opening, trackedOf}
 use Rattle.rules.specs.Called.{_∈_, constraintRange}
 use Rattle.rules.specs.Keeps.{Parts, most, chosenIn, Has, Lacks, Unmet, another, noneOfName, Keeps, noneIn, nameKept, exclusionsKept, lockKept, unknownKept, constraintKept, rangeUnmet, hasCandidate, disjunctKept, firedOf, requirementKeptBy, requirementKept, ownerKept, keeps}
 use Rattle.rules.proofs.Bools.{and-left, and-right, and-both}
-use Rattle.rules.proofs.Member.{implies-out, implies-in, all-out, all-in, any-out, any-in, none-out, none-in, filter-out, filter-in, upTo-out, upTo-in}
+use Rattle.rules.proofs.Member.{not-one, implies-out, implies-in, all-out, all-in, any-out, any-in, none-out, none-in, filter-out, filter-in, upTo-out, upTo-in}
 
 -- ---- tests that say the same as a sentence
 
@@ -50,6 +50,13 @@ each {A} {f} g xs = (λ e x m. g x .0 (all-out f xs e x m), λ h. all-in f xs (�
 some-of : {A : Type 0} {f : A → Bool} {Q : A → Type 0} → ((x : A) → f x says Q x) → (xs : List A) → any f xs says ((x : A) × (x ∈ xs) × Q x)
 some-of {A} {f} g xs = (λ e. let r = any-out f xs e in (r .0, r .1, g (r .0) .0 (r .2)), λ r. any-in f xs (r .0) (r .1) (g (r .0) .1 (r .2)))
 
+not-both : (a b : Bool) → not (a && b) says (a ≡ true → b ≡ false)
+not-both true b = (λ e _. not-true b e, λ h. ap not (h refl))
+not-both false b = (λ e h. absurd (false≢true h), λ h. refl)
+
+same : {b : Bool} {A B : Type 0} → b says A → A ↔ B → b says B
+same f g = (λ e. g .0 (f .0 e), λ h. f .1 (g .1 h))
+
 module _ (c : Catalogue) (o : Opening) (P : Parts) where
   has : (ps : List ℕ) → any P ps says Has P ps
   has ps = some-of (λ p. (λ e. e, λ e. e)) ps
@@ -57,51 +64,29 @@ module _ (c : Catalogue) (o : Opening) (P : Parts) where
   lacks : (ps : List ℕ) → noneIn c o P ps says Lacks P ps
   lacks ps = (λ e. none-out P ps (not-true (any P ps) e), λ h. ap not (none-in P ps h))
 
-  -- ---- names, exclusions, locks, unknown dependencies
-
-  names-kept : all (nameKept c o P) (upTo 0 (length (c .names))) says ((n : ℕ) → n < length (c .names) → count P (trackedOf c n (o .tracked)) ≤ most n)
+  name-kept : (n : ℕ) → nameKept c o P n says count P (trackedOf c n (o .tracked)) ≤ most n
   unfolding nameKept
-  names-kept = (
-    λ t n l. of-all .0 t n (upTo-in 0 (length (c .names)) n zero-le (rw zero-add l)),
-    λ h. of-all .1 (λ n m. h n (rw zero-add at (upTo-out 0 (length (c .names)) n m .1))),
-  )
-    where
-      of-all : all (nameKept c o P) (upTo 0 (length (c .names))) says ((n : ℕ) → n ∈ upTo 0 (length (c .names)) → count P (trackedOf c n (o .tracked)) ≤ most n)
-      of-all = each (λ n. (leb-true _ _, le-leb _ _)) (upTo 0 (length (c .names)))
+  name-kept n = (leb-true _ _, le-leb _ _)
 
-  exclusions-kept : all (exclusionsKept c o P) (o .names) says ((n : ℕ) → n ∈ o .names → Lacks P (excludedParts c n))
+  exclusions-kept : (n : ℕ) → exclusionsKept c o P n says Lacks P (excludedParts c n)
   unfolding exclusionsKept
-  exclusions-kept = each (λ n. lacks (excludedParts c n)) (o .names)
+  exclusions-kept n = lacks (excludedParts c n)
 
-  locks-kept : all (lockKept c o P) (o .names) says ((n : ℕ) → n ∈ o .names → Lacks P (lockedOut c n))
+  lock-kept : (n : ℕ) → lockKept c o P n says Lacks P (lockedOut c n)
   unfolding lockKept
-  locks-kept = each (λ n. lacks (lockedOut c n)) (o .names)
+  lock-kept n = lacks (lockedOut c n)
 
   unknown-kept : (w : Owner) → unknownKept c o P w says (unknownOwner c w ≡ true → chosenIn P w ≡ false)
   unfolding unknownKept
-  unknown-kept w = (out (unknownOwner c w) (chosenIn P w), into (unknownOwner c w) (chosenIn P w))
-    where
-      out : (a b : Bool) → not (a && b) ≡ true → a ≡ true → b ≡ false
-      out true b e h = not-true b e
-      out false b e h = absurd (false≢true h)
-
-      into : (a b : Bool) → (a ≡ true → b ≡ false) → not (a && b) ≡ true
-      into true b h = ap not (h refl)
-      into false b h = refl
+  unknown-kept w = not-both _ _
 
   -- the root has no unknown dependencies
-  unknowns-kept : all (unknownKept c o P) (o .owners) says ((p : ℕ) → part p ∈ o .owners → (partAt c p) .unknown ≡ true → P p ≡ false)
+  unknown-owner : Keeps c o P → (w : Owner) → w ∈ o .owners → unknownOwner c w ≡ true → chosenIn P w ≡ false
   unfolding unknownOwner
-  unknowns-kept = (λ t p. of-all .0 t (part p), λ h. of-all .1 (into h))
-    where
-      of-all : all (unknownKept c o P) (o .owners) says ((w : Owner) → w ∈ o .owners → unknownOwner c w ≡ true → chosenIn P w ≡ false)
-      of-all = each unknown-kept (o .owners)
+  unknown-owner s root m e = absurd (false≢true e)
+  unknown-owner s (part p) m e = s .unknowns p m e
 
-      into : ((p : ℕ) → part p ∈ o .owners → (partAt c p) .unknown ≡ true → P p ≡ false) → (w : Owner) → w ∈ o .owners → unknownOwner c w ≡ true → chosenIn P w ≡ false
-      into h root m e = absurd (false≢true e)
-      into h (part p) m e = h p m e
-
-  -- ---- constraints and requirements of an owner
+  -- ---- requirements
 
   range-unmet : (r : ℕ) → rangeUnmet c o P (rangeName c r) (nonMatching c r) says Unmet c o P r
   unfolding rangeUnmet
@@ -117,7 +102,7 @@ module _ (c : Catalogue) (o : Opening) (P : Parts) where
         where
           into : Unmet c o P r → any P (p ∷ ps) ≡ true
           into (another h) = has (p ∷ ps) .1 (rw e at h)
-          into (noneOfName e′ _) = let z : _≡_ {A = ℕ} 0 1 = cc (e, e′) in let no-such : ⊥ = omega arith in absurd no-such
+          into (noneOfName e′ _) = absurd (not-one (cc (e, e′)))
 
   abbrev Disjunct : ℕ → ℕ → Type 0
   Disjunct q i = Has P (candidates c (goalAt c q)) ⊎ ((r : ℕ) × (r ∈ disjunctAt c q i) × Unmet c o P r)
@@ -126,17 +111,15 @@ module _ (c : Catalogue) (o : Opening) (P : Parts) where
   unfolding disjunctKept hasCandidate
   disjunct-kept q i = either (has _) (some-of range-unmet (disjunctAt c q i))
 
-  fired-kept : (q : ℕ) → all (λ (e : ℕ × ℕ). disjunctKept c o P q (e .1)) (firedOf c o P q) says ((i : ℕ) → (q, i) ∈ o .fired → Disjunct q i)
+  -- the fired disjuncts of a record
+  fired-of : (q : ℕ) {Q : ℕ → Type 0} → ((e : ℕ × ℕ) → e ∈ firedOf c o P q → Q (e .1)) ↔ ((i : ℕ) → (q, i) ∈ o .fired → Q i)
   unfolding firedOf
-  fired-kept q = (
-    λ t i m. of-all .0 t (q, i) (filter-in _ (o .fired) (q, i) m (eq-eqb q q refl)),
-    λ h. of-all .1 (λ e m. let r = filter-out _ (o .fired) e m in h (e .1) (rw (← (eqb-true (e .0) q (r .1))) (r .0))),
+  fired-of q = (
+    λ h i m. h (q, i) (filter-in _ (o .fired) (q, i) m (eq-eqb q q refl)),
+    λ h e m. let r = filter-out _ (o .fired) e m in h (e .1) (rw (← (eqb-true (e .0) q (r .1))) (r .0)),
   )
-    where
-      of-all : all (λ (e : ℕ × ℕ). disjunctKept c o P q (e .1)) (firedOf c o P q) says ((e : ℕ × ℕ) → e ∈ firedOf c o P q → Disjunct q (e .1))
-      of-all = each (λ e. disjunct-kept q (e .1)) (firedOf c o P q)
 
-  -- an unconditional requirement, and a conditional one
+  -- of an unconditional requirement, and of a conditional one
   abbrev Requirement : Option ℕ → ℕ → Type 0
   Requirement x q = (x ≡ none → Has P (candidates c (goalAt c q))) × ((k : ℕ) → x ≡ some k → (i : ℕ) → (q, i) ∈ o .fired → Disjunct q i)
 
@@ -145,8 +128,10 @@ module _ (c : Catalogue) (o : Opening) (P : Parts) where
   requirement-kept q = go (conditionAt c q)
     where
       go : (x : Option ℕ) → requirementKeptBy c o P x q says Requirement x q
-      go none = (λ t. (λ _. has _ .0 t, λ k e. let z : _≡_ {A = ℕ} 0 1 = cc in let no-such : ⊥ = omega arith in absurd no-such), λ h. has _ .1 (h .0 refl))
-      go (some k) = (λ t. (λ e. let z : _≡_ {A = ℕ} 0 1 = cc in let no-such : ⊥ = omega arith in absurd no-such, λ _ _. fired-kept q .0 t), λ h. fired-kept q .1 (h .1 k refl))
+      go none = same (has _) (λ h. (λ _. h, λ k e. absurd (not-one (cc))), λ h. h .0 refl)
+      go (some k) = same (same (each (λ e. disjunct-kept q (e .1)) _) (fired-of q {Q = Disjunct q})) (λ h. (λ e. absurd (not-one (cc)), λ _ _. h), λ h. h .1 k refl)
+
+  -- ---- owners, and the whole
 
   owner-kept : (w : Owner) → ownerKept c o P w says
       (chosenIn P w ≡ true → ((k : ℕ) → k ∈ constraintsOf c w → Lacks P (nonMatching c (constraintRange c k)))
@@ -154,25 +139,25 @@ module _ (c : Catalogue) (o : Opening) (P : Parts) where
   unfolding ownerKept constraintKept
   owner-kept w = if-so (λ e. e, λ e. e) (both (each (λ k. lacks _) _) (each requirement-kept _))
 
-  -- ---- the whole
-
   pub keeps-same : (keeps c o P ≡ true) ↔ Keeps c o P
-  unfolding keeps
+  unfolding keeps unknownOwner
   keeps-same =
-      let sentences = both names-kept (both exclusions-kept (both locks-kept (both unknowns-kept (each owner-kept (o .owners))))) in (
-        λ t.
-            let s = sentences .0 t in
+      same (both (each name-kept _) (both (each exclusions-kept _) (both (each lock-kept _) (both (each unknown-kept _) (each owner-kept _))))) (
+        λ s.
             let owners = s .1 .1 .1 .1 in
             record {
-              names = s .0;
+              names = λ n l. s .0 n (upTo-in 0 _ n zero-le (rw zero-add l));
               exclusions = s .1 .0;
               locks = s .1 .1 .0;
-              unknowns = s .1 .1 .1 .0;
+              unknowns = λ p. s .1 .1 .1 .0 (part p);
               constraints = λ w m h. owners w m h .0;
               unconditional = λ w m h q i. owners w m h .1 q i .0;
               conditional = λ w m h q i. owners w m h .1 q i .1
             },
-        λ s. sentences .1 (
-          s .names, (s .exclusions, (s .locks, (s .unknowns, λ w m h. (s .constraints w m h, λ q i. (s .unconditional w m h q i, s .conditional w m h q i)))))
+        λ s. (
+          (λ n m. s .names n (rw zero-add at (upTo-out 0 _ n m .1))), (s .exclusions, (s .locks, (
+          unknown-owner s,
+          (λ w m h. (s .constraints w m h, λ q i. (s .unconditional w m h q i, s .conditional w m h q i)))
+          )))
         )
       )
