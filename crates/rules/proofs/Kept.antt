@@ -1,14 +1,11 @@
 -- The test `keeps` passes exactly where P keeps every sentence of demand 3.
-use mathlib.Core.Path.{_≡_, refl, sym, _∙_, ap}
+use mathlib.Core.Path.{_≡_, refl, ap}
 use mathlib.Core.Logic.{_↔_, _⊎_, inl, inr}
-use mathlib.Core.Bool.{Bool, true, false, not, _&&_, _||_, true≢false, false≢true}
-use mathlib.Core.List.{List, [], _∷_, List·Memᴰ·not-nil, Memᴰ·cast}
+use mathlib.Core.Bool.{Bool, true, false, not, _&&_, _||_, false≢true}
+use mathlib.Core.List.{List, [], _∷_, List·Memᴰ·not-nil}
 use mathlib.Core.Option.{Option, none, some}
 use Prim.Native.Nat.{ℕ, _<_, _≤_, zero-le}
 use native.Mathlib.Nat.{zero-add}
-use native.Mathlib.Omega.{arith}
-use lib.Dec.{eqb, leb}
-use lib.ListN.{length}
 use borrow.Author.Tests.{leb-true, le-leb, eqb-true, eq-eqb, not-true}
 use Rattle.rules.specs.Lists.{any, all, count, upTo}
 use Rattle.rules.specs.Catalogue.{Owner, root, part, Catalogue, partAt, rangeName, goalAt, conditionAt, unknownOwner}
@@ -57,6 +54,9 @@ not-both false b = (λ e h. absurd (false≢true h), λ h. refl)
 same : {b : Bool} {A B : Type 0} → b says A → A ↔ B → b says B
 same f g = (λ e. g .0 (f .0 e), λ h. f .1 (g .1 h))
 
+below : (k : ℕ) {Q : ℕ → Type 0} → ((n : ℕ) → n ∈ upTo 0 k → Q n) ↔ ((n : ℕ) → n < k → Q n)
+below k = (λ h n l. h n (upTo-in 0 k n zero-le (rw zero-add l)), λ h n m. h n (rw zero-add at (upTo-out 0 k n m .1)))
+
 module _ (c : Catalogue) (o : Opening) (P : Parts) where
   has : (ps : List ℕ) → any P ps says Has P ps
   has ps = some-of (λ p. (λ e. e, λ e. e)) ps
@@ -81,10 +81,14 @@ module _ (c : Catalogue) (o : Opening) (P : Parts) where
   unknown-kept w = not-both _ _
 
   -- the root has no unknown dependencies
-  unknown-owner : Keeps c o P → (w : Owner) → w ∈ o .owners → unknownOwner c w ≡ true → chosenIn P w ≡ false
+  unknown-parts : (ws : List Owner) → ((w : Owner) → w ∈ ws → unknownOwner c w ≡ true → chosenIn P w ≡ false)
+      ↔ ((p : ℕ) → part p ∈ ws → (partAt c p) .unknown ≡ true → P p ≡ false)
   unfolding unknownOwner
-  unknown-owner s root m e = absurd (false≢true e)
-  unknown-owner s (part p) m e = s .unknowns p m e
+  unknown-parts ws = (λ h p. h (part p), into)
+    where
+      into : ((p : ℕ) → part p ∈ ws → (partAt c p) .unknown ≡ true → P p ≡ false) → (w : Owner) → w ∈ ws → unknownOwner c w ≡ true → chosenIn P w ≡ false
+      into h root m e = absurd (false≢true e)
+      into h (part p) m e = h p m e
 
   -- ---- requirements
 
@@ -140,24 +144,20 @@ module _ (c : Catalogue) (o : Opening) (P : Parts) where
   owner-kept w = if-so (λ e. e, λ e. e) (both (each (λ k. lacks _) _) (each requirement-kept _))
 
   pub keeps-same : (keeps c o P ≡ true) ↔ Keeps c o P
-  unfolding keeps unknownOwner
+  unfolding keeps
   keeps-same =
-      same (both (each name-kept _) (both (each exclusions-kept _) (both (each lock-kept _) (both (each unknown-kept _) (each owner-kept _))))) (
+      same (both (same (each name-kept _) (below _)) (both (each exclusions-kept _) (both (each lock-kept _)
+      (both (same (each unknown-kept _) (unknown-parts _)) (each owner-kept _))))) (
         λ s.
             let owners = s .1 .1 .1 .1 in
             record {
-              names = λ n l. s .0 n (upTo-in 0 _ n zero-le (rw zero-add l));
+              names = s .0;
               exclusions = s .1 .0;
               locks = s .1 .1 .0;
-              unknowns = λ p. s .1 .1 .1 .0 (part p);
+              unknowns = s .1 .1 .1 .0;
               constraints = λ w m h. owners w m h .0;
               unconditional = λ w m h q i. owners w m h .1 q i .0;
-              conditional = λ w m h q i. owners w m h .1 q i .1
+              conditional = λ w m h q i. owners w m h .1 q i .1;
             },
-        λ s. (
-          (λ n m. s .names n (rw zero-add at (upTo-out 0 _ n m .1))), (s .exclusions, (s .locks, (
-          unknown-owner s,
-          (λ w m h. (s .constraints w m h, λ q i. (s .unconditional w m h q i, s .conditional w m h q i)))
-          )))
-        )
+        λ s. (s .names, (s .exclusions, (s .locks, (s .unknowns, λ w m h. (s .constraints w m h, λ q i. (s .unconditional w m h q i, s .conditional w m h q i)))))),
       )

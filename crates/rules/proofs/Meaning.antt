@@ -2,34 +2,34 @@
 -- of them true exist exactly where P keeps every sentence of demand 3. It knows no task line, decision or number of a variable.
 use mathlib.Core.Path.{_≡_, refl, sym, _∙_, ap}
 use mathlib.Core.Logic.{_↔_, _⊎_, inl, inr, ⊎-elim}
-use mathlib.Core.Bool.{Bool, true, false, not, _&&_, _||_, cond, or-true, or-false, or-assoc, true≢false, false≢true}
-use mathlib.Core.List.{List, [], _∷_, _++_, map, List·Memᴰ·head, List·Memᴰ·tail, List·Memᴰ·not-nil, List·Memᴰ·eq-of-singleton, List·Memᴰ·append-cases, Memᴰ·append-left, Memᴰ·append-right, Memᴰ·cast, Memᴰ·map, Memᴰ·of-map, map-map}
+use mathlib.Core.Bool.{Bool, true, false, not, _&&_, _||_, cond, or-true, or-false, or-assoc}
+use mathlib.Core.List.{List, [], _∷_, _++_, map, List·Memᴰ·head, List·Memᴰ·tail, List·Memᴰ·not-nil, Memᴰ·append-left, Memᴰ·append-right, map-map}
 use mathlib.Core.Option.{Option, none, some}
-use Prim.Native.Nat.{ℕ, zero, suc, _+_, _^_, _<_, _≤_, zero-le}
+use Prim.Native.Nat.{ℕ, zero, suc, _^_, _<_, _≤_, zero-le}
 use native.Mathlib.Omega.{arith}
-use lib.Dec.{eqb, ltb}
 use lib.Pow.{pow-pos}
 use lib.ListN.{length, getD}
-use borrow.Author.Tests.{ltb-false, eqb-true, not-true}
+use borrow.Author.Tests.{ltb-false, eqb-true}
 use Rattle.rules.specs.Lists.{any, all, count, indexOf, concatMap}
 use Rattle.rules.specs.Literal.{Literal, pos, neg}
-use Rattle.rules.specs.Clause.{Clause, literals, exclusion}
+use Rattle.rules.specs.Clause.{Clause, literals}
 use Rattle.rules.specs.Truth.{Values, literalTrue, clauseTrue, allTrue}
 use Rattle.rules.specs.AtMostOne.{bit, helpersAfter, helpersFor}
-use Rattle.rules.specs.Catalogue.{Owner, root, part, Catalogue, partAt, nameOf, rangeName, ownerAt, goalAt, conditionAt}
-use Rattle.rules.specs.Candidates.{nonMatching, candidates, requirementsOf, constraintsOf, lockedOut, excludedParts}
+use Rattle.rules.specs.Catalogue.{Owner, root, part, Catalogue, nameOf, rangeName, ownerAt, goalAt, conditionAt}
+use Rattle.rules.specs.Candidates.{nonMatching, candidates, requirementsOf, constraintsOf, lockedOut}
 use Rattle.rules.specs.Conditions.{disjunctAt}
 use Rattle.rules.specs.Variables.{Origin, chosen, forbid, one, violation, gate, sameOrigin, known, variableOf, partVariable}
 use Rattle.rules.specs.Opening.{Opening, trackedOf}
 use Rattle.rules.specs.Encoding.{Shape, direct, throughGate, onFiring, shapeBy, shape, shapeOf, few, rangeLiterals, disjunctLiterals}
 use Rattle.rules.specs.Called.{_∈_, NeedsOne, constraintRange, Called, installed, unknownPart, excludedPart, otherThanLocked, fewNonMatching, partViolates, ownerForbidsViolation, required, gateRequires, ownerNeedsGate, firedRequires, bitAgrees, partIsOne}
 use Rattle.rules.specs.Keeps.{Parts, most, chosenIn, Has, Lacks, Unmet, another, noneOfName, Keeps, Agrees, Satisfiable}
-use Rattle.rules.proofs.Bools.{and-left, and-right, and-both, agree-out, agree-in}
+use Rattle.rules.proofs.Bools.{agree-out, agree-in}
 use Rattle.rules.proofs.Bits.{bits-same}
 use Rattle.rules.proofs.Places.{stands}
-use Rattle.rules.proofs.Member.{not-one, contrary, implies-out, implies-in, all-out, all-in, any-out, any-in, none-in, filter-out, concat-out, concat-in, index-any, at-member, count-one, index-one}
+use Rattle.rules.proofs.Member.{not-one, contrary, implies-out, implies-in, all-out, all-in, any-out, any-in, none-in, filter-out, concat-in, index-any, at-member, count-one, index-one}
 
--- the stored clauses are those that the opening calls for
+-- The stored clauses are those that the opening calls for, and each of their literals has its variable. The last two hold of every job:
+-- variable 0 is the root, and refusal 4 keeps the names of parts below the count.
 pub record Encodes (c : Catalogue) (o : Opening) (vs : List Origin) (ks : List Clause) : Type 0 where
   pub stored : (k : Clause) → k ∈ ks → Called c o vs k
   pub called : (k : Clause) → Called c o vs k → k ∈ ks
@@ -189,10 +189,11 @@ module _ {vs : List Origin} {v : Values} where
 
 module _ {vs : List Origin} {P : Parts} {v : Values} (f : Fits vs P v) where
   first-is : (w : Owner) (ls : List Literal) → Holds vs v (neg (variableOf vs (chosen w)) ∷ ls) → v (variableOf vs (chosen w)) ≡ chosenIn P w
-  first-is w ls h = f .owner-is w (h .low .below (neg (variableOf vs (chosen w))) (List·Memᴰ·head refl))
+  first-is w ls h = f .owner-is w (h .low .below _ (List·Memᴰ·head refl))
 
-  second-is : (l : Literal) (w : Owner) → Holds vs v (l ∷ neg (variableOf vs (chosen w)) ∷ []) → v (variableOf vs (chosen w)) ≡ chosenIn P w
-  second-is l w h = f .owner-is w (h .low .below (neg (variableOf vs (chosen w))) (List·Memᴰ·tail (List·Memᴰ·head refl)))
+  -- "not w, or .."
+  owner-out : (w : Owner) (ls : List Literal) → Holds vs v (neg (variableOf vs (chosen w)) ∷ ls) → chosenIn P w ≡ true → Holds vs v ls
+  owner-out w ls h t = holds-tail h (first-is w ls h ∙ t)
 
   -- "not part"
   never : (p : ℕ) → Holds vs v (neg (partVariable vs p) ∷ []) → P p ≡ false
@@ -204,15 +205,16 @@ module _ {vs : List Origin} {P : Parts} {v : Values} (f : Fits vs P v) where
 
   -- "y, or not w"
   cause-out : (w : Owner) (y : ℕ) → Holds vs v (pos y ∷ neg (variableOf vs (chosen w)) ∷ []) → chosenIn P w ≡ true → v y ≡ true
-  cause-out w y h t = back-out (v y) (v (variableOf vs (chosen w))) (h .holds) (second-is (pos y) w h ∙ t)
+  cause-out w y h t =
+      back-out (v y) (v (variableOf vs (chosen w))) (h .holds) (f .owner-is w (h .low .below _ (List·Memᴰ·tail (List·Memᴰ·head refl))) ∙ t)
 
   parts-out : (ps : List ℕ) → Holds vs v (map pos (map (partVariable vs) ps)) → Has P ps
   parts-out ps h = any-out P ps (sym (parts-are f ps (h .low)) ∙ h .holds)
 
 module _ {c : Catalogue} {o : Opening} {vs : List Origin} {ks : List Clause} (e : Encodes c o vs ks) {P : Parts} {v : Values}
     (f : Fits vs P v) (t : allTrue v (map literals ks) ≡ true) where
-  says : {k : Clause} → Called c o vs k → Holds vs v (literals k)
-  says {k} d = record { low = record { below = e .below k (e .called k d) }; holds = clauses-out v ks t k (e .called k d) }
+  stated : {k : Clause} → Called c o vs k → Holds vs v (literals k)
+  stated {k} d = record { low = record { below = e .below k (e .called k d) }; holds = clauses-out v ks t k (e .called k d) }
 
   -- two tracked parts of a name that are both in P have the same bits
   names-out : (n : ℕ) → n < length (c .names) → count P (trackedOf c n (o .tracked)) ≤ most n
@@ -223,7 +225,7 @@ module _ {c : Catalogue} {o : Opening} {vs : List Origin} {ks : List Clause} (e 
       xs = trackedOf c n (o .tracked)
 
       bit-out : (i j : ℕ) → i < length xs → j < helpersFor (length xs) → P (getD xs i 0) ≡ true → v (variableOf vs (forbid n j)) ≡ bit j i
-      bit-out i j li lj h = then-out f (part (getD xs i 0)) _ (bit j i) (says (bitAgrees n i j li lj)) h
+      bit-out i j li lj h = then-out f (part (getD xs i 0)) _ (bit j i) (stated (bitAgrees n i j li lj)) h
 
       same : (i j : ℕ) → i < length xs → j < length xs → P (getD xs i 0) ≡ true → P (getD xs j 0) ≡ true → i ≡ j
       same i j li lj hi hj =
@@ -233,9 +235,8 @@ module _ {c : Catalogue} {o : Opening} {vs : List Origin} {ks : List Clause} (e 
   locks-out : (n : ℕ) → n ∈ o .names → Lacks P (lockedOut c n)
   unfolding literals
   locks-out n m p h =
-      let d = says (otherThanLocked m h) in
-      let root-true : v 0 ≡ true = sym (or-false (v 0)) ∙ says installed .holds in
-      sym (second-is f (neg 0) (part p) d) ∙ agree-out (v 0) (v (partVariable vs p)) false (d .holds) root-true
+      let root-true : v 0 ≡ true = sym (or-false (v 0)) ∙ stated installed .holds in
+      never f p (holds-tail (stated (otherThanLocked m h)) root-true)
 
   constraints-out : (w : Owner) → w ∈ o .owners → chosenIn P w ≡ true → (k : ℕ) → k ∈ constraintsOf c w → Lacks P (nonMatching c (constraintRange c k))
   unfolding literals
@@ -245,9 +246,9 @@ module _ {c : Catalogue} {o : Opening} {vs : List Origin} {ks : List Clause} (e 
       y = variableOf vs (violation (constraintRange c k))
 
       go : (b : Bool) → few (nonMatching c (constraintRange c k)) ≡ b → P p ≡ false
-      go true s = let d = says (fewNonMatching m hk s hp) in sym (second-is f _ (part p) d) ∙ then-out f w (partVariable vs p) false d hw
+      go true s = never f p (owner-out f w _ (stated (fewNonMatching m hk s hp)) hw)
       go false s =
-          contrary (P p) (v y) (then-out f (part p) y true (says (partViolates m hk s hp))) (then-out f w y false (says (ownerForbidsViolation m hk s)) hw)
+          contrary (P p) (v y) (then-out f (part p) y true (stated (partViolates m hk s hp))) (then-out f w y false (stated (ownerForbidsViolation m hk s)) hw)
 
   unconditional-out : (w : Owner) → w ∈ o .owners → chosenIn P w ≡ true → (q : ℕ) → q ∈ requirementsOf c w → conditionAt c q ≡ none
       → Has P (candidates c (goalAt c q))
@@ -255,45 +256,46 @@ module _ {c : Catalogue} {o : Opening} {vs : List Origin} {ks : List Clause} (e 
   unconditional-out w m hw q hq no-condition = go (shapeOf c q) refl
     where
       go : (s : Shape) → shapeOf c q ≡ s → Has P (candidates c (goalAt c q))
-      go direct s = let d = says (required m hq s) in parts-out f _ (holds-tail d (first-is f w _ d ∙ hw))
-      go throughGate s = parts-out f _ (holds-tail (says (gateRequires m hq s)) (cause-out f w _ (says (ownerNeedsGate m hq s)) hw))
+      go direct s = parts-out f _ (owner-out f w _ (stated (required m hq s)) hw)
+      go throughGate s = parts-out f _ (holds-tail (stated (gateRequires m hq s)) (cause-out f w _ (stated (ownerNeedsGate m hq s)) hw))
       go onFiring s = let k = conditional-fires c q s in absurd (not-one (cc (k .1, no-condition)))
 
   -- "not one-of-name" leaves out every tracked part of the name
   one-out : (n : ℕ) → NeedsOne c o n → v (variableOf vs (one n)) ≡ false → Lacks P (trackedOf c n (o .tracked))
   unfolding literals
-  one-out n needs h p m = contrary (P p) _ (cause-out f (part p) (variableOf vs (one n)) (says (partIsOne needs m))) h
+  one-out n needs h p m = contrary (P p) _ (cause-out f (part p) (variableOf vs (one n)) (stated (partIsOne needs m))) h
 
-  range-out : (r : ℕ) → (nonMatching c r ≡ [] → NeedsOne c o (rangeName c r)) → Holds vs v (rangeLiterals c vs vs (rangeName c r) (nonMatching c r)) → Unmet c o P r
-  range-out r needs h = go (nonMatching c r) refl h
+  range-out : (q i r : ℕ) → (q, i) ∈ o .fired → r ∈ disjunctAt c q i → Holds vs v (rangeLiterals c vs vs (rangeName c r) (nonMatching c r)) → Unmet c o P r
+  range-out q i r fired m h = go (nonMatching c r) refl h
     where
       go : (ps : List ℕ) → nonMatching c r ≡ ps → Holds vs v (rangeLiterals c vs vs (rangeName c r) ps) → Unmet c o P r
-      go [] e h = noneOfName e (one-out (rangeName c r) (needs e) (unit-out _ (unfold rangeLiterals in h .holds)))
+      go [] e h =
+          noneOfName e (one-out (rangeName c r)
+          (record { requirement = q; index = i; range = r; fired = fired; in-disjunct = m; of-name = refl; none-else = e })
+          (unit-out _ (unfold rangeLiterals in h .holds)))
       go (p ∷ ps) e h = another (rw e (parts-out f (p ∷ ps) (rw range-parts at h)))
 
   conditional-out : (w : Owner) → w ∈ o .owners → chosenIn P w ≡ true → (q : ℕ) → q ∈ requirementsOf c w → (k : ℕ) → conditionAt c q ≡ some k
       → (i : ℕ) → (q, i) ∈ o .fired → Has P (candidates c (goalAt c q)) ⊎ ((r : ℕ) × (r ∈ disjunctAt c q i) × Unmet c o P r)
   unfolding literals disjunctLiterals
   conditional-out w m hw q hq k condition i fired =
-      let d = says (firedRequires m hq (fires-conditional c q k condition) fired) in
-      ⊎-elim (λ h. inr (unmet h)) (λ h. inl (parts-out f _ h)) (holds-append (disjunctLiterals c vs vs (disjunctAt c q i)) _ (holds-tail d (first-is f w _ d ∙ hw)))
+      ⊎-elim (λ h. inr (unmet h)) (λ h. inl (parts-out f _ h))
+      (holds-append (disjunctLiterals c vs vs (disjunctAt c q i)) _ (owner-out f w _ (stated (firedRequires m hq (fires-conditional c q k condition) fired)) hw))
     where
       unmet : Holds vs v (disjunctLiterals c vs vs (disjunctAt c q i)) → (r : ℕ) × (r ∈ disjunctAt c q i) × Unmet c o P r
-      unmet h =
-          let r = holds-concat _ (disjunctAt c q i) h in
-          (r .0, r .1, range-out (r .0) (λ e. record { requirement = q; index = i; range = r .0; fired = fired; in-disjunct = r .1; of-name = refl; none-else = e }) (r .2))
+      unmet h = let r = holds-concat _ (disjunctAt c q i) h in (r .0, r .1, range-out q i (r .0) fired (r .1) (r .2))
 
   kept : Keeps c o P
   unfolding literals
   kept =
       record {
         names = names-out;
-        exclusions = λ n m p h. never f p (says (excludedPart m h));
+        exclusions = λ n m p h. never f p (stated (excludedPart m h));
         locks = locks-out;
-        unknowns = λ p m h. never f p (says (unknownPart m h));
+        unknowns = λ p m h. never f p (stated (unknownPart m h));
         constraints = constraints-out;
         unconditional = unconditional-out;
-        conditional = conditional-out
+        conditional = conditional-out;
       }
 
 -- ---- from the sentences to the clauses
@@ -362,7 +364,8 @@ module _ (c : Catalogue) (o : Opening) (P : Parts) where
     unfolding value
     range-in r u low = go (nonMatching c r) refl u low
       where
-        go : (ps : List ℕ) → nonMatching c r ≡ ps → Unmet c o P r → Low vs (rangeLiterals c vs vs (rangeName c r) ps) → clauseTrue v (rangeLiterals c vs vs (rangeName c r) ps) ≡ true
+        go : (ps : List ℕ) → nonMatching c r ≡ ps → Unmet c o P r → Low vs (rangeLiterals c vs vs (rangeName c r) ps)
+            → clauseTrue v (rangeLiterals c vs vs (rangeName c r) ps) ≡ true
         go [] e (another h) low = absurd (List·Memᴰ·not-nil (rw e at (h .1)))
         go [] e (noneOfName _ h) low = unfold rangeLiterals in unit-in (one (rangeName c r)) low (none-in P _ h)
         go (p ∷ ps) e (another h) low = rw range-parts (parts-in (p ∷ ps) (rw e at h) (rw range-parts at low))
@@ -378,8 +381,8 @@ module _ (c : Catalogue) (o : Opening) (P : Parts) where
         let ks = disjunctLiterals c vs vs d in
         let ls = map pos (map (partVariable vs) ps) in
         clause-append v ks ls ∙ ⊎-elim
-          (λ a. ap (λ b. clauseTrue v ks || b) (parts-in ps a (low-right ks ls low)) ∙ or-true (clauseTrue v ks))
-          (λ u. ap (λ b. b || clauseTrue v ls) (disjunct-in d (u .0) (u .1) (u .2) (low-left ks ls low))) h
+        (λ a. ap (λ b. clauseTrue v ks || b) (parts-in ps a (low-right ks ls low)) ∙ or-true (clauseTrue v ks))
+        (λ u. ap (λ b. b || clauseTrue v ls) (disjunct-in d (u .0) (u .1) (u .2) (low-left ks ls low))) h
 
     module _ {ks : List Clause} (e : Encodes c o vs ks) (s : Keeps c o P) where
       root-true : v 0 ≡ true
