@@ -28,8 +28,8 @@ use Rattle.rules.proofs.Bits.{bits-same}
 use Rattle.rules.proofs.Places.{stands}
 use Rattle.rules.proofs.Member.{not-one, contrary, implies-out, implies-in, all-out, all-in, any-out, any-in, none-in, filter-out, concat-in, index-any, at-member, count-one, index-one}
 
--- The stored clauses are those that the opening calls for, and each of their literals has its variable. The last two hold of every job:
--- variable 0 is the root, and refusal 4 keeps the names of parts below the count.
+-- The stored clauses are those that the opening calls for, and each of their literals has its variable. A job has yet to give all five;
+-- the last two should come from `start` (variable 0 is the root) and from refusal 4 (a part's name is given earlier).
 pub record Encodes (c : Catalogue) (o : Opening) (vs : List Origin) (ks : List Clause) : Type 0 where
   pub stored : (k : Clause) → k ∈ ks → Called c o vs k
   pub called : (k : Clause) → Called c o vs k → k ∈ ks
