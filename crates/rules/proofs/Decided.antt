@@ -29,7 +29,7 @@ use Rattle.rules.proofs.Evaluation.{Undecided, undecided-out, not-true,
 use Rattle.rules.proofs.Effects.{settable, forced, variablesAfter, stored}
 use Rattle.rules.proofs.Grows.{Prefix, prefix-length, withVariables-prefix}
 use Rattle.rules.proofs.Places.{stands, keeps-variable, unknown-beyond}
-use Rattle.rules.proofs.Reached.{first-passed, Reached, command}
+use Rattle.rules.proofs.Reached.{tested, passes, Reached, command}
 use Rattle.rules.proofs.RunLaws.{CanSet, Known, earlier, Within, within-prefix, emit-within, serveTask-within, serveLine-within, OneRun, every-run}
 use Rattle.rules.proofs.Clauses.{isChosen, Settable, Exists, WellMade, well-made-after, event-made}
 
@@ -128,12 +128,12 @@ unfolding begun
 begin-run w v = record { before = omega (arith, w .before); decided-in = v }
 
 pub decided : {l : Limits} {c : Catalogue} {s : State} → Reached l c s → DecidedIn s
-unfolding carriedOut commandRefusals
+unfolding carriedOut commandRefusals tested
 decided Reached.begun = at-start
 decided (command r (Command.add o) p) = decided r
 decided (command r (Command.draw k) p) = decided r
 decided (command r (Command.run level) p) = let w = every-run r level in within-run (begin-run w (decided r)) (w .within) .decided-in
-decided (command {s} r (Command.decide x value level) p) = decide-decided x value level s (leb-false _ _ (first-passed p)) (decided r)
+decided (command {s} r (Command.decide x value level) p) = decide-decided x value level s (leb-false _ _ (passes p 0)) (decided r)
 decided (command r (Command.undo level) p) = undoes level (decided r)
 
 -- "every literal of a stored clause is below the count" of variables

@@ -3,7 +3,7 @@
 use mathlib.Core.Path.{_≡_, refl, sym, _∙_, ap}
 use mathlib.Core.Bool.{Bool, true, false, _||_}
 use mathlib.Core.List.{List, [], _∷_, _++_, map, append-nil, append-assoc}
-use Prim.Native.Nat.{ℕ, zero, suc, _+_, _≤_}
+use Prim.Native.Nat.{ℕ, zero, suc, _≤_}
 use native.Mathlib.Omega.{arith}
 use lib.Dec.{ltb}
 use lib.ListN.{length, length-append}
@@ -13,11 +13,12 @@ use Rattle.rules.specs.Clause.{Clause, conditionLiterals}
 use Rattle.rules.specs.Catalogue.{Owner, part, Catalogue, rangeName, goalAt}
 use Rattle.rules.specs.Candidates.{candidates}
 use Rattle.rules.specs.Variables.{Origin, withVariable, withVariables}
-use Rattle.rules.specs.Opening.{Task, owner, name, condition, requirement, constraint, Opening, setOwners, setNames, setSeveral, setNamed, setAdded, setDrawn, setLine, queue, openOwner, openName, openNames, rangesOf, rangesFirst, tasksOf, serveOwner, serveName, fire, serveCondition, firedParts, nameForTracking, openReady, markHandled, serveRequirement, serve, beginRun, joining, endRun, mostTasks}
+use Rattle.rules.specs.Opening.{Task, owner, name, condition, requirement, constraint, Opening, setAdded, setDrawn, queue, openOwner, openName, openNames, rangesOf, rangesFirst, tasksOf, serveOwner, serveName, fire, serveCondition, firedParts, nameForTracking, openReady, markHandled, serveRequirement, serve, beginRun, endRun}
 use Rattle.rules.specs.Encoding.{Event, served, origins, clauses}
 use Rattle.rules.specs.State.{State, setOpening, decidedTrue, Run, emit, emitAll}
 use Rattle.rules.specs.Run.{lineTaken, serveTask, serveLine, joinAll, linkAll, begun, runOnce}
 use Rattle.rules.specs.Limits.{Limits, above}
+use Rattle.rules.proofs.ListLaws.{sum-append}
 use Rattle.rules.proofs.Each.{unless-cases}
 use Rattle.rules.proofs.Effects.{emit-leaves}
 
@@ -185,24 +186,15 @@ runOnce-grows c level s =
     let s₁ = begun c s in
     let w = begin-waits c (s .opening) in
     and-then {s′ = lineTaken s₁} (record { variables = whole; clauses = whole; waiting = w .waits })
-    (and-then (serveLine-grows c r (mostTasks c (s₁ .opening)) (s₁ .opening .line) (lineTaken s₁)) (and-then (joinAll-grows c r _) (linkAll-grows c r _)))
+    (and-then (serveLine-grows c r _ (s₁ .opening .line) (lineTaken s₁)) (and-then (joinAll-grows c r _) (linkAll-grows c r _)))
 
 -- ---- above a limit, and still above it
 
 pub prefix-length : {A : Type 0} {xs ys : List A} → Prefix xs ys → length xs ≤ length ys
 prefix-length {A} {xs} p = rw (p .is, length-append xs (p .more)) (omega arith)
 
-sum-append : (ms ns : List ℕ) → sum (ms ++ ns) ≡ sum ms + sum ns
-unfolding sum
-sum-append [] ns = omega arith
-sum-append (m ∷ ms) ns = omega (arith, sum-append ms ns)
-
-map-append : {A B : Type 0} (f : A → B) (xs ys : List A) → map f (xs ++ ys) ≡ map f xs ++ map f ys
-map-append f [] ys = refl
-map-append f (x ∷ xs) ys = ap (λ l. f x ∷ l) (map-append f xs ys)
-
 prefix-sum : {xs ys : List Clause} → Prefix xs ys → sum (map conditionLiterals xs) ≤ sum (map conditionLiterals ys)
-prefix-sum {xs} p = rw (p .is, map-append conditionLiterals xs (p .more), sum-append (map conditionLiterals xs) (map conditionLiterals (p .more))) (omega arith)
+prefix-sum {xs} p = rw (p .is, sum-append conditionLiterals xs (p .more)) (omega arith)
 
 over : (l m n : ℕ) → m ≤ n → ltb l m ≡ true → ltb l n ≡ true
 over l m n h e = let a = ltb-true l m e in lt-ltb l n (omega arith)

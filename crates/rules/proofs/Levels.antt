@@ -16,7 +16,7 @@ use Rattle.rules.specs.Records.{Command}
 use Rattle.rules.specs.Limits.{Limits}
 use Rattle.rules.specs.Sheet.{tooLow, decide, commandRefusals, carriedOut}
 use Rattle.rules.proofs.Each.{Each, each-imp, each-filter, each-snoc, each-passes, Pairwise, pairwise-snoc, pairwise-filter, when-cases}
-use Rattle.rules.proofs.Reached.{first-passed, rest-passed, Reached, command}
+use Rattle.rules.proofs.Reached.{tested, passes, Reached, command}
 use Rattle.rules.proofs.RunLaws.{Within, OneRun, every-run}
 
 -- no decision has a lower level than one before it
@@ -129,12 +129,12 @@ unfolding upToLevel
 undo-levels level v = record { rising = pairwise-filter _ (v .rising); positive = each-filter _ (v .positive) }
 
 pub levels : {l : Limits} {c : Catalogue} {s : State} → Reached l c s → Levels (s .decisions)
-unfolding carriedOut commandRefusals
+unfolding carriedOut commandRefusals tested
 levels Reached.begun = record { rising = Pairwise.nil; positive = Each.nil }
 levels (command r (Command.add o) p) = levels r
 levels (command r (Command.draw k) p) = levels r
-levels (command r (Command.run level) p) = run-levels (first-passed p) (every-run r level) (levels r)
-levels (command {s} r (Command.decide x value level) p) = decide-levels x value level s (first-passed (rest-passed (rest-passed p))) (levels r)
+levels (command r (Command.run level) p) = run-levels (passes p 0) (every-run r level) (levels r)
+levels (command {s} r (Command.decide x value level) p) = decide-levels x value level s (passes p 2) (levels r)
 levels (command r (Command.undo level) p) = undo-levels level (levels r)
 
 pub undo-removes : {l : Limits} {c : Catalogue} {s : State} → Reached l c s → (level : ℕ) → Undone level (s .decisions)

@@ -5,13 +5,13 @@ use mathlib.Core.Bool.{Bool, true, false, not, _&&_, true≢false, false≢true}
 use mathlib.Core.List.{List, [], _∷_}
 use mathlib.Core.Option.{Option, none, some}
 use Prim.Native.Nat.{ℕ, zero, suc}
-use lib.Dec.{eqb, ltb, leb}
-use lib.ListN.{length, take}
-use native.Mathlib.Omega.{arith}
-use borrow.Author.Tests.{eqb-true}
+use lib.Dec.{ltb}
+use lib.ListN.{length, getD, take}
 use Rattle.rules.specs.Truth.{same}
 use Rattle.rules.specs.Compute.{computing}
+use Rattle.rules.specs.Lists.{all}
 use Rattle.rules.proofs.Bools.{and-left, and-right}
+use Rattle.rules.proofs.KindTable.{not-one, looked-up}
 use Rattle.rules.specs.Catalogue.{Catalogue, emptyCatalogue}
 use Rattle.rules.specs.Refusals.{Refusal, unfit, overlong, notRun, listingFull, numberAndPlace, _if_, Result, ok, refuse, unlessAny}
 use Rattle.rules.specs.Records.{Kind, kinds, lookUp, kindOf, ofSheet, Item, Command, Record, catalogue, sheet, recordOf, readBody, readKind, read}
@@ -24,19 +24,20 @@ use Rattle.rules.specs.Job.{Progress, reading, carrying, stopped, bodyOf
 
 -- ---- a step that refuses nothing
 
-not-one : _≡_ {A = ℕ} 0 1 → ⊥
-not-one z = omega arith
-
 -- no test of the list holds
 pub data Passed : List (Refusal × Bool) → Type 0 where
   none-left : Passed []
   passed : {f : Refusal} {ts : List (Refusal × Bool)} → Passed ts → Passed ((f if false) ∷ ts)
 
-pub first-passed : {f : Refusal} {b : Bool} {ts : List (Refusal × Bool)} → Passed ((f if b) ∷ ts) → b ≡ false
-first-passed (passed p) = refl
+-- test n of a list of refusals
+unfoldable pub tested : List (Refusal × Bool) → ℕ → Bool
+tested ts n = (getD ts n (unfit if false)) .1
 
-pub rest-passed : {f : Refusal} {b : Bool} {ts : List (Refusal × Bool)} → Passed ((f if b) ∷ ts) → Passed ts
-rest-passed (passed p) = p
+pub passes : {ts : List (Refusal × Bool)} → Passed ts → (n : ℕ) → tested ts n ≡ false
+unfolding tested
+passes none-left n = refl
+passes (passed p) zero = refl
+passes (passed p) (suc n) = passes p n
 
 pub unlessAny-ok : {A : Type 0} (ts : List (Refusal × Bool)) (x y : A) → unlessAny ts x ≡ ok y → Passed ts × (x ≡ y)
 unfolding unlessAny
@@ -72,25 +73,12 @@ data Sound (l : Limits) : Progress → Type 0 where
 sheetKind : Kind → Bool
 sheetKind k = elim (recordOf k []) [ catalogue i ↦ false | sheet o ↦ true ]
 
-abbrev rightClass : List (ℕ × Kind × ℕ) → Bool
-rightClass [] = true
-rightClass (e ∷ es) = same (ofSheet (e .0)) (sheetKind (e .1)) && rightClass es
+abbrev rightClass : ℕ × Kind × ℕ → Bool
+rightClass e = same (ofSheet (e .0)) (sheetKind (e .1))
 
-table : rightClass kinds ≡ true
+table : all rightClass kinds ≡ true
 unfolding computing sheetKind
 table = refl
-
-class-of : (b : ℕ) (es : List (ℕ × Kind × ℕ)) (k : Kind × ℕ) → rightClass es ≡ true → lookUp b es ≡ some k → same (ofSheet b) (sheetKind (k .0)) ≡ true
-unfolding lookUp
-class-of b [] k r e = let z : _≡_ {A = ℕ} 0 1 = cc in absurd (not-one z)
-class-of b (x ∷ es) k r e = go (eqb b (x .0)) refl e (class-of b es k)
-  where
-    go : (q : Bool) → eqb b (x .0) ≡ q → _≡_ {A = Option (Kind × ℕ)} (elim q [ true ↦ some (x .1, x .2) | false ↦ lookUp b es ]) (some k)
-        → (rightClass es ≡ true → lookUp b es ≡ some k → same (ofSheet b) (sheetKind (k .0)) ≡ true) → same (ofSheet b) (sheetKind (k .0)) ≡ true
-    go true q e h =
-        let f : x .1 ≡ k .0 = cc in
-        rw (← f, eqb-true b (x .0) q) (and-left (same (ofSheet (x .0)) (sheetKind (x .1))) (rightClass es) r)
-    go false q e h = h (and-right (same (ofSheet (x .0)) (sheetKind (x .1))) (rightClass es) r) e
 
 module _ (t : Terms) (job : List ℕ) where
   after-item : (at : ℕ) {c : Catalogue} → Given c → (i : Item) → Sound (t .limits) (afterItem t job at (addItem c i))
@@ -133,7 +121,7 @@ not-item Kind.undo b i h e = not-one (cc)
 
 no-item : (b : ℕ) (rest : List ℕ) (i : Item) → read true b rest ≡ ok (catalogue i) → ⊥
 unfolding read kindOf
-no-item b rest i e = go (ofSheet b) (lookUp b kinds) (λ k h. class-of b kinds k table h) e
+no-item b rest i e = go (ofSheet b) (lookUp b kinds) (λ k h. looked-up rightClass b kinds k table h) e
   where
     body : (short : Bool) (k : Kind) (bytes : List ℕ) → sheetKind k ≡ true → readBody short k bytes ≡ ok (catalogue i) → ⊥
     body true k bytes h e = unfold readBody in not-one (cc)

@@ -1,6 +1,6 @@
 -- 01, Encoding rules, first point: the lists that follow from a catalogue. All keep file order.
 use Rattle.rules.specs.Base.{Bool, not, List, [], _∷_, _++_, ℕ, eqb, length, getD}
-use Rattle.rules.specs.Lists.{filter, elem, concatMap, upTo}
+use Rattle.rules.specs.Lists.{filter, concatMap, upTo}
 use Rattle.rules.specs.Catalogue.{Owner, Goal, range, union, Catalogue, partAt, rangeAt, constraintAt, nameOf, rangeName, ownerAt, excludedPart, sameOwner}
 
 module _ (c : Catalogue) where
@@ -9,7 +9,7 @@ module _ (c : Catalogue) where
   partsOf n = filter (λ p. eqb (nameOf c p) n) (upTo 0 (length (c .parts)))
 
   abbrev pub member : ℕ → ℕ → Bool
-  member r p = elem p ((rangeAt c r) .members)
+  member r p = (rangeAt c r) .members p
 
   -- "A range's matching parts are its members, non-matching the rest of its name"
   unfoldable pub matching : ℕ → List ℕ

@@ -1,7 +1,7 @@
 -- 01, "Conditions become disjuncts of ranges, left before right".
 use Rattle.rules.specs.Base.{Bool, true, false, List, [], _∷_, _++_, map, Option, none, some, ℕ, zero, suc, eqb, ltb, length, getD}
 use Rattle.rules.specs.Lists.{any, concatMap, upTo}
-use Rattle.rules.specs.Catalogue.{Operator, and, or, Condition, leaf, joined, Catalogue, conditionAt}
+use Rattle.rules.specs.Catalogue.{Operator, and, or, Condition, leaf, joined, Catalogue, noCondition, conditionAt}
 
 -- a disjunct: the ranges that must all hold
 abbrev pub Disjunct : Type 0
@@ -20,7 +20,7 @@ fromHalves (joined o l r) half = combined o (half l) (half r)
 -- the disjuncts of condition k, if k is below n. A half has a smaller number, so the number falls at each call.
 unfoldable pub disjunctsBelow : List Condition → ℕ → ℕ → List Disjunct
 disjunctsBelow ks zero k = []
-disjunctsBelow ks (suc n) k = elim (eqb k n) [ true ↦ fromHalves (getD ks n (leaf 0)) (disjunctsBelow ks n) | false ↦ disjunctsBelow ks n k ]
+disjunctsBelow ks (suc n) k = elim (eqb k n) [ true ↦ fromHalves (getD ks n noCondition) (disjunctsBelow ks n) | false ↦ disjunctsBelow ks n k ]
 
 unfoldable pub disjuncts : List Condition → ℕ → List Disjunct
 disjuncts ks k = disjunctsBelow ks (suc k) k

@@ -1,6 +1,6 @@
 -- 01, the record table: what each catalogue record adds, and its refusals in the order 3, 4, 5, 6.
-use Rattle.rules.specs.Base.{Bool, not, _&&_, cond, List, [], _∷_, Option, none, some, ℕ, eqb, ltb, leb, length, getD, set}
-use Rattle.rules.specs.Lists.{any, elem, snoc}
+use Rattle.rules.specs.Base.{Bool, false, not, _&&_, _||_, cond, List, [], _∷_, Option, none, some, ℕ, eqb, ltb, leb, length, getD, set}
+use Rattle.rules.specs.Lists.{any, snoc}
 use Rattle.rules.specs.AtMostOne.{bit}
 use Rattle.rules.specs.Catalogue.{Owner, root, part, Goal, range, union, Part, Range, Operator, and, or, Condition, leaf, joined, Requirement, Constraint, Catalogue, partAt, rangeAt, unknownOwner}
 use Rattle.rules.specs.Conditions.{disjuncts, tooWide, tooManyDisjuncts}
@@ -28,7 +28,7 @@ partOf n flags u e =
     record { name = n; ready = bit 0 flags; unknown = bit 1 flags; locked = bit 2 flags; favoured = bit 3 flags; excluded = bit 4 flags; unknownReason = u; exclusionReason = e }
 
 unfoldable pub withMember : ℕ → Range → Range
-withMember p r = record { name = r .name; members = snoc (r .members) p }
+withMember p r = record { name = r .name; members = λ q. eqb q p || r .members q }
 
 -- ---- "Catalogue ceilings"
 
@@ -85,7 +85,7 @@ module _ (c : Catalogue) where
       (missing Thing.range 1 if absent Thing.range r)
       ∷ (missing Thing.part 3 if absent Thing.part p)
       ∷ (contradicts partOfAnotherName if not (eqb ((partAt c p) .name) ((rangeAt c r) .name)))
-      ∷ (contradicts memberTwice if elem p ((rangeAt c r) .members)) ∷ []
+      ∷ (contradicts memberTwice if (rangeAt c r) .members p) ∷ []
   itemRefusals Item.union = (tooMany Thing.union if atCeiling Thing.union) ∷ []
   itemRefusals (Item.unionMember u r) =
       (missing Thing.union 1 if absent Thing.union u)
@@ -141,7 +141,7 @@ module _ (c : Catalogue) where
   unfoldable pub withItem : Item → Catalogue
   withItem (Item.name flags) = withNames (snoc (c .names) (bit 0 flags))
   withItem (Item.part n flags u e) = withParts (snoc (c .parts) (partOf n flags u e))
-  withItem (Item.range n) = withRanges (snoc (c .ranges) (record { name = n; members = [] }))
+  withItem (Item.range n) = withRanges (snoc (c .ranges) (record { name = n; members = λ _. false }))
   withItem (Item.member r p) = withRanges (set (c .ranges) r (withMember p (rangeAt c r)))
   withItem Item.union = withUnions (snoc (c .unions) [])
   withItem (Item.unionMember u r) = withUnions (set (c .unions) u (snoc (getD (c .unions) u []) r))

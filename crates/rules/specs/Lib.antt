@@ -21,5 +21,6 @@ pub mod Limits
 pub mod Sheet
 pub mod Listing
 pub mod Job
+pub mod Called
 pub mod Keeps
 pub mod Compute

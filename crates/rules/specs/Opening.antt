@@ -1,6 +1,6 @@
 -- The opening: which owners and names a job opens, what is handled, fired, waiting, drawn and tracked.
 -- A machine of its own. It knows no variable and no clause; of the decisions it asks only "is this part decided true".
-use Rattle.rules.specs.Base.{Bool, true, false, not, _&&_, _||_, List, [], _∷_, _++_, map, ℕ, suc, _+_, _*_, eqb, length}
+use Rattle.rules.specs.Base.{Bool, true, false, not, _&&_, _||_, List, [], _∷_, _++_, map, ℕ, eqb}
 use Rattle.rules.specs.Lists.{filter, any, all, elem, snoc, concatMap, fold, when, unless, distinct}
 use Rattle.rules.specs.Catalogue.{Owner, part, Catalogue, partAt, constraintAt, severalAllowed, nameOf, rangeName, goalAt, conditionAt, sameOwner, unknownOwner}
 use Rattle.rules.specs.Candidates.{matching, nonMatching, goalRanges, candidates, requirementsOf, constraintsOf}
@@ -78,7 +78,7 @@ unfoldable pub markHandled : ℕ → List ℕ → Opening → Opening
 markHandled q is s = setFired (s .fired ++ map (λ i. (q, i)) is) (setHandled (snoc (s .handled) q) s)
 
 unfoldable pub add : Owner → Opening → Opening
-add o s = setAdded (snoc (s .added) o) s
+add o s = setAdded (unless (any (sameOwner o) (s .added)) (λ os. snoc os o) (s .added)) s
 
 module _ (c : Catalogue) where
   unfoldable pub openNames : List ℕ → Opening → Opening
@@ -177,7 +177,3 @@ module _ (c : Catalogue) where
 
   unfoldable pub trackedOf : ℕ → List ℕ → List ℕ
   trackedOf n ps = filter (λ p. eqb (nameOf c p) n) ps
-
-  -- No run serves more tasks (proofs/Ends.antt): those of its first line, the owners' that it can open, each with its rules', and the names'.
-  unfoldable pub mostTasks : Opening → ℕ
-  mostTasks s = (length (s .line) + length (c .parts)) * (2 + 2 * length (c .requirements) + length (c .constraints)) + suc (length (c .ranges))

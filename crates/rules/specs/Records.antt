@@ -1,7 +1,7 @@
 -- 01, Records: "One byte of kind, then a body whose length the kind fixes".
 use Rattle.rules.specs.Base.{Bool, true, false, not, _&&_, List, [], _∷_, Option, none, some, ℕ, eqb, ltb, leb, length, take}
 use Rattle.rules.specs.Bytes.{byteAt, wordAt}
-use Rattle.rules.specs.Refusals.{noKind, outOfPlace, cutShort, Result, ok, refuse}
+use Rattle.rules.specs.Refusals.{unknownKind, outOfPlace, cutShort, Result, ok, refuse}
 
 pub data Kind : Type 0 where
   name part range member union unionMember leaf joined requirement constraint : Kind
@@ -72,7 +72,7 @@ readBody true k body = refuse cutShort
 readBody false k body = ok (recordOf k body)
 
 unfoldable pub readKind : (misplaced : Bool) → Option (Kind × ℕ) → List ℕ → Result Record
-readKind misplaced none rest = refuse noKind
+readKind misplaced none rest = refuse unknownKind
 readKind true (some k) rest = refuse outOfPlace
 readKind false (some k) rest = readBody (ltb (length rest) (k .1)) (k .0) (take (k .1) rest)
 

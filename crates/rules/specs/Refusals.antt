@@ -12,7 +12,7 @@ pub data Contradiction : Type 0 where
 pub data Refusal : Type 0 where
   unfit : Refusal  -- a work area is too short, or a limit is 0 or above its ceiling
   overlong : Refusal  -- the job is over 65,536 bytes
-  noKind : Refusal  -- the kind is not in the table
+  unknownKind : Refusal  -- the kind is not in the table
   outOfPlace : Refusal  -- a catalogue kind follows a sheet kind
   cutShort : Refusal  -- the body has too few bytes
   tooMany : Thing → Refusal  -- a catalogue count passes its ceiling
@@ -30,7 +30,7 @@ pub data Refusal : Type 0 where
 unfoldable pub numberAndPlace : ℕ → ℕ → Refusal → ℕ × ℕ
 numberAndPlace length at unfit = (7, 0)
 numberAndPlace length at overlong = (3, 0)
-numberAndPlace length at noKind = (2, at)
+numberAndPlace length at unknownKind = (2, at)
 numberAndPlace length at outOfPlace = (2, at)
 numberAndPlace length at cutShort = (1, at)
 numberAndPlace length at (tooMany t) = (3, at)

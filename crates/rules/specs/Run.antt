@@ -1,9 +1,9 @@
 -- One run (34): "Tasks are served first in, first out"; at its end the named parts join and new one-of-name clauses follow.
-use Rattle.rules.specs.Base.{List, [], _∷_, _++_, map, ℕ, zero, suc, length, drop}
+use Rattle.rules.specs.Base.{List, [], _∷_, _++_, map, ℕ, zero, suc, _+_, _*_, length, drop}
 use Rattle.rules.specs.Lists.{snoc, concatMap}
 use Rattle.rules.specs.Catalogue.{Catalogue, nameOf}
 use Rattle.rules.specs.Variables.{Origin, chosen, forbid, one, violation, gate}
-use Rattle.rules.specs.Opening.{Task, setLine, serve, beginRun, joining, endRun, trackedOf, mostTasks}
+use Rattle.rules.specs.Opening.{Task, Opening, setLine, serve, beginRun, joining, endRun, trackedOf}
 use Rattle.rules.specs.Encoding.{Event, served, joins, links}
 use Rattle.rules.specs.State.{State, setOpening, decidedTrue, Run, emit, emitAll}
 
@@ -47,9 +47,14 @@ module _ (c : Catalogue) where
   unfoldable pub begun : State → State
   begun s = record { opening = beginRun c (s .opening); variables = s .variables; clauses = s .clauses; decisions = s .decisions; conflicts = s .conflicts; runs = suc (s .runs) }
 
+  -- The most tasks of a run that begins from this opening; proofs/Ends.antt proves that it never runs out. Each owner and each name
+  -- once, for each requirement a task or two, for each constraint and each drawn entry one.
+  unfoldable pub mostTasks : Opening → ℕ
+  mostTasks o = suc (length (c .parts)) + length (c .names) + 2 * length (c .requirements) + length (c .constraints) + length (o .drawn)
+
   -- the run carried out without limits
   unfoldable pub runOnce : ℕ → State → State
   runOnce level s =
       let r : Run = record { number = suc (s .runs); level = level; before = length (s .variables) } in
       let s₁ = begun s in
-      linkAll r (joinAll r (serveLine r (mostTasks c (s₁ .opening)) (s₁ .opening .line) (lineTaken s₁)))
+      linkAll r (joinAll r (serveLine r (mostTasks (s .opening)) (s₁ .opening .line) (lineTaken s₁)))

@@ -1,0 +1,270 @@
+-- The reader's functions against the definitions: a law for each way out of each.
+use mathlib.Core.Path.{_≡_, refl, sym, _∙_, ap}
+use mathlib.Core.Bool.{Bool, true, false, not, _&&_, false≢true}
+use mathlib.Core.List.{List, [], _∷_, _++_}
+use mathlib.Core.Option.{Option, none, some}
+use Prim.Native.Nat.{ℕ, zero, suc, _+_, _*_, _-_, _<_, _≤_}
+use native.Mathlib.Omega.{arith}
+use native.Mathlib.Nat.{not-suc-le-zero, le-of-suc-le-suc}
+use native.Mathlib.Numerals.{add-one}
+use lib.Dec.{eqb, ltb, leb}
+use lib.ListN.{length, getD, take, drop, length-drop, List·getD-eq-default}
+use native.Mathlib.Decide.{decLt}
+use borrow.Author.Tests.{lt-ltb, le-ltb, lt-leb, le-leb, eq-eqb, ne-eqb, eqb-true}
+use Rattle.rules.specs.Lists.{all, upTo}
+use Rattle.rules.specs.Compute.{computing}
+use Rattle.rules.proofs.Bools.{and-left, and-right}
+use Rattle.rules.proofs.KindTable.{not-one, looked-up}
+use Rattle.rules.specs.Bytes.{byteAt, wordAt}
+use Rattle.rules.specs.Refusals.{unknownKind, outOfPlace, cutShort, Result, ok, refuse}
+use Rattle.rules.specs.Records.{Kind, kinds, lookUp, kindOf, ofSheet, recordOf, readBody, readKind, read}
+use Rattle.rules.specs.Records as rules
+use Rattle.reader.specs.declared.Item.{Item}
+use Rattle.reader.specs.declared.Item.the-variants.{Name, Part, Range, Member, Union, UnionMember, Leaf, Joined, Requirement, Constraint}
+use Rattle.reader.specs.declared.Command.{Command}
+use Rattle.reader.specs.declared.Command.the-variants.{Add, Draw, Run, Decide, Undo}
+use Rattle.reader.specs.declared.Record.{Record}
+use Rattle.reader.specs.declared.Record.the-variants.{Catalogue, Sheet, Refused}
+use Rattle.refusal.specs.declared.Refusal.the-variants.{UnknownKind, OutOfPlace, CutShort}
+use Rattle.refusal.specs.Refusing.{refusalOf}
+use Rattle.reader.specs.Reading.{itemOf, commandOf, resultOf, lengths, bodyLength, itemRead, commandRead}
+
+-- ---- lengths, bytes and parts
+
+pub length-none : (k : ℕ) → 37 ≤ k → 99 ≡ bodyLength k
+unfolding bodyLength
+length-none k h = sym (List·getD-eq-default lengths 99 h)
+
+getD-any : (l : List ℕ) (i d e : ℕ) → i < length l → getD l i d ≡ getD l i e
+getD-any [] i d e h = absurd (not-suc-le-zero h)
+getD-any (x ∷ l) zero d e h = refl
+getD-any (x ∷ l) (suc i) d e h = getD-any l i d e (le-of-suc-le-suc h)
+
+pub length-in : (k : ℕ) → k < 37 → getD lengths k 0 ≡ bodyLength k
+unfolding bodyLength
+length-in k h = getD-any lengths k 0 99 h
+
+pub part-is : (n at : ℕ) (l r : List ℕ) → r ≡ take (at + 1 + n - (at + 1)) (drop (at + 1) l) → r ≡ take n (drop (at + 1) l)
+part-is n at l r e =
+    let q : at + 1 + n - (at + 1) ≡ n = omega arith in
+    rw q at e
+
+pub byte-in : (l : List ℕ) (i : ℕ) → getD l i 0 ≡ byteAt l i
+unfolding byteAt
+byte-in l i = refl
+
+pub byte-past : (l : List ℕ) (i : ℕ) → length l ≤ i → 0 ≡ byteAt l i
+unfolding byteAt
+byte-past l i h = sym (List·getD-eq-default l 0 h)
+
+pub word-is : (l : List ℕ) (i x y u v : ℕ) → x ≡ byteAt l i → u ≡ x → y ≡ byteAt l (i + 1) → v ≡ y → u + 256 * v ≡ wordAt l i
+unfolding wordAt
+word-is l i x y u v e d f g = rw (d, g, e, f, add-one)
+
+-- ---- bodies
+
+pub item-name : (kind f : ℕ) (b : List ℕ) → kind ≡ 1 → f ≡ byteAt b 0 → itemOf (Name f) ≡ itemRead kind b
+unfolding itemOf itemRead
+item-name kind f b t h0 = rw (t, h0)
+
+pub item-part : (kind n f u e : ℕ) (b : List ℕ) → kind ≡ 2 → n ≡ wordAt b 0 → f ≡ byteAt b 2 → u ≡ wordAt b 3 → e ≡ wordAt b 5 → itemOf (Part n f u e) ≡ itemRead kind b
+unfolding itemOf itemRead
+item-part kind n f u e b t h0 h1 h2 h3 = rw (t, h0, h1, h2, h3)
+
+pub item-range : (kind n : ℕ) (b : List ℕ) → kind ≡ 3 → n ≡ wordAt b 0 → itemOf (Range n) ≡ itemRead kind b
+unfolding itemOf itemRead
+item-range kind n b t h0 = rw (t, h0)
+
+pub item-member : (kind r p : ℕ) (b : List ℕ) → kind ≡ 4 → r ≡ wordAt b 0 → p ≡ wordAt b 2 → itemOf (Member r p) ≡ itemRead kind b
+unfolding itemOf itemRead
+item-member kind r p b t h0 h1 = rw (t, h0, h1)
+
+pub item-union : (kind : ℕ) (b : List ℕ) → kind ≡ 5 → itemOf Union ≡ itemRead kind b
+unfolding itemOf itemRead
+item-union kind b t = rw t
+
+pub item-unionmember : (kind u r : ℕ) (b : List ℕ) → kind ≡ 6 → u ≡ wordAt b 0 → r ≡ wordAt b 2 → itemOf (UnionMember u r) ≡ itemRead kind b
+unfolding itemOf itemRead
+item-unionmember kind u r b t h0 h1 = rw (t, h0, h1)
+
+pub item-leaf : (kind r : ℕ) (b : List ℕ) → kind ≡ 7 → r ≡ wordAt b 0 → itemOf (Leaf r) ≡ itemRead kind b
+unfolding itemOf itemRead
+item-leaf kind r b t h0 = rw (t, h0)
+
+pub item-joined : (kind o l r : ℕ) (b : List ℕ) → kind ≡ 8 → o ≡ byteAt b 0 → l ≡ wordAt b 1 → r ≡ wordAt b 3 → itemOf (Joined o l r) ≡ itemRead kind b
+unfolding itemOf itemRead
+item-joined kind o l r b t h0 h1 h2 = rw (t, h0, h1, h2)
+
+pub item-requirement : (kind o f n k : ℕ) (b : List ℕ) → kind ≡ 9 → o ≡ wordAt b 0 → f ≡ byteAt b 2 → n ≡ wordAt b 3 → k ≡ wordAt b 5 → itemOf (Requirement o f n k) ≡ itemRead kind b
+unfolding itemOf itemRead
+item-requirement kind o f n k b t h0 h1 h2 h3 = rw (t, h0, h1, h2, h3)
+
+pub item-constraint : (kind o r : ℕ) (b : List ℕ) → (kind ≡ 1 → ⊥) → (kind ≡ 2 → ⊥) → (kind ≡ 3 → ⊥) → (kind ≡ 4 → ⊥) → (kind ≡ 5 → ⊥) → (kind ≡ 6 → ⊥) → (kind ≡ 7 → ⊥) → (kind ≡ 8 → ⊥) → (kind ≡ 9 → ⊥) → o ≡ wordAt b 0 → r ≡ wordAt b 2 → itemOf (Constraint o r) ≡ itemRead kind b
+unfolding itemOf itemRead
+item-constraint kind o r b t0 t1 t2 t3 t4 t5 t6 t7 t8 h0 h1 = rw (ne-eqb kind 1 t0, ne-eqb kind 2 t1, ne-eqb kind 3 t2, ne-eqb kind 4 t3, ne-eqb kind 5 t4, ne-eqb kind 6 t5, ne-eqb kind 7 t6, ne-eqb kind 8 t7, ne-eqb kind 9 t8, h0, h1)
+
+pub command-add : (kind o : ℕ) (b : List ℕ) → kind ≡ 32 → o ≡ wordAt b 0 → commandOf (Add o) ≡ commandRead kind b
+unfolding commandOf commandRead
+command-add kind o b t h0 = rw (t, h0)
+
+pub command-draw : (kind k : ℕ) (b : List ℕ) → kind ≡ 33 → k ≡ wordAt b 0 → commandOf (Draw k) ≡ commandRead kind b
+unfolding commandOf commandRead
+command-draw kind k b t h0 = rw (t, h0)
+
+pub command-run : (kind l : ℕ) (b : List ℕ) → kind ≡ 34 → l ≡ wordAt b 0 → commandOf (Run l) ≡ commandRead kind b
+unfolding commandOf commandRead
+command-run kind l b t h0 = rw (t, h0)
+
+pub command-decide : (kind x v l : ℕ) (b : List ℕ) → kind ≡ 35 → x ≡ wordAt b 0 → v ≡ byteAt b 2 → l ≡ wordAt b 3 → commandOf (Decide x v l) ≡ commandRead kind b
+unfolding commandOf commandRead
+command-decide kind x v l b t h0 h1 h2 = rw (t, h0, h1, h2)
+
+pub command-undo : (kind l : ℕ) (b : List ℕ) → (kind ≡ 32 → ⊥) → (kind ≡ 33 → ⊥) → (kind ≡ 34 → ⊥) → (kind ≡ 35 → ⊥) → l ≡ wordAt b 0 → commandOf (Undo l) ≡ commandRead kind b
+unfolding commandOf commandRead
+command-undo kind l b t0 t1 t2 t3 h0 = rw (ne-eqb kind 32 t0, ne-eqb kind 33 t1, ne-eqb kind 34 t2, ne-eqb kind 35 t3, h0)
+
+-- ---- kinds
+
+pub placed : (begun : Bool) (k : ℕ) → begun ≡ true → ltb k 32 ≡ (begun && not (ofSheet k))
+unfolding ofSheet
+placed begun k e = rw e (below k)
+  where
+    below : (k : ℕ) → ltb k 32 ≡ not (leb 32 k)
+    below k = elim (decLt k 32) [ yes h ↦ rw (lt-ltb k 32 h, lt-leb 32 k h) | no h ↦ let g : 32 ≤ k = omega arith in rw (le-ltb k 32 g, le-leb 32 k g) ]
+
+pub unplaced : (begun : Bool) (k : ℕ) → begun ≡ false → false ≡ (begun && not (ofSheet k))
+unplaced begun k e = rw e
+
+abbrev lengthAgrees : Option (Kind × ℕ) → ℕ → Bool
+lengthAgrees none n = eqb n 99
+lengthAgrees (some k) n = eqb n (k .1) && not (eqb n 99)
+
+each-below : (f : ℕ → Bool) (i n k : ℕ) → all f (upTo i n) ≡ true → i ≤ k → k < i + n → f k ≡ true
+unfolding all upTo
+each-below f i zero k h l m = absurd (no l m)
+  where
+    no : i ≤ k → k < i + 0 → ⊥
+    no l m = omega arith
+each-below f i (suc n) k h l m = elim (decLt i k) [
+  | yes g ↦ each-below f (suc i) n k (and-right (f i) (all f (upTo (suc i) n)) h) g (omega arith)
+  | no g ↦ let e : i ≡ k = omega arith in rw e at (and-left (f i) (all f (upTo (suc i) n)) h)
+]
+
+-- no kind from 37 on
+high : (k : ℕ) → 37 ≤ k → (o : Option (Kind × ℕ)) → kindOf k ≡ o → o ≡ none
+unfolding kindOf
+high k h none e = refl
+high k h (some x) e =
+    let t : ltb k 37 ≡ true = looked-up (λ (r : ℕ × Kind × ℕ). ltb (r .0) 37) k kinds x (unfold computing in refl) e in
+    absurd (false≢true (sym (le-ltb k 37 h) ∙ t))
+
+agree : (k : ℕ) → lengthAgrees (kindOf k) (bodyLength k) ≡ true
+agree k = elim (decLt k 37) [
+  | yes h ↦ each-below (λ n. lengthAgrees (kindOf n) (bodyLength n)) 0 37 k (unfold computing bodyLength in refl) (omega arith) (omega arith)
+  | no h ↦ let g : 37 ≤ k = omega arith in rw (high k g (kindOf k) refl, ← length-none k g)
+]
+
+kind-none : (k : ℕ) → bodyLength k ≡ 99 → kindOf k ≡ none
+kind-none k e = go (kindOf k) (agree k)
+  where
+    go : (o : Option (Kind × ℕ)) → lengthAgrees o (bodyLength k) ≡ true → o ≡ none
+    go none h = refl
+    go (some x) h = absurd (false≢true (rw e at (and-right (eqb (bodyLength k) (x .1)) _ h)))
+
+-- a kind with its length
+record KindOf (k : ℕ) : Type 0 where
+  kind : Kind
+  found : kindOf k ≡ some (kind, bodyLength k)
+
+kind-some : (k : ℕ) → (bodyLength k ≡ 99 → ⊥) → KindOf k
+kind-some k e = go (kindOf k) refl (agree k)
+  where
+    go : (o : Option (Kind × ℕ)) → kindOf k ≡ o → lengthAgrees o (bodyLength k) ≡ true → KindOf k
+    go none f h = absurd (e (eqb-true (bodyLength k) 99 h))
+    go (some x) f h =
+        let l : bodyLength k ≡ x .1 = eqb-true (bodyLength k) (x .1) (and-left (eqb (bodyLength k) (x .1)) _ h) in
+        record { kind = x .0; found = rw l f }
+
+numberOf : Kind → ℕ
+numberOf Kind.name = 1
+numberOf Kind.part = 2
+numberOf Kind.range = 3
+numberOf Kind.member = 4
+numberOf Kind.union = 5
+numberOf Kind.unionMember = 6
+numberOf Kind.leaf = 7
+numberOf Kind.joined = 8
+numberOf Kind.requirement = 9
+numberOf Kind.constraint = 10
+numberOf Kind.add = 32
+numberOf Kind.draw = 33
+numberOf Kind.run = 34
+numberOf Kind.decide = 35
+numberOf Kind.undo = 36
+
+number-is : (k : ℕ) (x : Kind × ℕ) → kindOf k ≡ some x → k ≡ numberOf (x .0)
+unfolding kindOf
+number-is k x e =
+    eqb-true k (numberOf (x .0)) (looked-up (λ (r : ℕ × Kind × ℕ). eqb (r .0) (numberOf (r .1))) k kinds x (unfold computing numberOf in refl) e)
+
+-- a kind's record, by its number
+abbrev readBy : Bool → ℕ → List ℕ → rules.Record
+readBy true k b = rules.catalogue (itemRead k b)
+readBy false k b = rules.sheet (commandRead k b)
+
+by-number : (kind : Kind) (b : List ℕ) → recordOf kind b ≡ readBy (ltb (numberOf kind) 32) (numberOf kind) b
+unfolding recordOf numberOf itemRead commandRead
+by-number Kind.name b = refl
+by-number Kind.part b = refl
+by-number Kind.range b = refl
+by-number Kind.member b = refl
+by-number Kind.union b = refl
+by-number Kind.unionMember b = refl
+by-number Kind.leaf b = refl
+by-number Kind.joined b = refl
+by-number Kind.requirement b = refl
+by-number Kind.constraint b = refl
+by-number Kind.add b = refl
+by-number Kind.draw b = refl
+by-number Kind.run b = refl
+by-number Kind.decide b = refl
+by-number Kind.undo b = refl
+
+-- ---- the record at a place
+
+module _ (begun : Bool) (job : List ℕ) (at n : ℕ) (e : n ≡ bodyLength (getD job at 0)) where
+  pub at-unknown : n ≡ 99 → resultOf (Refused UnknownKind) ≡ read begun (getD job at 0) (drop (at + 1) job)
+  unfolding resultOf refusalOf read readKind
+  at-unknown h = rw (kind-none (getD job at 0) (sym e ∙ h))
+
+  module _ (m : Bool) (d : m ≡ (begun && not (ofSheet (getD job at 0)))) (u : n ≡ 99 → ⊥) where
+    found : KindOf (getD job at 0)
+    found = kind-some (getD job at 0) (λ h. u (e ∙ h))
+
+    pub at-misplaced : m ≡ true → resultOf (Refused OutOfPlace) ≡ read begun (getD job at 0) (drop (at + 1) job)
+    unfolding resultOf refusalOf read readKind
+    at-misplaced h = rw (← d, h, found .found)
+
+    module _ (p : m ≡ false) where
+      pub at-short : length job - at - 1 < n → resultOf (Refused CutShort) ≡ read begun (getD job at 0) (drop (at + 1) job)
+      unfolding resultOf refusalOf read readKind readBody
+      at-short h =
+          let l : length (drop (at + 1) job) < bodyLength (getD job at 0) = rw length-drop (omega arith) in
+          rw (← d, p, found .found, lt-ltb _ _ l)
+
+      module _ (h : n ≤ length job - at - 1) (b : List ℕ) (f : b ≡ take n (drop (at + 1) job)) where
+        whole : read begun (getD job at 0) (drop (at + 1) job) ≡ ok (readBy (ltb (getD job at 0) 32) (getD job at 0) b)
+        unfolding read readKind readBody
+        whole =
+            let l : bodyLength (getD job at 0) ≤ length (drop (at + 1) job) = rw length-drop (omega arith) in
+            let q : getD job at 0 ≡ numberOf (found .kind) = number-is (getD job at 0) (found .kind, bodyLength (getD job at 0)) (found .found) in
+            let g : b ≡ take (bodyLength (getD job at 0)) (drop (at + 1) job) = f ∙ ap (λ (x : ℕ). take x (drop (at + 1) job)) e in
+            rw (← d, p, found .found, le-ltb _ _ l, g) (ap ok (by-number (found .kind) (take (bodyLength (getD job at 0)) (drop (at + 1) job)) ∙ rw (← q)))
+
+        pub at-item : (i : Item) → getD job at 0 < 32 → itemOf i ≡ itemRead (getD job at 0) b → resultOf (Catalogue i) ≡ read begun (getD job at 0) (drop (at + 1) job)
+        unfolding resultOf
+        at-item i k g = rw (whole, lt-ltb _ _ k, g)
+
+        pub at-command : (o : Command) → 32 ≤ getD job at 0 → commandOf o ≡ commandRead (getD job at 0) b → resultOf (Sheet o) ≡ read begun (getD job at 0) (drop (at + 1) job)
+        unfolding resultOf
+        at-command o k g = rw (whole, le-ltb _ _ k, g)

@@ -1,0 +1,75 @@
+-- What the reader's enums stand for in the definitions, and what it reads by a kind's number.
+use mathlib.Core.Bool.{Bool, true, false}
+use mathlib.Core.List.{List, [], _∷_, _++_}
+use Prim.Native.Nat.{ℕ}
+use lib.Dec.{eqb}
+use lib.ListN.{getD, replicate}
+use Rattle.rules.specs.Bytes.{byteAt, wordAt}
+use Rattle.rules.specs.Refusals.{Result, ok, refuse}
+use Rattle.refusal.specs.Refusing.{refusalOf}
+use Rattle.rules.specs.Records as rules
+use Rattle.reader.specs.declared.Item.{Item}
+use Rattle.reader.specs.declared.Item.the-variants.{Name, Part, Range, Member, Union, UnionMember, Leaf, Joined, Requirement, Constraint}
+use Rattle.reader.specs.declared.Command.{Command}
+use Rattle.reader.specs.declared.Command.the-variants.{Add, Draw, Run, Decide, Undo}
+use Rattle.reader.specs.declared.Record.{Record}
+use Rattle.reader.specs.declared.Record.the-variants.{Catalogue, Sheet, Refused}
+
+unfoldable pub itemOf : Item → rules.Item
+itemOf (Name f) = rules.Item.name f
+itemOf (Part n f u e) = rules.Item.part n f u e
+itemOf (Range n) = rules.Item.range n
+itemOf (Member r p) = rules.Item.member r p
+itemOf Union = rules.Item.union
+itemOf (UnionMember u r) = rules.Item.unionMember u r
+itemOf (Leaf r) = rules.Item.leaf r
+itemOf (Joined o l r) = rules.Item.joined o l r
+itemOf (Requirement o f n k) = rules.Item.requirement o f n k
+itemOf (Constraint o r) = rules.Item.constraint o r
+
+unfoldable pub commandOf : Command → rules.Command
+commandOf (Add o) = rules.Command.add o
+commandOf (Draw k) = rules.Command.draw k
+commandOf (Run l) = rules.Command.run l
+commandOf (Decide x v l) = rules.Command.decide x v l
+commandOf (Undo l) = rules.Command.undo l
+
+unfoldable pub resultOf : Record → Result rules.Record
+resultOf (Catalogue i) = ok (rules.catalogue (itemOf i))
+resultOf (Sheet o) = ok (rules.sheet (commandOf o))
+resultOf (Refused f) = refuse (refusalOf f)
+
+-- ---- by number of the kind
+
+abbrev pub lengths : List ℕ
+lengths = 99 ∷ 1 ∷ 7 ∷ 2 ∷ 4 ∷ 0 ∷ 4 ∷ 2 ∷ 5 ∷ 7 ∷ 4 ∷ (replicate 21 99 ++ (2 ∷ 2 ∷ 2 ∷ 5 ∷ 2 ∷ []))
+
+-- 99: no kind
+unfoldable pub bodyLength : ℕ → ℕ
+bodyLength k = getD lengths k 99
+
+module _ {A : Type 0} where
+  abbrev pub pick : Bool → A → A → A
+  pick true a b = a
+  pick false a b = b
+
+unfoldable pub itemRead : ℕ → List ℕ → rules.Item
+itemRead k b =
+    pick (eqb k 1) (rules.Item.name (byteAt b 0))
+    (pick (eqb k 2) (rules.Item.part (wordAt b 0) (byteAt b 2) (wordAt b 3) (wordAt b 5))
+    (pick (eqb k 3) (rules.Item.range (wordAt b 0))
+    (pick (eqb k 4) (rules.Item.member (wordAt b 0) (wordAt b 2))
+    (pick (eqb k 5) rules.Item.union
+    (pick (eqb k 6) (rules.Item.unionMember (wordAt b 0) (wordAt b 2))
+    (pick (eqb k 7) (rules.Item.leaf (wordAt b 0))
+    (pick (eqb k 8) (rules.Item.joined (byteAt b 0) (wordAt b 1) (wordAt b 3))
+    (pick (eqb k 9) (rules.Item.requirement (wordAt b 0) (byteAt b 2) (wordAt b 3) (wordAt b 5))
+    (rules.Item.constraint (wordAt b 0) (wordAt b 2))))))))))
+
+unfoldable pub commandRead : ℕ → List ℕ → rules.Command
+commandRead k b =
+    pick (eqb k 32) (rules.Command.add (wordAt b 0))
+    (pick (eqb k 33) (rules.Command.draw (wordAt b 0))
+    (pick (eqb k 34) (rules.Command.run (wordAt b 0))
+    (pick (eqb k 35) (rules.Command.decide (wordAt b 0) (byteAt b 2) (wordAt b 3))
+    (rules.Command.undo (wordAt b 0)))))

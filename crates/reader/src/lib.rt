@@ -1,0 +1,229 @@
+// Job bytes to records: one byte of kind, then a body whose length the kind fixes. Refusals 2 and 1.
+use refusal::Refusal;
+ghost use mathlib.Core.Path.{_≡_};
+ghost use Prim.Native.Nat.{_+_, _*_, _<_, _≤_, _-_};
+ghost use lib.ListN.{length, take, drop, getD};
+ghost use Rattle.rules.specs.Bytes.{byteAt, wordAt};
+ghost use mathlib.Core.Bool.{not, _&&_};
+ghost use Rattle.rules.specs.Records.{ofSheet, read};
+ghost use Rattle.reader.specs.Reading.{bodyLength, itemOf, itemRead, commandOf, commandRead, resultOf};
+
+// A catalogue record with the numbers of its body, in their order.
+pub enum Item {
+    Name(u8),
+    Part {
+        name: u16,
+        flags: u8,
+        unknown: u16,
+        exclusion: u16,
+    },
+    Range(u16),
+    Member {
+        range: u16,
+        part: u16,
+    },
+    Union,
+    UnionMember {
+        union: u16,
+        range: u16,
+    },
+    Leaf(u16),
+    Joined {
+        operator: u8,
+        left: u16,
+        right: u16,
+    },
+    Requirement {
+        owner: u16,
+        form: u8,
+        number: u16,
+        condition: u16,
+    },
+    Constraint {
+        owner: u16,
+        range: u16,
+    },
+}
+
+// A sheet record.
+pub enum Command {
+    Add(u16),
+    Draw(u16),
+    Run(u16),
+    Decide {
+        variable: u16,
+        value: u8,
+        level: u16,
+    },
+    Undo(u16),
+}
+
+// What stands at a position of a job.
+pub enum Record {
+    Catalogue(Item),
+    Sheet(Command),
+    Refused(Refusal),
+}
+
+// The length of each kind's body, and 99 for a number that is no kind.
+const LENGTHS: [u8; 37] = [
+    99,
+    1,
+    7,
+    2,
+    4,
+    0,
+    4,
+    2,
+    5,
+    7,
+    4,
+    99,
+    99,
+    99,
+    99,
+    99,
+    99,
+    99,
+    99,
+    99,
+    99,
+    99,
+    99,
+    99,
+    99,
+    99,
+    99,
+    99,
+    99,
+    99,
+    99,
+    99,
+    2,
+    2,
+    2,
+    5,
+    2,
+];
+
+pub fn body_length(kind: u8) -> u8
+    ensures { λ r. ⌜ r ≡ bodyLength kind ⌝ }
+{
+    if kind < 37 {
+        LENGTHS[kind as usize]
+    } else {
+        99
+    }
+}
+
+// The body of the record at `at`: the part of the job that follows the kind byte.
+pub fn body(job: &[u8], at: usize, n: usize) -> &[u8]
+    requires { ⌜ at + 1 + n ≤ length (now job) ⌝ }
+    ensures { λ r. ⌜ now r ≡ take n (drop (at + 1) (now (job .entry))) ⌝ }
+{
+    let from = at + 1;
+    let to = from + n;
+    &job[from..to]
+}
+
+// The byte at i, and 0 past the end.
+pub fn byte(body: &[u8], i: usize) -> u8
+    ensures { λ r. ⌜ r ≡ byteAt (now (body .entry)) i ⌝ }
+{
+    if i < body.len() { body[i] } else { 0 }
+}
+
+// The two-byte number at i.
+pub fn word(body: &[u8], i: usize) -> u16
+    requires { ⌜ i < 65536 ⌝ }
+    ensures { λ r. ⌜ r ≡ wordAt (now (body .entry)) i ⌝ }
+{
+    words::wide(byte(body, i)) + 256 * words::wide(byte(body, i + 1))
+}
+
+pub fn read_item(kind: u8, body: &[u8]) -> Item
+    ensures { λ r. ⌜ itemOf r ≡ itemRead kind (now (body .entry)) ⌝ }
+{
+    match kind {
+        1 => Item::Name(byte(body, 0)),
+        2 => Item::Part {
+            name: word(body, 0),
+            flags: byte(body, 2),
+            unknown: word(body, 3),
+            exclusion: word(body, 5),
+        },
+        3 => Item::Range(word(body, 0)),
+        4 => Item::Member {
+            range: word(body, 0),
+            part: word(body, 2),
+        },
+        5 => Item::Union,
+        6 => Item::UnionMember {
+            union: word(body, 0),
+            range: word(body, 2),
+        },
+        7 => Item::Leaf(word(body, 0)),
+        8 => Item::Joined {
+            operator: byte(body, 0),
+            left: word(body, 1),
+            right: word(body, 3),
+        },
+        9 => Item::Requirement {
+            owner: word(body, 0),
+            form: byte(body, 2),
+            number: word(body, 3),
+            condition: word(body, 5),
+        },
+        _ => Item::Constraint {
+            owner: word(body, 0),
+            range: word(body, 2),
+        },
+    }
+}
+
+pub fn read_command(kind: u8, body: &[u8]) -> Command
+    ensures { λ r. ⌜ commandOf r ≡ commandRead kind (now (body .entry)) ⌝ }
+{
+    match kind {
+        32 => Command::Add(word(body, 0)),
+        33 => Command::Draw(word(body, 0)),
+        34 => Command::Run(word(body, 0)),
+        35 => Command::Decide {
+            variable: word(body, 0),
+            value: byte(body, 2),
+            level: word(body, 3),
+        },
+        _ => Command::Undo(word(body, 0)),
+    }
+}
+
+// A catalogue kind follows a sheet kind.
+pub fn out_of_place(begun: bool, kind: u8) -> bool
+    ensures { λ r. ⌜ r ≡ (begun && not (ofSheet kind)) ⌝ }
+{
+    if begun { kind < 32 } else { false }
+}
+
+// The record at `at`; `begun`: a sheet record has stood before.
+pub fn record_at(job: &[u8], at: usize, begun: bool) -> Record
+    requires { ⌜ at < length (now job) ⌝ }
+    ensures { λ r. ⌜ resultOf r ≡ read begun (getD (now (job .entry)) at 0) (drop (at + 1) (now (job .entry))) ⌝ }
+{
+    let kind = job[at];
+    let n = body_length(kind);
+    if n == 99 {
+        return Record::Refused(Refusal::UnknownKind);
+    }
+    if out_of_place(begun, kind) {
+        return Record::Refused(Refusal::OutOfPlace);
+    }
+    if job.len() - at - 1 < n as usize {
+        return Record::Refused(Refusal::CutShort);
+    }
+    let b = body(job, at, n as usize);
+    if kind < 32 {
+        Record::Catalogue(read_item(kind, b))
+    } else {
+        Record::Sheet(read_command(kind, b))
+    }
+}
