@@ -3,7 +3,7 @@
 use mathlib.Core.Path.{_≡_, refl, sym, _∙_, ap}
 use mathlib.Core.Logic.{_⊎_, inl, inr, ⊎-elim}
 use mathlib.Core.Bool.{Bool, true, false, not, true≢false, false≢true}
-use mathlib.Core.List.{List, [], _∷_, _++_, map, append-nil, append-assoc, List·Memᴰ·head, List·Memᴰ·tail, List·Memᴰ·cases-cons, List·Memᴰ·not-nil}
+use mathlib.Core.List.{List, [], _∷_, _++_, map, append-nil, append-assoc, List·Memᴰ·head, List·Memᴰ·tail, List·Memᴰ·cases-cons, List·Memᴰ·not-nil, List·Memᴰ·eq-of-singleton}
 use Prim.Native.Nat.{ℕ}
 use borrow.Author.Tests.{eqb-true}
 use Rattle.rules.specs.Lists.{filter, any, elem, snoc, fold, when, unless, upTo}
@@ -12,7 +12,7 @@ use Rattle.rules.specs.Candidates.{candidates, requirementsOf, constrain
 use Rattle.rules.specs.Conditions.{indices, unconditional}
 use Rattle.rules.specs.Opening.{Task, owner, name, condition, requirement, constraint, Opening, setOwners, setNames, setSeveral, setHandled, setFired, setWaiting, setDrawn, setAdded, setNamed, setTracked, setLine, unopened, queue, openOwner, openName, markHandled, add, openNames, rangesOf, rangesFirst, taskBy, tasksOf, serveOwner, serveName, entryHolds, fire, serveCondition, firedParts, nameForTracking, openReady, serveRequirement, serve, isDrawn, draw, beginRun, joining, endRun}
 use Rattle.rules.specs.Called.{_∈_}
-use Rattle.rules.proofs.Membership.{_⊆_, in-left, in-right, at-end, in-either, before-or-end, filter-in, filter-out, filter-either, map-in, map-out, when-keeps, unless-keeps, fold-keeps, fold-through}
+use Rattle.rules.proofs.Membership.{_⊆_, in-left, in-right, at-end, in-either, before-or-end, filter-in, filter-out, filter-either, map-in, map-out, when-either, unless-either, when-keeps, unless-keeps, fold-keeps, fold-through}
 
 -- ---- whose a record is
 
@@ -31,16 +31,38 @@ module _ (c : Catalogue) where
   unfolding constraintsOf
   constraint-owner w m = same-owner w _ (filter-out _ _ m .1)
 
-  -- an owner's rules are among its tasks
-  pub requirement-task : (w : Owner) {q : ℕ} → q ∈ requirementsOf c w → taskBy c (unconditional c q) q ∈ tasksOf c w
+  -- an owner's tasks are its rules
+
+  abbrev pub requirementTask : ℕ → Task
+  requirementTask q = taskBy c (unconditional c q) q
+
+  pub requirement-task : (w : Owner) {q : ℕ} → q ∈ requirementsOf c w → requirementTask q ∈ tasksOf c w
   unfolding tasksOf
-  requirement-task w m = in-left _ (map-in (λ q. taskBy c (unconditional c q) q) m)
+  requirement-task w m = in-left _ (map-in requirementTask m)
 
   pub constraint-task : (w : Owner) {k : ℕ} → k ∈ constraintsOf c w → constraint k ∈ tasksOf c w
   unfolding tasksOf
-  constraint-task w m = in-right (map (λ q. taskBy c (unconditional c q) q) (requirementsOf c w)) (map-in constraint m)
+  constraint-task w m = in-right (map requirementTask (requirementsOf c w)) (map-in constraint m)
+
+  pub task-rule : (w : Owner) (P : Task → Type 0) → ((q : ℕ) → q ∈ requirementsOf c w → P (requirementTask q)) → ((k : ℕ) → k ∈ constraintsOf c w → P (constraint k))
+      → (t : Task) → t ∈ tasksOf c w → P t
+  unfolding tasksOf
+  task-rule w P f g t m =
+      ⊎-elim
+      (λ k. let x = map-out requirementTask (requirementsOf c w) k in rw (x .2) (f (x .0) (x .1)))
+      (λ k. let x = map-out constraint (constraintsOf c w) k in rw (x .2) (g (x .0) (x .1)))
+      (in-either (map requirementTask (requirementsOf c w)) m)
 
   -- ---- the books
+
+  -- disjuncts of one requirement
+  abbrev entries : ℕ → List ℕ → List (ℕ × ℕ)
+  entries q is = map (λ i. (q, i)) is
+
+  entries-out : {p i : ℕ} (q : ℕ) (is : List ℕ) → (p, i) ∈ entries q is → (p ≡ q) × (i ∈ is)
+  entries-out q is m =
+      let x = map-out (λ (i : ℕ). (q, i)) is m in
+      (ap (λ (e : ℕ × ℕ). e .0) (x .2), rw (ap (λ (e : ℕ × ℕ). e .1) (x .2)) (x .1))
 
   -- requirement record q is of an owner whose task was served
   pub record OfServed (log : List Task) (q : ℕ) : Type 0 where
@@ -217,3 +239,268 @@ module _ (c : Catalogue) where
       placed q i (waits m) = waits m
       placed q i (is-drawn m) = is-drawn m
       placed q i (fires m k) = fires (in-left new m) k
+
+  -- entries wait and are drawn otherwise
+  moved : {done log all : List Task} {drawn waiting′ drawn′ : List (ℕ × ℕ)} {o : Opening}
+      → ((q i : ℕ) → (q, i) ∈ waiting′ → EntryFrom log q i) → ((q i : ℕ) → (q, i) ∈ drawn′ → EntryFrom log q i)
+      → ((q i : ℕ) → Placed all (o .waiting) drawn q i → Placed all waiting′ drawn′ q i)
+      → Books done log all drawn o → Books done log all drawn′ (setWaiting waiting′ o)
+  moved {o} waiting drawn placed b = record {
+    owner-queued = b .owner-queued;
+    name-queued = b .name-queued;
+    several-from = b .several-from;
+    handled-from = b .handled-from;
+    fired-from = b .fired-from;
+    waiting-from = waiting;
+    drawn-from = drawn;
+    called-for = λ t k. called-onward o _ same same same t (b .called-for t k);
+    completed = λ t k. done-onward (record { tasks = same; several = same; handled = same; fired = same; placed = placed }) t (b .completed t k);
+  }
+
+  -- a requirement's task is in the line: its disjuncts are drawn no longer
+  fired-away : {done log all : List Task} {drawn : List (ℕ × ℕ)} {o : Opening} (q : ℕ) (is : List ℕ) → requirement q is ∈ all
+      → Books done log all (entries q is ++ drawn) o → Books done log all drawn o
+  fired-away {all} {drawn} q is m b = moved (b .waiting-from) (λ p i k. b .drawn-from p i (in-right (entries q is) k)) placed b
+    where
+      placed : {ws : List (ℕ × ℕ)} (p i : ℕ) → Placed all ws (entries q is ++ drawn) p i → Placed all ws drawn p i
+      placed p i (waits k) = waits k
+      placed p i (is-drawn k) = ⊎-elim (λ n. let x = entries-out q is n in fires (rw (x .0) m) (x .1)) is-drawn (in-either (entries q is) k)
+      placed p i (fires k n) = fires k n
+
+  -- a condition's disjuncts wait, or are drawn
+  entered : {done log all : List Task} {drawn : List (ℕ × ℕ)} {o : Opening} (q : ℕ) (stay hold : List ℕ) → condition q ∈ log → stay ⊆ indices c q → hold ⊆ indices c q
+      → Books done log all drawn o → Books done log all (entries q hold ++ drawn) (setWaiting (o .waiting ++ entries q stay) o)
+  entered {log} {all} {drawn} {o} q stay hold m stays holds b =
+      moved
+      (λ p i k. ⊎-elim (b .waiting-from p i) (new stay stays p i) (in-either (o .waiting) k))
+      (λ p i k. ⊎-elim (new hold holds p i) (b .drawn-from p i) (in-either (entries q hold) k))
+      placed b
+    where
+      new : (is : List ℕ) → is ⊆ indices c q → (p i : ℕ) → (p, i) ∈ entries q is → EntryFrom log p i
+      new is within p i k = let x = entries-out q is k in rw (x .0) (record { condition-served = m; indexed = within i (x .1) })
+
+      placed : (p i : ℕ) → Placed all (o .waiting) drawn p i → Placed all (o .waiting ++ entries q stay) (entries q hold ++ drawn) p i
+      placed p i (waits k) = waits (in-left _ k)
+      placed p i (is-drawn k) = is-drawn (in-right (entries q hold) k)
+      placed p i (fires k n) = fires k n
+
+  -- a name that allows several is served
+  noted : {done log all : List Task} {drawn : List (ℕ × ℕ)} {o : Opening} (n : ℕ) → name n ∈ log → severalAllowed c n ≡ true
+      → Books done log all drawn o → Books done log all drawn (setSeveral (snoc (o .several) n) o)
+  unfolding snoc
+  noted {o} n m e b = record {
+    owner-queued = b .owner-queued;
+    name-queued = b .name-queued;
+    several-from = λ p k. ⊎-elim (b .several-from p) (λ (a : p ≡ n). rw a (m, e)) (before-or-end (o .several) k);
+    handled-from = b .handled-from;
+    fired-from = b .fired-from;
+    waiting-from = b .waiting-from;
+    drawn-from = b .drawn-from;
+    called-for = λ t k. called-onward o _ same same same t (b .called-for t k);
+    completed = λ t k. done-onward (record { tasks = same; several = λ p n. in-left _ n; handled = same; fired = same; placed = λ q i p. p }) t (b .completed t k);
+  }
+
+  -- a requirement is served
+  marked : {done log all : List Task} {drawn : List (ℕ × ℕ)} {o : Opening} (q : ℕ) (is : List ℕ) → requirement q is ∈ log
+      → Books done log all drawn o → Books done log all drawn (markHandled q is o)
+  unfolding markHandled snoc
+  marked {o} q is m b = record {
+    owner-queued = b .owner-queued;
+    name-queued = b .name-queued;
+    several-from = b .several-from;
+    handled-from = λ p k. ⊎-elim (b .handled-from p) (λ (e : p ≡ q). (is, rw e m)) (before-or-end (o .handled) k);
+    fired-from = λ p i k. ⊎-elim (b .fired-from p i) (λ n. let x = entries-out q is n in (is, rw (x .0) m, x .1)) (in-either (o .fired) k);
+    waiting-from = b .waiting-from;
+    drawn-from = b .drawn-from;
+    called-for = λ t k. called-onward o _ same same same t (b .called-for t k);
+    completed = λ t k. done-onward (record { tasks = same; several = same; handled = λ p n. in-left _ n; fired = λ e n. in-left _ n; placed = λ q i p. p }) t (b .completed t k);
+  }
+
+  -- ---- rules that queue, while a task is served
+
+  queues : (ts : List Task) (s : Opening) → fold queue ts s ≡ setLine (s .line ++ ts) s
+  unfolding fold queue snoc
+  queues [] s = ap (λ l. setLine l s) (sym (append-nil (s .line)))
+  queues (t ∷ ts) s = rw (queues ts (queue t s)) (ap (λ l. setLine l s) (append-assoc (s .line) (t ∷ []) ts))
+
+  -- `pre`: the log and the line. What rules queue goes behind. `es`: disjuncts that fire and are not yet queued
+  module _ (done log pre : List Task) where
+    abbrev Serving : List (ℕ × ℕ) → Opening → Type 0
+    Serving es s = Books done log (pre ++ s .line) (es ++ s .drawn) s
+
+    module _ (es : List (ℕ × ℕ)) where
+      queued : {ws : List Owner} {ns : List ℕ} (new : List Task) (s : Opening)
+          → Extends owner new (s .owners) ws → Extends name new (s .names) ns → ((t : Task) → t ∈ new → CalledFor log (setOwners ws (setNames ns s)) t)
+          → Serving es s → Serving es (setOwners ws (setNames ns (setLine (s .line ++ new) s)))
+      queued new s owners names calls b = rw (append-assoc pre (s .line) new) at (more-tasks {l = s .line ++ new} new owners names calls b)
+
+      queue-serving : (t : Task) (s : Opening) → CalledFor log s t → Serving es s → Serving es (queue t s)
+      unfolding queue snoc
+      queue-serving t s f b = queued (t ∷ []) s none-more none-more (λ u m. rw (List·Memᴰ·eq-of-singleton m) f) b
+
+      openOwner-serving : (w : Owner) (s : Opening) → Serving es s → Serving es (openOwner w s)
+      unfolding openOwner queue snoc
+      openOwner-serving w s b =
+          unless-keeps (Serving es) _ _ s (queued (owner w ∷ []) s (one-more owner (s .owners) w) none-more (λ u m. rw (List·Memᴰ·eq-of-singleton m) (at-end (s .owners) w))) b
+
+      openName-serving : (n : ℕ) (s : Opening) → Serving es s → Serving es (openName n s)
+      unfolding openName queue snoc
+      openName-serving n s b =
+          unless-keeps (Serving es) _ _ s (queued (name n ∷ []) s none-more (one-more name (s .names) n) (λ u m. rw (List·Memᴰ·eq-of-singleton m) (at-end (s .names) n))) b
+
+      openNames-serving : (rs : List ℕ) (s : Opening) → Serving es s → Serving es (openNames c rs s)
+      unfolding openNames
+      openNames-serving rs s b = fold-keeps (Serving es) _ rs (λ r m. openName-serving (rangeName c r)) s b
+
+      ready-serving : (p : ℕ) (s : Opening) → Serving es s → Serving es (openReady c p s)
+      unfolding openReady
+      ready-serving p s b = when-keeps (Serving es) _ _ s (openOwner-serving (part p) s) b
+
+      naming-serving : (p : ℕ) (s : Opening) → Serving es s → Serving es (nameForTracking c p s)
+      unfolding nameForTracking
+      naming-serving p s b = unless-keeps (Serving es) _ _ s aside b
+
+    -- what fires counts as drawn until its task is queued
+    fire-serving : log ⊆ pre → (q : ℕ) (is : List ℕ) (es : List (ℕ × ℕ)) (s : Opening) → Serving (entries q is ++ es) s → Serving es (fire c q is s)
+    unfolding fire queue snoc
+    fire-serving within q [] es s b = b
+    fire-serving within q (i ∷ is) es s b =
+        let s₁ = openNames c (rangesOf c q) s in
+        let js = entries q (i ∷ is) in
+        let b₁ = openNames-serving (js ++ es) (rangesOf c q) s b in
+        let b₂ = queue-serving (js ++ es) (requirement q (i ∷ is)) s₁ (calls s₁ b₁) b₁ in
+        fired-away q (i ∷ is) (in-right pre (at-end (s₁ .line) _)) (rw (append-assoc js es (s₁ .drawn)) at b₂)
+      where
+        calls : (s : Opening) → Serving (entries q (i ∷ is) ++ es) s → RequirementFrom log q (i ∷ is)
+        calls s b =
+            let entry : (j : ℕ) → j ∈ (i ∷ is) → EntryFrom log q j = λ j m. b .drawn-from q j (in-left _ (in-left es (map-in (λ j. (q, j)) m))) in
+            let from : ConditionFrom log q = b .called-for (condition q) (in-left (s .line) (within _ (entry i (List·Memᴰ·head refl) .condition-served))) in
+            record { of-served = from .of-served; indexed = λ j m. entry j m .indexed; none-fired = λ e. absurd (true≢false (sym e ∙ from .has-condition)) }
+
+  -- ---- each task, served
+
+  module _ (log ts : List Task) where
+    -- the log, with the task that is served
+    abbrev now : Task → List Task
+    now t = log ++ (t ∷ [])
+
+    abbrev Taken : Task → Opening → Type 0
+    Taken t s = Serving log (now t) (now t ++ ts) [] s
+
+    abbrev Served : Task → Opening → Type 0
+    Served t s = Serving (now t) (now t) (now t ++ ts) [] s
+
+    own-task : (w : Owner) (o : Opening) → (t : Task) → t ∈ tasksOf c w → CalledFor (now (owner w)) o t
+    own-task w o = task-rule w (CalledFor (now (owner w)) o) (λ q m. rule q m (unconditional c q) refl) limit
+      where
+        limit : (k : ℕ) → k ∈ constraintsOf c w → ConstraintFrom (now (owner w)) k
+        limit k m = let e = constraint-owner w m in record { owner-served = rw e (at-end log (owner w)); of-owner = rw e m }
+
+        of-w : (q : ℕ) → q ∈ requirementsOf c w → OfServed (now (owner w)) q
+        of-w q m = let e = requirement-owner w m in record { owner-served = rw e (at-end log (owner w)); of-owner = rw e m }
+
+        rule : (q : ℕ) → q ∈ requirementsOf c w → (b : Bool) → unconditional c q ≡ b → CalledFor (now (owner w)) o (taskBy c b q)
+        rule q m true e = unfold taskBy in record { of-served = of-w q m; indexed = λ i k. absurd (List·Memᴰ·not-nil k); none-fired = λ e. refl }
+        rule q m false e = unfold taskBy in record { of-served = of-w q m; has-condition = e }
+
+    owner-served : (w : Owner) (s : Opening) → Taken (owner w) s → Served (owner w) (serveOwner c w s)
+    unfolding serveOwner
+    owner-served w s b =
+        unless-either (Served (owner w)) _ _ s
+        (λ e. finished (owner w) (λ known. absurd (true≢false (sym e ∙ known))) b)
+        (λ e. let s₁ = openNames c (rangesFirst c w) s in
+          rw (queues (tasksOf c w) s₁)
+          (finished (owner w) (λ known t m. in-right (now (owner w) ++ ts) (in-right (s₁ .line) m))
+          (queued log (now (owner w)) (now (owner w) ++ ts) [] (tasksOf c w) s₁ none-more none-more (own-task w s₁)
+          (openNames-serving log (now (owner w)) (now (owner w) ++ ts) [] (rangesFirst c w) s b))))
+
+    name-served : (n : ℕ) (s : Opening) → Taken (name n) s → Served (name n) (serveName c n s)
+    unfolding serveName snoc
+    name-served n s b =
+        when-either (Served (name n)) _ _ s
+        (λ e. finished (name n) (λ k. at-end (s .several) n) (noted n (at-end log (name n)) e b))
+        (λ e. finished (name n) (λ k. absurd (true≢false (sym k ∙ e))) b)
+
+    condition-served : (f : ℕ → Bool) (q : ℕ) (s : Opening) → Taken (condition q) s → Served (condition q) (serveCondition c f q s)
+    unfolding serveCondition
+    condition-served f q s b =
+        let stay = filter (λ i. not (entryHolds c f q i)) (indices c q) in
+        let hold = filter (entryHolds c f q) (indices c q) in
+        fire-serving (now (condition q)) (now (condition q)) (now (condition q) ++ ts) (λ u m. in-left ts m) q hold [] _
+        (rw (append-nil (entries q hold)) (finished (condition q)
+          (λ i m. ⊎-elim (λ k. is-drawn (in-left (s .drawn) (map-in (λ i. (q, i)) k))) (λ k. waits (in-right (s .waiting) (map-in (λ i. (q, i)) k))) (filter-either (entryHolds c f q) (indices c q) m))
+          (entered q stay hold (at-end log (condition q)) (λ i m. filter-out _ _ m .0) (λ i m. filter-out _ _ m .0) b)))
+
+    requirement-served : (q : ℕ) (is : List ℕ) (s : Opening) → Taken (requirement q is) s → Served (requirement q is) (serveRequirement c q is s)
+    unfolding serveRequirement markHandled snoc
+    requirement-served q is s b =
+        let t = requirement q is in
+        fold-keeps (Served t) (openReady c) _ (λ p m. ready-serving (now t) (now t) (now t ++ ts) [] p) _
+        (fold-keeps (Served t) (nameForTracking c) _ (λ p m. naming-serving (now t) (now t) (now t ++ ts) [] p) (markHandled q is s)
+        (finished t (at-end (s .handled) q, λ i m. in-right (s .fired) (map-in (λ i. (q, i)) m)) (marked q is (at-end log t) b)))
+
+    task-served : (f : ℕ → Bool) (t : Task) (s : Opening) → Taken t s → Served t (serve c f t s)
+    unfolding serve
+    task-served f (owner w) s b = owner-served w s b
+    task-served f (name n) s b = name-served n s b
+    task-served f (condition q) s b = condition-served f q s b
+    task-served f (requirement q is) s b = requirement-served q is s b
+    task-served f (constraint k) s b = finished (constraint k) tt b
+
+  -- ---- a run and the records of the sheet
+
+  pub start-booked : Booked [] [] unopened
+  start-booked = record { books = record {
+    owner-queued = λ w m. none-in m;
+    name-queued = λ n m. none-in m;
+    several-from = λ n m. none-in m;
+    handled-from = λ q m. none-in m;
+    fired-from = λ q i m. none-in m;
+    waiting-from = λ q i m. none-in m;
+    drawn-from = λ q i m. none-in m;
+    called-for = λ t m. none-in m;
+    completed = λ t m. none-in m;
+  } }
+    where
+      none-in : {A B : Type 0} {x : A} → x ∈ [] → B
+      none-in m = absurd (List·Memᴰ·not-nil m)
+
+  pub serve-booked : (f : ℕ → Bool) {log ts : List Task} {t : Task} {o : Opening} → Booked log (t ∷ ts) o → o .line ≡ []
+      → Booked (log ++ (t ∷ [])) (ts ++ (serve c f t o) .line) (setLine [] (serve c f t o))
+  serve-booked f {log} {ts} {t} {o} b e =
+      let b₁ : Books log (log ++ (t ∷ [])) ((log ++ (t ∷ [])) ++ ts) (o .drawn) o = rw (append-assoc log (t ∷ []) ts) (taken (λ u m. in-left _ m) (b .books)) in
+      let b₂ = task-served log ts f t o (rw (e, append-nil) (aside b₁)) in
+      record { books = aside (rw append-assoc at b₂) }
+
+  pub begin-booked : {log : List Task} {o : Opening} → Booked log [] o → o .line ≡ [] → Booked log ((beginRun c o) .line) (setLine [] (beginRun c o))
+  unfolding beginRun
+  begin-booked {log} {o} b e =
+      let s₁ = setAdded [] (setDrawn [] o) in
+      let b₁ : Serving log log log (o .drawn) s₁ = rw (append-nil (o .drawn), e) (aside (b .books)) in
+      let b₂ = fold-keeps (Serving log log log (o .drawn)) openOwner (o .added) (λ w m. openOwner-serving log log log (o .drawn) w) s₁ b₁ in
+      let b₃ = fold-through (Serving log log log) (λ (e : ℕ × ℕ). fire c (e .0) (e .1 ∷ [])) (λ e es. fire-serving log log log (λ t m. m) (e .0) (e .1 ∷ []) es) (o .drawn) _ b₂ in
+      record { books = aside b₃ }
+
+  pub end-booked : {log : List Task} {o : Opening} → Booked log [] o → Booked log [] (endRun c o)
+  unfolding endRun
+  end-booked b = record { books = aside (b .books) }
+
+  pub add-booked : (w : Owner) {log : List Task} {o : Opening} → Booked log [] o → Booked log [] (add w o)
+  unfolding add
+  add-booked w b = record { books = aside (b .books) }
+
+  pub draw-booked : (f : ℕ → Bool) (k : ℕ) {log : List Task} {o : Opening} → Booked log [] o → Booked log [] (draw c f k o)
+  unfolding draw
+  draw-booked f k {log} {o} b =
+      let drawn = isDrawn c f k in
+      let bs = b .books in
+      record { books = aside (moved
+        (λ q i m. bs .waiting-from q i (filter-out _ (o .waiting) m .0))
+        (λ q i m. ⊎-elim (bs .drawn-from q i) (λ n. bs .waiting-from q i (filter-out drawn (o .waiting) n .0)) (in-either (o .drawn) m))
+        (placed drawn) bs) }
+    where
+      placed : (f : ℕ × ℕ → Bool) {all : List Task} (q i : ℕ) → Placed all (o .waiting) (o .drawn) q i
+          → Placed all (filter (λ (e : ℕ × ℕ). not (f e)) (o .waiting)) (o .drawn ++ filter f (o .waiting)) q i
+      placed f q i (waits m) = ⊎-elim (λ n. is-drawn (in-right (o .drawn) n)) (λ n. waits n) (filter-either f (o .waiting) m)
+      placed f q i (is-drawn m) = is-drawn (in-left _ m)
+      placed f q i (fires m n) = fires m n

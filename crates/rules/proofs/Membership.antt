@@ -121,18 +121,26 @@ module _ {A B : Type 0} where
       go (inl n) h = (z, List·Memᴰ·head refl, n)
       go (inr n) h = let p = h n in (p .0, List·Memᴰ·tail (p .1), p .2)
 
--- ---- what holds of a state and is kept
+-- ---- what holds of a state
 
 module _ {S : Type 0} (P : S → Type 0) where
-  pub when-keeps : (b : Bool) (f : S → S) (s : S) → (P s → P (f s)) → P s → P (when b f s)
+  -- what holds in either case
+  pub when-either : (b : Bool) (f : S → S) (s : S) → (b ≡ true → P (f s)) → (b ≡ false → P s) → P (when b f s)
   unfolding when
-  when-keeps true f s h p = h p
-  when-keeps false f s h p = p
+  when-either true f s p q = p refl
+  when-either false f s p q = q refl
+
+  pub unless-either : (b : Bool) (f : S → S) (s : S) → (b ≡ true → P s) → (b ≡ false → P (f s)) → P (unless b f s)
+  unfolding unless
+  unless-either true f s p q = p refl
+  unless-either false f s p q = q refl
+
+  -- what is kept
+  pub when-keeps : (b : Bool) (f : S → S) (s : S) → (P s → P (f s)) → P s → P (when b f s)
+  when-keeps b f s h p = when-either b f s (λ e. h p) (λ e. p)
 
   pub unless-keeps : (b : Bool) (f : S → S) (s : S) → (P s → P (f s)) → P s → P (unless b f s)
-  unfolding unless
-  unless-keeps true f s h p = p
-  unless-keeps false f s h p = h p
+  unless-keeps b f s h p = unless-either b f s (λ e. p) (λ e. h p)
 
   pub fold-keeps : {A : Type 0} (f : A → S → S) (xs : List A) → ((x : A) → x ∈ xs → (s : S) → P s → P (f x s)) → (s : S) → P s → P (fold f xs s)
   unfolding fold
