@@ -33,18 +33,24 @@ module _ (c : Catalogue) where
 
   -- an owner's tasks are its rules
 
-  abbrev pub requirementTask : ℕ → Task
+  abbrev requirementTask : ℕ → Task
   requirementTask q = taskBy c (unconditional c q) q
 
-  pub requirement-task : (w : Owner) {q : ℕ} → q ∈ requirementsOf c w → requirementTask q ∈ tasksOf c w
+  requirement-task : (w : Owner) {q : ℕ} → q ∈ requirementsOf c w → (b : Bool) → unconditional c q ≡ b → taskBy c b q ∈ tasksOf c w
   unfolding tasksOf
-  requirement-task w m = in-left _ (map-in requirementTask m)
+  requirement-task w m b e = in-left _ (rw e at (map-in requirementTask m))
+
+  pub unconditional-task : (w : Owner) {q : ℕ} → q ∈ requirementsOf c w → unconditional c q ≡ true → requirement q [] ∈ tasksOf c w
+  unconditional-task w m e = unfold taskBy in requirement-task w m true e
+
+  pub condition-task : (w : Owner) {q : ℕ} → q ∈ requirementsOf c w → unconditional c q ≡ false → condition q ∈ tasksOf c w
+  condition-task w m e = unfold taskBy in requirement-task w m false e
 
   pub constraint-task : (w : Owner) {k : ℕ} → k ∈ constraintsOf c w → constraint k ∈ tasksOf c w
   unfolding tasksOf
   constraint-task w m = in-right (map requirementTask (requirementsOf c w)) (map-in constraint m)
 
-  pub task-rule : (w : Owner) (P : Task → Type 0) → ((q : ℕ) → q ∈ requirementsOf c w → P (requirementTask q)) → ((k : ℕ) → k ∈ constraintsOf c w → P (constraint k))
+  task-rule : (w : Owner) (P : Task → Type 0) → ((q : ℕ) → q ∈ requirementsOf c w → P (requirementTask q)) → ((k : ℕ) → k ∈ constraintsOf c w → P (constraint k))
       → (t : Task) → t ∈ tasksOf c w → P t
   unfolding tasksOf
   task-rule w P f g t m =
@@ -470,7 +476,7 @@ module _ (c : Catalogue) where
   serve-booked f {log} {ts} {t} {o} b e =
       let b₁ : Books log (log ++ (t ∷ [])) ((log ++ (t ∷ [])) ++ ts) (o .drawn) o = rw (append-assoc log (t ∷ []) ts) (taken (λ u m. in-left _ m) (b .books)) in
       let b₂ = task-served log ts f t o (rw (e, append-nil) (aside b₁)) in
-      record { books = aside (rw append-assoc at b₂) }
+      record { books = aside (rw (append-assoc (log ++ (t ∷ [])) ts ((serve c f t o) .line)) at b₂) }
 
   pub begin-booked : {log : List Task} {o : Opening} → Booked log [] o → o .line ≡ [] → Booked log ((beginRun c o) .line) (setLine [] (beginRun c o))
   unfolding beginRun
@@ -481,17 +487,17 @@ module _ (c : Catalogue) where
       let b₃ = fold-through (Serving log log log) (λ (e : ℕ × ℕ). fire c (e .0) (e .1 ∷ [])) (λ e es. fire-serving log log log (λ t m. m) (e .0) (e .1 ∷ []) es) (o .drawn) _ b₂ in
       record { books = aside b₃ }
 
-  pub end-booked : {log : List Task} {o : Opening} → Booked log [] o → Booked log [] (endRun c o)
+  pub end-booked : {log ts : List Task} {o : Opening} → Booked log ts o → Booked log ts (endRun c o)
   unfolding endRun
   end-booked b = record { books = aside (b .books) }
 
-  pub add-booked : (w : Owner) {log : List Task} {o : Opening} → Booked log [] o → Booked log [] (add w o)
+  pub add-booked : (w : Owner) {log ts : List Task} {o : Opening} → Booked log ts o → Booked log ts (add w o)
   unfolding add
   add-booked w b = record { books = aside (b .books) }
 
-  pub draw-booked : (f : ℕ → Bool) (k : ℕ) {log : List Task} {o : Opening} → Booked log [] o → Booked log [] (draw c f k o)
+  pub draw-booked : (f : ℕ → Bool) (k : ℕ) {log ts : List Task} {o : Opening} → Booked log ts o → Booked log ts (draw c f k o)
   unfolding draw
-  draw-booked f k {log} {o} b =
+  draw-booked f k {o} b =
       let drawn = isDrawn c f k in
       let bs = b .books in
       record { books = aside (moved
@@ -504,3 +510,40 @@ module _ (c : Catalogue) where
       placed f q i (waits m) = ⊎-elim (λ n. is-drawn (in-right (o .drawn) n)) (λ n. waits n) (filter-either f (o .waiting) m)
       placed f q i (is-drawn m) = is-drawn (in-left _ m)
       placed f q i (fires m n) = fires m n
+
+  -- ---- what the books say of each task
+
+  -- when the line is worked off, everything queued is served
+  pub settled : {log : List Task} {o : Opening} → Booked log [] o → Books log log log (o .drawn) o
+  settled {log} b = rw append-nil at (b .books)
+
+  module _ {done log all : List Task} {drawn : List (ℕ × ℕ)} {o : Opening} (b : Books done log all drawn o) where
+    pub owner-opened : (w : Owner) → owner w ∈ all → w ∈ o .owners
+    owner-opened w m = b .called-for (owner w) m
+
+    pub name-opened : (n : ℕ) → name n ∈ all → n ∈ o .names
+    name-opened n m = b .called-for (name n) m
+
+    pub requirement-from : (q : ℕ) (is : List ℕ) → requirement q is ∈ all → RequirementFrom log q is
+    requirement-from q is m = b .called-for (requirement q is) m
+
+    pub condition-from : (q : ℕ) → condition q ∈ all → ConditionFrom log q
+    condition-from q m = b .called-for (condition q) m
+
+    pub constraint-from : (k : ℕ) → constraint k ∈ all → ConstraintFrom log k
+    constraint-from k m = b .called-for (constraint k) m
+
+    pub rules-queued : (w : Owner) → owner w ∈ done → unknownOwner c w ≡ false → tasksOf c w ⊆ all
+    rules-queued w m = b .completed (owner w) m
+
+    pub several-of : (n : ℕ) → name n ∈ done → severalAllowed c n ≡ true → n ∈ o .several
+    several-of n m = b .completed (name n) m
+
+    pub handled-of : (q : ℕ) (is : List ℕ) → requirement q is ∈ done → q ∈ o .handled
+    handled-of q is m = b .completed (requirement q is) m .0
+
+    pub fired-of : (q : ℕ) (is : List ℕ) → requirement q is ∈ done → (i : ℕ) → i ∈ is → (q, i) ∈ o .fired
+    fired-of q is m = b .completed (requirement q is) m .1
+
+    pub split : (q : ℕ) → condition q ∈ done → (i : ℕ) → i ∈ indices c q → Placed all (o .waiting) drawn q i
+    split q m = b .completed (condition q) m
