@@ -12,7 +12,7 @@ use Rattle.rules.specs.Candidates.{candidates, requirementsOf, constrain
 use Rattle.rules.specs.Conditions.{indices, unconditional}
 use Rattle.rules.specs.Opening.{Task, owner, name, condition, requirement, constraint, Opening, setOwners, setNames, setSeveral, setHandled, setFired, setWaiting, setDrawn, setAdded, setNamed, setTracked, setLine, unopened, queue, openOwner, openName, markHandled, add, openNames, rangesOf, rangesFirst, taskBy, tasksOf, serveOwner, serveName, entryHolds, fire, serveCondition, firedParts, nameForTracking, openReady, serveRequirement, serve, isDrawn, draw, beginRun, joining, endRun}
 use Rattle.rules.specs.Called.{_∈_}
-use Rattle.rules.proofs.Membership.{_⊆_, in-left, in-right, at-end, in-either, before-or-end, filter-in, filter-out, filter-either, map-in, map-out, when-either, unless-either, when-keeps, unless-keeps, fold-keeps, fold-through}
+use Rattle.rules.proofs.Membership.{_⊆_, in-left, in-right, at-end, in-either, before-or-end, filter-out, filter-within, filter-either, map-in, map-out, when-either, unless-either, when-keeps, unless-keeps, fold-keeps, fold-through}
 
 -- ---- whose a record is
 
@@ -430,12 +430,13 @@ module _ (c : Catalogue) where
     condition-served : (f : ℕ → Bool) (q : ℕ) (s : Opening) → Taken (condition q) s → Served (condition q) (serveCondition c f q s)
     unfolding serveCondition
     condition-served f q s b =
-        let stay = filter (λ i. not (entryHolds c f q i)) (indices c q) in
-        let hold = filter (entryHolds c f q) (indices c q) in
-        fire-serving (now (condition q)) (now (condition q)) (now (condition q) ++ ts) (λ u m. in-left ts m) q hold [] _
-        (rw (append-nil (entries q hold)) (finished (condition q)
-          (λ i m. ⊎-elim (λ k. is-drawn (in-left (s .drawn) (map-in (λ i. (q, i)) k))) (λ k. waits (in-right (s .waiting) (map-in (λ i. (q, i)) k))) (filter-either (entryHolds c f q) (indices c q) m))
-          (entered q stay hold (at-end log (condition q)) (λ i m. filter-out _ _ m .0) (λ i m. filter-out _ _ m .0) b)))
+        fire-serving (now (condition q)) (now (condition q)) (now (condition q) ++ ts) (λ u m. in-left ts m) q _ [] _
+        (rw append-nil (finished (condition q)
+          (λ i m. ⊎-elim
+            (λ k. is-drawn (in-left (s .drawn) (map-in (λ i. (q, i)) k)))
+            (λ k. waits (in-right (s .waiting) (map-in (λ i. (q, i)) k)))
+            (filter-either _ (indices c q) m))
+          (entered q _ _ (at-end log (condition q)) (filter-within _ (indices c q)) (filter-within _ (indices c q)) b)))
 
     requirement-served : (q : ℕ) (is : List ℕ) (s : Opening) → Taken (requirement q is) s → Served (requirement q is) (serveRequirement c q is s)
     unfolding serveRequirement markHandled snoc
@@ -501,8 +502,8 @@ module _ (c : Catalogue) where
       let drawn = isDrawn c f k in
       let bs = b .books in
       record { books = aside (moved
-        (λ q i m. bs .waiting-from q i (filter-out _ (o .waiting) m .0))
-        (λ q i m. ⊎-elim (bs .drawn-from q i) (λ n. bs .waiting-from q i (filter-out drawn (o .waiting) n .0)) (in-either (o .drawn) m))
+        (λ q i m. bs .waiting-from q i (filter-within _ (o .waiting) _ m))
+        (λ q i m. ⊎-elim (bs .drawn-from q i) (λ n. bs .waiting-from q i (filter-within _ (o .waiting) _ n)) (in-either (o .drawn) m))
         (placed drawn) bs) }
     where
       placed : (f : ℕ × ℕ → Bool) {all : List Task} (q i : ℕ) → Placed all (o .waiting) (o .drawn) q i

@@ -57,6 +57,9 @@ module _ {A : Type 0} where
       go true q m h = ⊎-elim (λ (p : x ≡ y). (List·Memᴰ·head p, ap f p ∙ q)) (λ n. later (h n)) (List·Memᴰ·cases-cons m)
       go false q m h = later (h m)
 
+  pub filter-within : (f : A → Bool) (xs : List A) → filter f xs ⊆ xs
+  filter-within f xs x m = filter-out f xs m .0
+
   -- what a test does not take, its opposite does
   pub filter-either : (f : A → Bool) {x : A} (xs : List A) → x ∈ xs → (x ∈ filter f xs) ⊎ (x ∈ filter (λ y. not (f y)) xs)
   filter-either f {x} xs m = go (f x) refl
