@@ -485,7 +485,7 @@ module _ (c : Catalogue) where
       let s₁ = setAdded [] (setDrawn [] o) in
       let b₁ : Serving log log log (o .drawn) s₁ = rw (append-nil (o .drawn), e) (aside (b .books)) in
       let b₂ = fold-keeps (Serving log log log (o .drawn)) openOwner (o .added) (λ w m. openOwner-serving log log log (o .drawn) w) s₁ b₁ in
-      let b₃ = fold-through (Serving log log log) (λ (e : ℕ × ℕ). fire c (e .0) (e .1 ∷ [])) (λ e es. fire-serving log log log (λ t m. m) (e .0) (e .1 ∷ []) es) (o .drawn) _ b₂ in
+      let b₃ = fold-through (Serving log log log) _ (λ e es. fire-serving log log log (λ t m. m) (e .0) _ es) (o .drawn) _ b₂ in
       record { books = aside b₃ }
 
   pub end-booked : {log ts : List Task} {o : Opening} → Booked log ts o → Booked log ts (endRun c o)
@@ -499,12 +499,11 @@ module _ (c : Catalogue) where
   pub draw-booked : (f : ℕ → Bool) (k : ℕ) {log ts : List Task} {o : Opening} → Booked log ts o → Booked log ts (draw c f k o)
   unfolding draw
   draw-booked f k {o} b =
-      let drawn = isDrawn c f k in
       let bs = b .books in
       record { books = aside (moved
         (λ q i m. bs .waiting-from q i (filter-within _ (o .waiting) _ m))
         (λ q i m. ⊎-elim (bs .drawn-from q i) (λ n. bs .waiting-from q i (filter-within _ (o .waiting) _ n)) (in-either (o .drawn) m))
-        (placed drawn) bs) }
+        (placed _) bs) }
     where
       placed : (f : ℕ × ℕ → Bool) {all : List Task} (q i : ℕ) → Placed all (o .waiting) (o .drawn) q i
           → Placed all (filter (λ (e : ℕ × ℕ). not (f e)) (o .waiting)) (o .drawn ++ filter f (o .waiting)) q i

@@ -97,6 +97,13 @@ elem-out n ns e = let p = any-out (eqb n) ns e in rw (eqb-true n (p .0) (p .2)) 
 pub not-elem : (n : ℕ) (ns : List ℕ) → elem n ns ≡ false → n ∈ ns → ⊥
 not-elem n ns e m = true≢false (sym (elem-in ns m) ∙ e)
 
+pub elem-not : (n : ℕ) (ns : List ℕ) → (n ∈ ns → ⊥) → elem n ns ≡ false
+elem-not n ns no-such = go (elem n ns) refl
+  where
+    go : (b : Bool) → elem n ns ≡ b → b ≡ false
+    go true e = absurd (no-such (elem-out n ns e))
+    go false e = refl
+
 module _ {A B : Type 0} where
   pub map-in : (f : A → B) {x : A} {xs : List A} → x ∈ xs → f x ∈ map f xs
   map-in f m = Memᴰ·map f m
@@ -149,6 +156,17 @@ module _ {S : Type 0} (P : S → Type 0) where
   unfolding fold
   fold-keeps f [] h s p = p
   fold-keeps f (x ∷ xs) h s p = fold-keeps f xs (λ y m. h y (List·Memᴰ·tail m)) (f x s) (h x (List·Memᴰ·head refl) s p)
+
+  -- what one step gives and every step keeps
+  pub fold-gives : {A : Type 0} (f : A → S → S) {x : A} (xs : List A) → x ∈ xs → ((s : S) → P (f x s)) → ((y : A) (s : S) → P s → P (f y s))
+      → (s : S) → P (fold f xs s)
+  unfolding fold
+  fold-gives f [] m gives keeps s = absurd (List·Memᴰ·not-nil m)
+  fold-gives f {x} (y ∷ ys) m gives keeps s =
+      ⊎-elim
+      (λ (e : x ≡ y). fold-keeps f ys (λ z n. keeps z) (f y s) (rw e at (gives s)))
+      (λ n. fold-gives f ys n gives keeps (f y s))
+      (List·Memᴰ·cases-cons m)
 
 -- where what holds depends on the elements still to come
 pub fold-through : {A S : Type 0} (P : List A → S → Type 0) (f : A → S → S) → ((x : A) (xs : List A) (s : S) → P (x ∷ xs) s → P xs (f x s))

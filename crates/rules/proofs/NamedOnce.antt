@@ -1,0 +1,163 @@
+-- No part is named for tracking twice in a run, none that joins is tracked already, and none is tracked twice. What joins is what was named.
+use mathlib.Core.Path.{_≡_, refl, sym, _∙_, ap}
+use mathlib.Core.Logic.{_⊎_, inl, inr, ⊎-elim}
+use mathlib.Core.Bool.{Bool, true, false, not, _||_, cond, true≢false, false≢true}
+use mathlib.Core.List.{List, [], _∷_, _++_, map, List·Memᴰ·head, List·Memᴰ·tail, List·Memᴰ·cases-cons, List·Memᴰ·not-nil}
+use Prim.Native.Nat.{ℕ}
+use lib.Dec.{eqb}
+use borrow.Author.Tests.{eqb-true, eq-eqb, not-true}
+use Rattle.rules.specs.Lists.{filter, elem, snoc, concatMap, fold, distinct}
+use Rattle.rules.specs.Catalogue.{Owner, part, Catalogue, nameOf, rangeName}
+use Rattle.rules.specs.Opening.{Task, owner, name, condition, requirement, constraint, Opening, unopened, queue, openOwner, openName, markHandled, add, openNames, rangesOf, serveOwner, serveName, fire, serveCondition, nameForTracking, openReady, serveRequirement, serve, draw, beginRun, joining, endRun}
+use Rattle.rules.specs.Called.{_∈_}
+use Rattle.rules.proofs.Membership.{_⊆_, at-end, in-left, in-right, in-either, before-or-end, filter-in, filter-out, filter-within, elem-out, not-elem, elem-not, map-in, concatMap-in, concatMap-out, when-keeps, unless-keeps, unless-either, fold-keeps, fold-gives}
+
+-- ---- lists without repeats
+
+pub data Once {A : Type 0} : List A → Type 0 where
+  none : Once []
+  once : {x : A} {xs : List A} → (x ∈ xs → ⊥) → Once xs → Once (x ∷ xs)
+
+pub once-append : {A : Type 0} {xs ys : List A} → Once xs → Once ys → ((x : A) → x ∈ xs → x ∈ ys → ⊥) → Once (xs ++ ys)
+once-append none q apart = q
+once-append (once {x = x} {xs = xs} n p) q apart =
+    once (λ m. ⊎-elim n (apart x (List·Memᴰ·head refl)) (in-either xs m)) (once-append p q (λ y m. apart y (List·Memᴰ·tail m)))
+
+pub once-snoc : {A : Type 0} {xs : List A} {x : A} → Once xs → (x ∈ xs → ⊥) → Once (snoc xs x)
+unfolding snoc
+once-snoc {x} p n = once-append p (once List·Memᴰ·not-nil none) (λ y m k. ⊎-elim (λ (e : y ≡ x). n (rw e at m)) List·Memᴰ·not-nil (List·Memᴰ·cases-cons k))
+
+pub once-filter : {A : Type 0} (f : A → Bool) {xs : List A} → Once xs → Once (filter f xs)
+unfolding filter
+once-filter f none = none
+once-filter {A} f (once {x = x} {xs = xs} n p) = go (f x) (once-filter f p)
+  where
+    go : (b : Bool) → Once (filter f xs) → Once {A = A} (elim b [ true ↦ x ∷ filter f xs | false ↦ filter f xs ])
+    go true q = once (λ m. n (filter-within f xs x m)) q
+    go false q = q
+
+-- lists whose elements tell which list they are of
+pub once-concatMap : {A B : Type 0} (f : A → List B) (key : B → A) → ((x : A) (y : B) → y ∈ f x → key y ≡ x) → ((x : A) → Once (f x))
+    → {xs : List A} → Once xs → Once (concatMap f xs)
+unfolding concatMap
+once-concatMap f key keyed each none = none
+once-concatMap f key keyed each (once {x = x} {xs = xs} n p) =
+    once-append (each x) (once-concatMap f key keyed each p)
+    (λ y m k. let z = concatMap-out f xs k in let e : x ≡ z .0 = sym (keyed x y m) ∙ keyed (z .0) y (z .2) in n (rw e (z .1)))
+
+pub distinct-once : (xs : List ℕ) → Once (distinct xs)
+unfolding distinct
+distinct-once xs = fold-keeps Once _ xs (λ x m seen. step x seen (elem x seen) refl) [] none
+  where
+    step : (x : ℕ) (seen : List ℕ) (b : Bool) → elem x seen ≡ b → Once seen → Once (cond b seen (snoc seen x))
+    step x seen true e p = p
+    step x seen false e p = once-snoc p (not-elem x seen e)
+
+pub distinct-in : (xs : List ℕ) → xs ⊆ distinct xs
+unfolding distinct
+distinct-in xs x m = fold-gives (λ seen. x ∈ seen) _ xs m (λ seen. gives seen (elem x seen) refl) (λ y seen. keeps y seen (elem y seen)) []
+  where
+    gives : (seen : List ℕ) (b : Bool) → elem x seen ≡ b → x ∈ cond b seen (snoc seen x)
+    gives seen true e = elem-out x seen e
+    gives seen false e = unfold snoc in at-end seen x
+
+    keeps : (y : ℕ) (seen : List ℕ) (b : Bool) → x ∈ seen → x ∈ cond b seen (snoc seen y)
+    keeps y seen true k = k
+    keeps y seen false k = unfold snoc in in-left (y ∷ []) k
+
+-- ---- naming
+
+-- neither the parts that a run named nor those tracked have repeats
+abbrev pub NamedOnce : Opening → Type 0
+NamedOnce o = Once (o .named) × Once (o .tracked)
+
+pub start-once : NamedOnce unopened
+start-once = (none, none)
+
+openOwner-once : (w : Owner) (s : Opening) → NamedOnce s → NamedOnce (openOwner w s)
+unfolding openOwner queue
+openOwner-once w s p = unless-keeps NamedOnce _ _ s (λ q. q) p
+
+openName-once : (n : ℕ) (s : Opening) → NamedOnce s → NamedOnce (openName n s)
+unfolding openName queue
+openName-once n s p = unless-keeps NamedOnce _ _ s (λ q. q) p
+
+module _ (c : Catalogue) where
+  openNames-once : (rs : List ℕ) (s : Opening) → NamedOnce s → NamedOnce (openNames c rs s)
+  unfolding openNames
+  openNames-once rs s p = fold-keeps NamedOnce _ rs (λ r m. openName-once (rangeName c r)) s p
+
+  fire-once : (q : ℕ) (is : List ℕ) (s : Opening) → NamedOnce s → NamedOnce (fire c q is s)
+  unfolding fire queue
+  fire-once q [] s p = p
+  fire-once q (i ∷ is) s p = openNames-once (rangesOf c q) s p
+
+  naming-once : (p : ℕ) (s : Opening) → NamedOnce s → NamedOnce (nameForTracking c p s)
+  unfolding nameForTracking
+  naming-once p s h = unless-either NamedOnce _ _ s (λ e. h) (λ e. (once-snoc (h .0) (not-elem p (s .named) (or-right (elem (nameOf c p) (s .several)) (elem p (s .named)) e)), h .1))
+    where
+      or-right : (a b : Bool) → (a || b) ≡ false → b ≡ false
+      or-right true b e = absurd (true≢false e)
+      or-right false b e = e
+
+  ready-once : (p : ℕ) (s : Opening) → NamedOnce s → NamedOnce (openReady c p s)
+  unfolding openReady
+  ready-once p s h = when-keeps NamedOnce _ _ s (openOwner-once (part p) s) h
+
+  pub serve-once : (f : ℕ → Bool) (t : Task) (s : Opening) → NamedOnce s → NamedOnce (serve c f t s)
+  unfolding serve serveOwner serveName serveCondition serveRequirement markHandled queue
+  serve-once f (owner w) s p = unless-keeps NamedOnce _ _ s (λ p. fold-keeps NamedOnce queue _ (λ t m s p. p) _ (openNames-once _ s p)) p
+  serve-once f (name n) s p = when-keeps NamedOnce _ _ s (λ p. p) p
+  serve-once f (condition q) s p = fire-once q _ _ p
+  serve-once f (requirement q is) s p =
+      fold-keeps NamedOnce (openReady c) _ (λ p m. ready-once p) _ (fold-keeps NamedOnce (nameForTracking c) _ (λ p m. naming-once p) _ p)
+  serve-once f (constraint k) s p = p
+
+  pub begin-once : (s : Opening) → NamedOnce s → NamedOnce (beginRun c s)
+  unfolding beginRun
+  begin-once s p =
+      fold-keeps NamedOnce _ (s .drawn) (λ e m. fire-once (e .0) _) _ (fold-keeps NamedOnce openOwner (s .added) (λ w m. openOwner-once w) _ p)
+
+  -- ---- joining
+
+  pub joining-from : (s : Opening) (p : ℕ) → p ∈ joining c s → p ∈ s .named
+  unfolding joining
+  joining-from s p m = let x = concatMap-out _ _ (filter-within _ _ p m) in filter-within _ (s .named) p (x .2)
+
+  pub joining-new : (s : Opening) (p : ℕ) → p ∈ joining c s → p ∈ s .tracked → ⊥
+  unfolding joining
+  joining-new s p m = not-elem p (s .tracked) (not-true _ (filter-out _ _ m .1))
+
+  pub joining-in : (s : Opening) (p : ℕ) → p ∈ s .named → (p ∈ s .tracked → ⊥) → p ∈ joining c s
+  unfolding joining
+  joining-in s p m new = filter-in _ _ (concatMap-in _ _ (distinct-in _ _ (map-in (nameOf c) m)) (filter-in _ (s .named) m (eq-eqb (nameOf c p) _ refl))) (ap not (elem-not p (s .tracked) new))
+
+  pub joining-once : (s : Opening) → Once (s .named) → Once (joining c s)
+  unfolding joining
+  joining-once s p = once-filter _ (once-concatMap _ (nameOf c) (λ n q m. eqb-true (nameOf c q) n (filter-out _ (s .named) m .1)) (λ n. once-filter _ p) (distinct-once _))
+
+  -- at a run's end what it named is tracked, and nothing else new
+  pub end-tracks : (s : Opening) (p : ℕ) → (p ∈ s .tracked) ⊎ (p ∈ s .named) → p ∈ (endRun c s) .tracked
+  unfolding endRun
+  end-tracks s p (inl m) = in-left _ m
+  end-tracks s p (inr m) = go (elem p (s .tracked)) refl
+    where
+      go : (b : Bool) → elem p (s .tracked) ≡ b → p ∈ (s .tracked ++ joining c s)
+      go true e = in-left _ (elem-out p (s .tracked) e)
+      go false e = in-right (s .tracked) (joining-in s p m (not-elem p (s .tracked) e))
+
+  pub end-tracked : (s : Opening) (p : ℕ) → p ∈ (endRun c s) .tracked → (p ∈ s .tracked) ⊎ (p ∈ s .named)
+  unfolding endRun
+  end-tracked s p m = ⊎-elim inl (λ k. inr (joining-from s p k)) (in-either (s .tracked) m)
+
+  pub end-once : (s : Opening) → NamedOnce s → NamedOnce (endRun c s)
+  unfolding endRun
+  end-once s p = (none, once-append (p .1) (joining-once s (p .0)) (λ q m k. joining-new s q k m))
+
+  pub draw-once : (f : ℕ → Bool) (k : ℕ) (s : Opening) → NamedOnce s → NamedOnce (draw c f k s)
+  unfolding draw
+  draw-once f k s p = p
+
+pub add-once : (w : Owner) (s : Opening) → NamedOnce s → NamedOnce (add w s)
+unfolding add
+add-once w s p = p
