@@ -12,7 +12,7 @@ use Rattle.rules.specs.Candidates.{candidates, requirementsOf, constrain
 use Rattle.rules.specs.Conditions.{indices, unconditional}
 use Rattle.rules.specs.Opening.{Task, owner, name, condition, requirement, constraint, Opening, setOwners, setNames, setSeveral, setHandled, setFired, setWaiting, setDrawn, setAdded, setNamed, setTracked, setLine, unopened, queue, openOwner, openName, markHandled, add, openNames, rangesOf, rangesFirst, taskBy, tasksOf, serveOwner, serveName, entryHolds, fire, serveCondition, firedParts, nameForTracking, openReady, serveRequirement, serve, isDrawn, draw, beginRun, joining, endRun}
 use Rattle.rules.specs.Called.{_∈_}
-use Rattle.rules.proofs.Membership.{_⊆_, in-left, in-right, at-end, in-either, before-or-end, filter-out, filter-within, filter-either, map-in, map-out, when-either, unless-either, when-keeps, unless-keeps, fold-keeps, fold-through}
+use Rattle.rules.proofs.Membership.{_⊆_, in-left, in-right, at-end, in-either, before-or-end, filter-out, filter-within, filter-either, map-in, map-out, entries, entries-out, when-either, unless-either, when-keeps, unless-keeps, fold-keeps, fold-through}
 
 -- ---- whose a record is
 
@@ -60,15 +60,6 @@ module _ (c : Catalogue) where
       (in-either (map requirementTask (requirementsOf c w)) m)
 
   -- ---- the books
-
-  -- disjuncts of one requirement
-  abbrev entries : ℕ → List ℕ → List (ℕ × ℕ)
-  entries q is = map (λ i. (q, i)) is
-
-  entries-out : {p i : ℕ} (q : ℕ) (is : List ℕ) → (p, i) ∈ entries q is → (p ≡ q) × (i ∈ is)
-  entries-out q is m =
-      let x = map-out (λ (i : ℕ). (q, i)) is m in
-      (ap (λ (e : ℕ × ℕ). e .0) (x .2), rw (ap (λ (e : ℕ × ℕ). e .1) (x .2)) (x .1))
 
   -- requirement record q is of an owner whose task was served
   pub record OfServed (log : List Task) (q : ℕ) : Type 0 where

@@ -131,6 +131,15 @@ module _ {A B : Type 0} where
       go (inl n) h = (z, List·Memᴰ·head refl, n)
       go (inr n) h = let p = h n in (p .0, List·Memᴰ·tail (p .1), p .2)
 
+-- the disjuncts of one requirement, by index
+abbrev pub entries : ℕ → List ℕ → List (ℕ × ℕ)
+entries q is = map (λ i. (q, i)) is
+
+pub entries-out : {p i : ℕ} (q : ℕ) (is : List ℕ) → (p, i) ∈ entries q is → (p ≡ q) × (i ∈ is)
+entries-out q is m =
+    let x = map-out (λ (i : ℕ). (q, i)) is m in
+    (ap (λ (e : ℕ × ℕ). e .0) (x .2), rw (ap (λ (e : ℕ × ℕ). e .1) (x .2)) (x .1))
+
 -- ---- what holds of a state
 
 module _ {S : Type 0} (P : S → Type 0) where

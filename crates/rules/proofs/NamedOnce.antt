@@ -11,6 +11,7 @@ use Rattle.rules.specs.Catalogue.{Owner, part, Catalogue, nameOf, rangeN
 use Rattle.rules.specs.Opening.{Task, owner, name, condition, requirement, constraint, Opening, unopened, queue, openOwner, openName, markHandled, add, openNames, rangesOf, serveOwner, serveName, fire, serveCondition, nameForTracking, openReady, serveRequirement, serve, draw, beginRun, joining, endRun}
 use Rattle.rules.specs.Called.{_∈_}
 use Rattle.rules.proofs.Membership.{_⊆_, at-end, in-left, in-right, in-either, before-or-end, filter-in, filter-out, filter-within, elem-out, not-elem, elem-not, map-in, concatMap-in, concatMap-out, when-keeps, unless-keeps, unless-either, fold-keeps, fold-gives}
+use Rattle.rules.proofs.Queueing.{add-keeps, ready-keeps, serve-keeps, begin-keeps, draw-keeps}
 
 -- ---- lists without repeats
 
@@ -74,24 +75,7 @@ NamedOnce o = Once (o .named) × Once (o .tracked)
 pub start-once : NamedOnce unopened
 start-once = (none, none)
 
-openOwner-once : (w : Owner) (s : Opening) → NamedOnce s → NamedOnce (openOwner w s)
-unfolding openOwner queue
-openOwner-once w s p = unless-keeps NamedOnce _ _ s (λ q. q) p
-
-openName-once : (n : ℕ) (s : Opening) → NamedOnce s → NamedOnce (openName n s)
-unfolding openName queue
-openName-once n s p = unless-keeps NamedOnce _ _ s (λ q. q) p
-
 module _ (c : Catalogue) where
-  openNames-once : (rs : List ℕ) (s : Opening) → NamedOnce s → NamedOnce (openNames c rs s)
-  unfolding openNames
-  openNames-once rs s p = fold-keeps NamedOnce _ rs (λ r m. openName-once (rangeName c r)) s p
-
-  fire-once : (q : ℕ) (is : List ℕ) (s : Opening) → NamedOnce s → NamedOnce (fire c q is s)
-  unfolding fire queue
-  fire-once q [] s p = p
-  fire-once q (i ∷ is) s p = openNames-once (rangesOf c q) s p
-
   naming-once : (p : ℕ) (s : Opening) → NamedOnce s → NamedOnce (nameForTracking c p s)
   unfolding nameForTracking
   naming-once p s h = unless-either NamedOnce _ _ s (λ e. h) (λ e. (once-snoc (h .0) (not-elem p (s .named) (or-right (elem (nameOf c p) (s .several)) (elem p (s .named)) e)), h .1))
@@ -100,23 +84,13 @@ module _ (c : Catalogue) where
       or-right true b e = absurd (true≢false e)
       or-right false b e = e
 
-  ready-once : (p : ℕ) (s : Opening) → NamedOnce s → NamedOnce (openReady c p s)
-  unfolding openReady
-  ready-once p s h = when-keeps NamedOnce _ _ s (openOwner-once (part p) s) h
-
   pub serve-once : (f : ℕ → Bool) (t : Task) (s : Opening) → NamedOnce s → NamedOnce (serve c f t s)
-  unfolding serve serveOwner serveName serveCondition serveRequirement markHandled queue
-  serve-once f (owner w) s p = unless-keeps NamedOnce _ _ s (λ p. fold-keeps NamedOnce queue _ (λ t m s p. p) _ (openNames-once _ s p)) p
-  serve-once f (name n) s p = when-keeps NamedOnce _ _ s (λ p. p) p
-  serve-once f (condition q) s p = fire-once q _ _ p
-  serve-once f (requirement q is) s p =
-      fold-keeps NamedOnce (openReady c) _ (λ p m. ready-once p) _ (fold-keeps NamedOnce (nameForTracking c) _ (λ p m. naming-once p) _ p)
-  serve-once f (constraint k) s p = p
+  unfolding serveRequirement markHandled
+  serve-once = serve-keeps NamedOnce (λ s ws ns wt d a l p. p) c (λ n s p. p)
+      (λ q is s p. fold-keeps NamedOnce _ _ (λ x m. ready-keeps NamedOnce (λ s ws ns wt d a l p. p) c x) _ (fold-keeps NamedOnce _ _ (λ x m. naming-once x) _ p))
 
   pub begin-once : (s : Opening) → NamedOnce s → NamedOnce (beginRun c s)
-  unfolding beginRun
-  begin-once s p =
-      fold-keeps NamedOnce _ (s .drawn) (λ e m. fire-once (e .0) _) _ (fold-keeps NamedOnce openOwner (s .added) (λ w m. openOwner-once w) _ p)
+  begin-once = begin-keeps NamedOnce (λ s ws ns wt d a l p. p) c
 
   -- ---- joining
 
@@ -155,9 +129,7 @@ module _ (c : Catalogue) where
   end-once s p = (none, once-append (p .1) (joining-once s (p .0)) (λ q m k. joining-new s q k m))
 
   pub draw-once : (f : ℕ → Bool) (k : ℕ) (s : Opening) → NamedOnce s → NamedOnce (draw c f k s)
-  unfolding draw
-  draw-once f k s p = p
+  draw-once = draw-keeps NamedOnce (λ s ws ns wt d a l p. p) c
 
 pub add-once : (w : Owner) (s : Opening) → NamedOnce s → NamedOnce (add w s)
-unfolding add
-add-once w s p = p
+add-once = add-keeps NamedOnce (λ s ws ns wt d a l p. p)

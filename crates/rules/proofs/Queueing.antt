@@ -1,0 +1,58 @@
+-- What does not speak of opened owners and names, of waiting and drawn entries or of the line is kept by every rule but two:
+-- a name that allows several is served, and a requirement is handled.
+use mathlib.Core.Bool.{Bool}
+use mathlib.Core.List.{List, [], _∷_}
+use Prim.Native.Nat.{ℕ}
+use Rattle.rules.specs.Lists.{snoc}
+use Rattle.rules.specs.Catalogue.{Owner, part, Catalogue, rangeName}
+use Rattle.rules.specs.Opening.{Task, owner, name, condition, requirement, constraint, Opening, setOwners, setNames, setSeveral, setWaiting, setDrawn, setAdded, setLine, queue, openOwner, openName, add, openNames, rangesOf, serveOwner, serveName, fire, serveCondition, openReady, serveRequirement, serve, draw, beginRun}
+use Rattle.rules.proofs.Membership.{when-keeps, unless-keeps, fold-keeps}
+
+module _ (P : Opening → Type 0)
+    (aside : (s : Opening) (ws : List Owner) (ns : List ℕ) (waiting drawn : List (ℕ × ℕ)) (added : List Owner) (l : List Task)
+      → P s → P (setOwners ws (setNames ns (setWaiting waiting (setDrawn drawn (setAdded added (setLine l s)))))))
+    where
+  openOwner-keeps : (w : Owner) (s : Opening) → P s → P (openOwner w s)
+  unfolding openOwner queue
+  openOwner-keeps w s p = unless-keeps P _ _ s (aside s _ _ _ _ _ _) p
+
+  openName-keeps : (n : ℕ) (s : Opening) → P s → P (openName n s)
+  unfolding openName queue
+  openName-keeps n s p = unless-keeps P _ _ s (aside s _ _ _ _ _ _) p
+
+  pub add-keeps : (w : Owner) (s : Opening) → P s → P (add w s)
+  unfolding add
+  add-keeps w s p = aside s _ _ _ _ _ _ p
+
+  module _ (c : Catalogue) where
+    openNames-keeps : (rs : List ℕ) (s : Opening) → P s → P (openNames c rs s)
+    unfolding openNames
+    openNames-keeps rs s p = fold-keeps P _ rs (λ r m. openName-keeps (rangeName c r)) s p
+
+    fire-keeps : (q : ℕ) (is : List ℕ) (s : Opening) → P s → P (fire c q is s)
+    unfolding fire queue
+    fire-keeps q [] s p = p
+    fire-keeps q (i ∷ is) s p = aside _ _ _ _ _ _ _ (openNames-keeps (rangesOf c q) s p)
+
+    pub ready-keeps : (p : ℕ) (s : Opening) → P s → P (openReady c p s)
+    unfolding openReady
+    ready-keeps p s h = when-keeps P _ _ s (openOwner-keeps (part p) s) h
+
+    pub serve-keeps : ((n : ℕ) (s : Opening) → P s → P (setSeveral (snoc (s .several) n) s))
+        → ((q : ℕ) (is : List ℕ) (s : Opening) → P s → P (serveRequirement c q is s))
+        → (f : ℕ → Bool) (t : Task) (s : Opening) → P s → P (serve c f t s)
+    unfolding serve serveOwner serveName serveCondition queue
+    serve-keeps several handled f (owner w) s p = unless-keeps P _ _ s (λ p. fold-keeps P queue _ (λ t m s. aside s _ _ _ _ _ _) _ (openNames-keeps _ s p)) p
+    serve-keeps several handled f (name n) s p = when-keeps P _ _ s (several n s) p
+    serve-keeps several handled f (condition q) s p = fire-keeps q _ _ (aside s _ _ _ _ _ _ p)
+    serve-keeps several handled f (requirement q is) s p = handled q is s p
+    serve-keeps several handled f (constraint k) s p = p
+
+    pub begin-keeps : (s : Opening) → P s → P (beginRun c s)
+    unfolding beginRun
+    begin-keeps s p =
+        fold-keeps P _ (s .drawn) (λ e m. fire-keeps (e .0) _) _ (fold-keeps P openOwner (s .added) (λ w m. openOwner-keeps w) _ (aside s _ _ _ _ _ _ p))
+
+    pub draw-keeps : (f : ℕ → Bool) (k : ℕ) (s : Opening) → P s → P (draw c f k s)
+    unfolding draw
+    draw-keeps f k s p = aside s _ _ _ _ _ _ p
