@@ -111,18 +111,18 @@ module _ (c : Catalogue) where
   joining-once s p = once-filter _ (once-concatMap _ (nameOf c) (λ n q m. eqb-true (nameOf c q) n (filter-out _ (s .named) m .1)) (λ n. once-filter _ p) (distinct-once _))
 
   -- at a run's end what it named is tracked, and nothing else new
-  pub end-tracks : (s : Opening) (p : ℕ) → (p ∈ s .tracked) ⊎ (p ∈ s .named) → p ∈ (endRun c s) .tracked
+  pub joined-in : (s : Opening) (p : ℕ) → (p ∈ s .tracked) ⊎ (p ∈ s .named) → p ∈ (endRun c s) .tracked
   unfolding endRun
-  end-tracks s p (inl m) = in-left _ m
-  end-tracks s p (inr m) = go (elem p (s .tracked)) refl
+  joined-in s p (inl m) = in-left _ m
+  joined-in s p (inr m) = go (elem p (s .tracked)) refl
     where
       go : (b : Bool) → elem p (s .tracked) ≡ b → p ∈ (s .tracked ++ joining c s)
       go true e = in-left _ (elem-out p (s .tracked) e)
       go false e = in-right (s .tracked) (joining-in s p m (not-elem p (s .tracked) e))
 
-  pub end-tracked : (s : Opening) (p : ℕ) → p ∈ (endRun c s) .tracked → (p ∈ s .tracked) ⊎ (p ∈ s .named)
+  pub joined-out : (s : Opening) (p : ℕ) → p ∈ (endRun c s) .tracked → (p ∈ s .tracked) ⊎ (p ∈ s .named)
   unfolding endRun
-  end-tracked s p m = ⊎-elim inl (λ k. inr (joining-from s p k)) (in-either (s .tracked) m)
+  joined-out s p m = ⊎-elim inl (λ k. inr (joining-from s p k)) (in-either (s .tracked) m)
 
   pub end-once : (s : Opening) → NamedOnce s → NamedOnce (endRun c s)
   unfolding endRun

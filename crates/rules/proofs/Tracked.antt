@@ -12,7 +12,8 @@ use Rattle.rules.specs.Conditions.{disjunctAt}
 use Rattle.rules.specs.Opening.{Task, owner, name, condition, requirement, constraint, Opening, unopened, queue, openOwner, openName, markHandled, add, openNames, rangesOf, serveOwner, serveName, fire, serveCondition, firedParts, nameForTracking, openReady, serveRequirement, serve, draw, beginRun, endRun}
 use Rattle.rules.specs.Called.{_∈_}
 use Rattle.rules.proofs.Membership.{_⊆_, in-left, in-right, at-end, in-either, before-or-end, entries-out, elem-out, map-in, concatMap-in, concatMap-out, when-keeps, unless-keeps, unless-either, fold-keeps, fold-through}
-use Rattle.rules.proofs.NamedOnce.{end-tracks, end-tracked}
+use Rattle.rules.proofs.Queueing.{add-keeps, ready-keeps, serve-keeps, begin-keeps, draw-keeps}
+use Rattle.rules.proofs.NamedOnce.{joined-in, joined-out}
 
 module _ (c : Catalogue) where
   -- a part that a handled requirement, or a fired disjunct, asks to track
@@ -106,3 +107,68 @@ module _ (c : Catalogue) where
           noticed : (b : Bool) → elem (nameOf c p) (s .several) ≡ b → (b || elem p (s .named)) ≡ true → Noticed due (s .several) (s .named) (s .tracked) p
           noticed true e f = with-several (elem-out _ (s .several) e)
           noticed false e f = is-named (elem-out p (s .named) f)
+
+  handled-tracks : (q : ℕ) (is : List ℕ) (s : Opening) → TracksAll s → TracksAll (serveRequirement c q is s)
+  unfolding serveRequirement
+  handled-tracks q is s h =
+      fold-keeps TracksAll _ _ (λ p m. ready-keeps TracksAll (λ s ws ns wt d a l p. p) c p) _ (fold-through Tracking _ naming-tracks _ _ (marked q is s h))
+
+  several-tracks : (n : ℕ) (s : Opening) → TracksAll s → Tracks [] (s .handled) (s .fired) (snoc (s .several) n) (s .named) (s .tracked)
+  unfolding snoc
+  several-tracks n s h = record {
+    only-named = h .only-named;
+    only-tracked = h .only-tracked;
+    only-due = h .only-due;
+    each = λ p a. elim (h .each p a) [ is-named m ↦ is-named m | is-tracked m ↦ is-tracked m | with-several m ↦ with-several (in-left _ m) | is-due m ↦ is-due m ];
+  }
+
+  -- ---- every step
+
+  pub start-tracks : TracksAll unopened
+  start-tracks = record { only-named = none-in; only-tracked = none-in; only-due = none-in; each = asked }
+    where
+      none-in : (p : ℕ) → p ∈ [] → Asked [] [] p
+      none-in p m = absurd (List·Memᴰ·not-nil m)
+
+      asked : (p : ℕ) → Asked [] [] p → Noticed [] [] [] [] p
+      asked p (candidate m k) = absurd (List·Memᴰ·not-nil m)
+      asked p (outside m k n) = absurd (List·Memᴰ·not-nil m)
+
+  pub serve-tracks : (f : ℕ → Bool) (t : Task) (s : Opening) → TracksAll s → TracksAll (serve c f t s)
+  serve-tracks = serve-keeps TracksAll (λ s ws ns wt d a l p. p) c several-tracks handled-tracks
+
+  pub begin-tracks : (s : Opening) → TracksAll s → TracksAll (beginRun c s)
+  begin-tracks = begin-keeps TracksAll (λ s ws ns wt d a l p. p) c
+
+  pub draw-tracks : (f : ℕ → Bool) (k : ℕ) (s : Opening) → TracksAll s → TracksAll (draw c f k s)
+  draw-tracks = draw-keeps TracksAll (λ s ws ns wt d a l p. p) c
+
+  pub add-tracks : (w : Owner) (s : Opening) → TracksAll s → TracksAll (add w s)
+  add-tracks = add-keeps TracksAll (λ s ws ns wt d a l p. p)
+
+  pub end-tracks : (s : Opening) → TracksAll s → TracksAll (endRun c s)
+  unfolding endRun
+  end-tracks s h = record {
+    only-named = λ p m. absurd (List·Memᴰ·not-nil m);
+    only-tracked = λ p m. ⊎-elim (h .only-tracked p) (h .only-named p) (joined-out c s p m);
+    only-due = h .only-due;
+    each = λ p a. elim (h .each p a) [
+      is-named m ↦ is-tracked (joined-in c s p (inr m))
+      | is-tracked m ↦ is-tracked (joined-in c s p (inl m))
+      | with-several m ↦ with-several m
+      | is-due m ↦ is-due m
+    ];
+  }
+
+  -- ---- after a run
+
+  pub tracked-asked : (s : Opening) → TracksAll s → (p : ℕ) → p ∈ s .tracked → Asked (s .handled) (s .fired) p
+  tracked-asked s h = h .only-tracked
+
+  pub asked-tracked : (s : Opening) → TracksAll s → s .named ≡ [] → (p : ℕ) → Asked (s .handled) (s .fired) p → (p ∈ s .tracked) ⊎ (nameOf c p ∈ s .several)
+  asked-tracked s h e p a = elim (h .each p a) [
+    is-named m ↦ absurd (List·Memᴰ·not-nil (rw e at m))
+    | is-tracked m ↦ inl m
+    | with-several m ↦ inr m
+    | is-due m ↦ absurd (List·Memᴰ·not-nil m)
+  ]
