@@ -33,7 +33,7 @@ module _ (c : Catalogue) where
 
   -- an owner's tasks are its rules
 
-  abbrev requirementTask : ℕ → Task
+  abbrev pub requirementTask : ℕ → Task
   requirementTask q = taskBy c (unconditional c q) q
 
   requirement-task : (w : Owner) {q : ℕ} → q ∈ requirementsOf c w → (b : Bool) → unconditional c q ≡ b → taskBy c b q ∈ tasksOf c w
@@ -50,7 +50,7 @@ module _ (c : Catalogue) where
   unfolding tasksOf
   constraint-task w m = in-right (map requirementTask (requirementsOf c w)) (map-in constraint m)
 
-  task-rule : (w : Owner) (P : Task → Type 0) → ((q : ℕ) → q ∈ requirementsOf c w → P (requirementTask q)) → ((k : ℕ) → k ∈ constraintsOf c w → P (constraint k))
+  pub task-rule : (w : Owner) (P : Task → Type 0) → ((q : ℕ) → q ∈ requirementsOf c w → P (requirementTask q)) → ((k : ℕ) → k ∈ constraintsOf c w → P (constraint k))
       → (t : Task) → t ∈ tasksOf c w → P t
   unfolding tasksOf
   task-rule w P f g t m =
