@@ -12,127 +12,29 @@ use Rattle.rules.specs.Candidates.{candidates, requirementsOf, constrain
 use Rattle.rules.specs.Conditions.{indices, unconditional}
 use Rattle.rules.specs.Opening.{Task, owner, name, condition, requirement, constraint, Opening, setOwners, setNames, setSeveral, setHandled, setFired, setWaiting, setDrawn, setAdded, setNamed, setTracked, setLine, unopened, queue, openOwner, openName, markHandled, add, openNames, rangesOf, rangesFirst, taskBy, tasksOf, serveOwner, serveName, entryHolds, fire, serveCondition, firedParts, nameForTracking, openReady, serveRequirement, serve, isDrawn, draw, beginRun, joining, endRun}
 use Rattle.rules.specs.Called.{_∈_}
+use Rattle.rules.proofs.OwnerTasks.{requirement-owner, constraint-owner, task-rule, unconditional-task, condition-task, constraint-task}
+use Rattle.rules.proofs.Books.{OfServed, RequirementFrom, ConditionFrom, ConstraintFrom, EntryFrom, Placed, waits, is-drawn, fires, CalledFor, Done, Books, fired-of, rules-queued, split}
 use Rattle.rules.proofs.Membership.{_⊆_, in-left, in-right, at-end, in-either, before-or-end, filter-out, filter-within, filter-either, map-in, map-out, entries, entries-out, when-either, unless-either, when-keeps, unless-keeps, fold-keeps, fold-through}
 
--- ---- whose a record is
-
-same-owner : (v w : Owner) → sameOwner v w ≡ true → w ≡ v
-same-owner root root e = refl
-same-owner root (part q) e = absurd (false≢true e)
-same-owner (part p) root e = absurd (false≢true e)
-same-owner (part p) (part q) e = ap part (sym (eqb-true p q e))
-
 module _ (c : Catalogue) where
-  pub requirement-owner : (w : Owner) {q : ℕ} → q ∈ requirementsOf c w → ownerAt c q ≡ w
-  unfolding requirementsOf
-  requirement-owner w m = same-owner w _ (filter-out _ _ m .1)
-
-  pub constraint-owner : (w : Owner) {k : ℕ} → k ∈ constraintsOf c w → (constraintAt c k) .owner ≡ w
-  unfolding constraintsOf
-  constraint-owner w m = same-owner w _ (filter-out _ _ m .1)
-
-  -- an owner's tasks are its rules
-
-  abbrev pub requirementTask : ℕ → Task
-  requirementTask q = taskBy c (unconditional c q) q
-
-  requirement-task : (w : Owner) {q : ℕ} → q ∈ requirementsOf c w → (b : Bool) → unconditional c q ≡ b → taskBy c b q ∈ tasksOf c w
-  unfolding tasksOf
-  requirement-task w m b e = in-left _ (rw e at (map-in requirementTask m))
-
-  pub unconditional-task : (w : Owner) {q : ℕ} → q ∈ requirementsOf c w → unconditional c q ≡ true → requirement q [] ∈ tasksOf c w
-  unconditional-task w m e = unfold taskBy in requirement-task w m true e
-
-  pub condition-task : (w : Owner) {q : ℕ} → q ∈ requirementsOf c w → unconditional c q ≡ false → condition q ∈ tasksOf c w
-  condition-task w m e = unfold taskBy in requirement-task w m false e
-
-  pub constraint-task : (w : Owner) {k : ℕ} → k ∈ constraintsOf c w → constraint k ∈ tasksOf c w
-  unfolding tasksOf
-  constraint-task w m = in-right (map requirementTask (requirementsOf c w)) (map-in constraint m)
-
-  pub task-rule : (w : Owner) (P : Task → Type 0) → ((q : ℕ) → q ∈ requirementsOf c w → P (requirementTask q)) → ((k : ℕ) → k ∈ constraintsOf c w → P (constraint k))
-      → (t : Task) → t ∈ tasksOf c w → P t
-  unfolding tasksOf
-  task-rule w P f g t m =
-      ⊎-elim
-      (λ k. let x = map-out requirementTask (requirementsOf c w) k in rw (x .2) (f (x .0) (x .1)))
-      (λ k. let x = map-out constraint (constraintsOf c w) k in rw (x .2) (g (x .0) (x .1)))
-      (in-either (map requirementTask (requirementsOf c w)) m)
-
-  -- ---- the books
-
-  -- requirement record q is of an owner whose task was served
-  pub record OfServed (log : List Task) (q : ℕ) : Type 0 where
-    pub owner-served : owner (ownerAt c q) ∈ log
-    pub of-owner : q ∈ requirementsOf c (ownerAt c q)
-
-  pub record RequirementFrom (log : List Task) (q : ℕ) (is : List ℕ) : Type 0 where
-    pub of-served : OfServed log q
-    pub indexed : is ⊆ indices c q
-    pub none-fired : unconditional c q ≡ true → is ≡ []
-
-  pub record ConditionFrom (log : List Task) (q : ℕ) : Type 0 where
-    pub of-served : OfServed log q
-    pub has-condition : unconditional c q ≡ false
-
-  pub record ConstraintFrom (log : List Task) (k : ℕ) : Type 0 where
-    pub owner-served : owner ((constraintAt c k) .owner) ∈ log
-    pub of-owner : k ∈ constraintsOf c ((constraintAt c k) .owner)
-
-  -- a disjunct that waits, or is drawn, by its requirement and index
-  pub record EntryFrom (log : List Task) (q i : ℕ) : Type 0 where
-    pub condition-served : condition q ∈ log
-    pub indexed : i ∈ indices c q
-
-  -- where a disjunct of a served condition is: it waits, is drawn, or stands in a requirement's task
-  pub data Placed (all : List Task) (waiting drawn : List (ℕ × ℕ)) (q i : ℕ) : Type 0 where
-    waits : (q, i) ∈ waiting → Placed all waiting drawn q i
-    is-drawn : (q, i) ∈ drawn → Placed all waiting drawn q i
-    fires : {is : List ℕ} → requirement q is ∈ all → i ∈ is → Placed all waiting drawn q i
-
-  -- why a task is in the line, or was
-  abbrev pub CalledFor : List Task → Opening → Task → Type 0
-  CalledFor log o (owner w) = w ∈ o .owners
-  CalledFor log o (name n) = n ∈ o .names
-  CalledFor log o (condition q) = ConditionFrom log q
-  CalledFor log o (requirement q is) = RequirementFrom log q is
-  CalledFor log o (constraint k) = ConstraintFrom log k
-
-  -- what a task's service leaves behind
-  abbrev pub Done : List Task → List (ℕ × ℕ) → Opening → Task → Type 0
-  Done all drawn o (owner w) = unknownOwner c w ≡ false → tasksOf c w ⊆ all
-  Done all drawn o (name n) = severalAllowed c n ≡ true → n ∈ o .several
-  Done all drawn o (condition q) = (i : ℕ) → i ∈ indices c q → Placed all (o .waiting) drawn q i
-  Done all drawn o (requirement q is) = (q ∈ o .handled) × ((i : ℕ) → i ∈ is → (q, i) ∈ o .fired)
-  Done all drawn o (constraint k) = Unit {0}
-
-  -- Between two services `done` and `log` are the same, the tasks served so far, `all` has the line behind them, and `drawn` is the
-  -- opening's. While a task is served it is in `log` and not yet in `done`, and `drawn` has the disjuncts that fire and are not yet queued.
-  pub record Books (done log all : List Task) (drawn : List (ℕ × ℕ)) (o : Opening) : Type 0 where
-    pub owner-queued : (w : Owner) → w ∈ o .owners → owner w ∈ all
-    pub name-queued : (n : ℕ) → n ∈ o .names → name n ∈ all
-    pub several-from : (n : ℕ) → n ∈ o .several → (name n ∈ log) × (severalAllowed c n ≡ true)
-    pub handled-from : (q : ℕ) → q ∈ o .handled → (is : List ℕ) × (requirement q is ∈ log)
-    pub fired-from : (q i : ℕ) → (q, i) ∈ o .fired → (is : List ℕ) × (requirement q is ∈ log) × (i ∈ is)
-    pub waiting-from : (q i : ℕ) → (q, i) ∈ o .waiting → EntryFrom log q i
-    pub drawn-from : (q i : ℕ) → (q, i) ∈ drawn → EntryFrom log q i
-    pub called-for : (t : Task) → t ∈ all → CalledFor log o t
-    pub completed : (t : Task) → t ∈ done → Done all drawn o t
-
   -- `log`: the tasks served so far in the job; `ts`: those in the line
   pub record Booked (log ts : List Task) (o : Opening) : Type 0 where
-    pub books : Books log log (log ++ ts) (o .drawn) o
+    pub books : Books c log log (log ++ ts) (o .drawn) o
+
+  -- when the line is worked off, everything queued is served
+  pub settled : {log : List Task} {o : Opening} → Booked log [] o → Books c log log log (o .drawn) o
+  settled {log} b = rw append-nil at (b .books)
 
   -- ---- what was called for, or done, stays so
 
   called-onward : {log log′ : List Task} (o o′ : Opening) → log ⊆ log′ → o .owners ⊆ o′ .owners → o .names ⊆ o′ .names
-      → (t : Task) → CalledFor log o t → CalledFor log′ o′ t
+      → (t : Task) → CalledFor c log o t → CalledFor c log′ o′ t
   called-onward {log} {log′} o o′ up ws ns t f = go t f
     where
-      served : {q : ℕ} → OfServed log q → OfServed log′ q
+      served : {q : ℕ} → OfServed c log q → OfServed c log′ q
       served f = record { owner-served = up _ f.owner-served; of-owner = f.of-owner }
 
-      go : (t : Task) → CalledFor log o t → CalledFor log′ o′ t
+      go : (t : Task) → CalledFor c log o t → CalledFor c log′ o′ t
       go (owner w) m = ws w m
       go (name n) m = ns n m
       go (condition q) f = record { of-served = served f.of-served; has-condition = f.has-condition }
@@ -147,7 +49,7 @@ module _ (c : Catalogue) where
     placed : (q i : ℕ) → Placed all (o .waiting) drawn q i → Placed all′ (o′ .waiting) drawn′ q i
 
   done-onward : {all all′ : List Task} {drawn drawn′ : List (ℕ × ℕ)} {o o′ : Opening} → Onward all all′ drawn drawn′ o o′
-      → (t : Task) → Done all drawn o t → Done all′ drawn′ o′ t
+      → (t : Task) → Done c all drawn o t → Done c all′ drawn′ o′ t
   done-onward g (owner w) d = λ e t m. g .tasks t (d e t m)
   done-onward g (name n) d = λ e. g .several n (d e)
   done-onward g (condition q) d = λ i m. g .placed q i (d i m)
@@ -160,7 +62,7 @@ module _ (c : Catalogue) where
   same x m = m
 
   -- a task is taken from the line
-  taken : {done log log′ all : List Task} {drawn : List (ℕ × ℕ)} {o : Opening} → log ⊆ log′ → Books done log all drawn o → Books done log′ all drawn o
+  taken : {done log log′ all : List Task} {drawn : List (ℕ × ℕ)} {o : Opening} → log ⊆ log′ → Books c done log all drawn o → Books c done log′ all drawn o
   taken {o} up b = record {
     owner-queued = b .owner-queued;
     name-queued = b .name-queued;
@@ -174,8 +76,8 @@ module _ (c : Catalogue) where
   }
 
   -- its service is complete
-  finished : {done log all : List Task} {drawn : List (ℕ × ℕ)} {o : Opening} (t : Task) → Done all drawn o t
-      → Books done log all drawn o → Books (done ++ (t ∷ [])) log all drawn o
+  finished : {done log all : List Task} {drawn : List (ℕ × ℕ)} {o : Opening} (t : Task) → Done c all drawn o t
+      → Books c done log all drawn o → Books c (done ++ (t ∷ [])) log all drawn o
   finished {done} {all} {drawn} {o} t d b = record {
     owner-queued = b .owner-queued;
     name-queued = b .name-queued;
@@ -190,7 +92,7 @@ module _ (c : Catalogue) where
 
   -- the lists that the books do not speak of
   aside : {done log all : List Task} {drawn : List (ℕ × ℕ)} {o : Opening} {d : List (ℕ × ℕ)} {ws : List Owner} {ns ts : List ℕ} {l : List Task}
-      → Books done log all drawn o → Books done log all drawn (setDrawn d (setAdded ws (setNamed ns (setTracked ts (setLine l o)))))
+      → Books c done log all drawn o → Books c done log all drawn (setDrawn d (setAdded ws (setNamed ns (setTracked ts (setLine l o)))))
   aside b = record {
     owner-queued = b .owner-queued;
     name-queued = b .name-queued;
@@ -216,8 +118,8 @@ module _ (c : Catalogue) where
   one-more opens xs x = record { kept = λ y m. in-left _ m; fresh = λ y m. ⊎-elim inl (λ (e : y ≡ x). inr (List·Memᴰ·head (ap opens e))) (before-or-end xs m) }
 
   more-tasks : {done log all : List Task} {drawn : List (ℕ × ℕ)} {o : Opening} {ws : List Owner} {ns : List ℕ} {l : List Task} (new : List Task)
-      → Extends owner new (o .owners) ws → Extends name new (o .names) ns → ((t : Task) → t ∈ new → CalledFor log (setOwners ws (setNames ns o)) t)
-      → Books done log all drawn o → Books done log (all ++ new) drawn (setOwners ws (setNames ns (setLine l o)))
+      → Extends owner new (o .owners) ws → Extends name new (o .names) ns → ((t : Task) → t ∈ new → CalledFor c log (setOwners ws (setNames ns o)) t)
+      → Books c done log all drawn o → Books c done log (all ++ new) drawn (setOwners ws (setNames ns (setLine l o)))
   more-tasks {all} {o} {ws} {ns} {l} new owners names calls b = record {
     owner-queued = λ w m. ⊎-elim (λ k. in-left new (b .owner-queued w k)) (λ k. in-right all k) (owners .fresh w m);
     name-queued = λ n m. ⊎-elim (λ k. in-left new (b .name-queued n k)) (λ k. in-right all k) (names .fresh n m);
@@ -239,9 +141,9 @@ module _ (c : Catalogue) where
 
   -- entries wait and are drawn otherwise
   moved : {done log all : List Task} {drawn waiting′ drawn′ : List (ℕ × ℕ)} {o : Opening}
-      → ((q i : ℕ) → (q, i) ∈ waiting′ → EntryFrom log q i) → ((q i : ℕ) → (q, i) ∈ drawn′ → EntryFrom log q i)
+      → ((q i : ℕ) → (q, i) ∈ waiting′ → EntryFrom c log q i) → ((q i : ℕ) → (q, i) ∈ drawn′ → EntryFrom c log q i)
       → ((q i : ℕ) → Placed all (o .waiting) drawn q i → Placed all waiting′ drawn′ q i)
-      → Books done log all drawn o → Books done log all drawn′ (setWaiting waiting′ o)
+      → Books c done log all drawn o → Books c done log all drawn′ (setWaiting waiting′ o)
   moved {o} waiting drawn placed b = record {
     owner-queued = b .owner-queued;
     name-queued = b .name-queued;
@@ -256,7 +158,7 @@ module _ (c : Catalogue) where
 
   -- a requirement's task is in the line: its disjuncts are drawn no longer
   fired-away : {done log all : List Task} {drawn : List (ℕ × ℕ)} {o : Opening} (q : ℕ) (is : List ℕ) → requirement q is ∈ all
-      → Books done log all (entries q is ++ drawn) o → Books done log all drawn o
+      → Books c done log all (entries q is ++ drawn) o → Books c done log all drawn o
   fired-away {all} {drawn} q is m b = moved (b .waiting-from) (λ p i k. b .drawn-from p i (in-right (entries q is) k)) placed b
     where
       placed : {ws : List (ℕ × ℕ)} (p i : ℕ) → Placed all ws (entries q is ++ drawn) p i → Placed all ws drawn p i
@@ -266,14 +168,14 @@ module _ (c : Catalogue) where
 
   -- a condition's disjuncts wait, or are drawn
   entered : {done log all : List Task} {drawn : List (ℕ × ℕ)} {o : Opening} (q : ℕ) (stay hold : List ℕ) → condition q ∈ log → stay ⊆ indices c q → hold ⊆ indices c q
-      → Books done log all drawn o → Books done log all (entries q hold ++ drawn) (setWaiting (o .waiting ++ entries q stay) o)
+      → Books c done log all drawn o → Books c done log all (entries q hold ++ drawn) (setWaiting (o .waiting ++ entries q stay) o)
   entered {log} {all} {drawn} {o} q stay hold m stays holds b =
       moved
       (λ p i k. ⊎-elim (b .waiting-from p i) (new stay stays p i) (in-either (o .waiting) k))
       (λ p i k. ⊎-elim (new hold holds p i) (b .drawn-from p i) (in-either (entries q hold) k))
       placed b
     where
-      new : (is : List ℕ) → is ⊆ indices c q → (p i : ℕ) → (p, i) ∈ entries q is → EntryFrom log p i
+      new : (is : List ℕ) → is ⊆ indices c q → (p i : ℕ) → (p, i) ∈ entries q is → EntryFrom c log p i
       new is within p i k = let x = entries-out q is k in rw (x .0) (record { condition-served = m; indexed = within i (x .1) })
 
       placed : (p i : ℕ) → Placed all (o .waiting) drawn p i → Placed all (o .waiting ++ entries q stay) (entries q hold ++ drawn) p i
@@ -283,7 +185,7 @@ module _ (c : Catalogue) where
 
   -- a name that allows several is served
   noted : {done log all : List Task} {drawn : List (ℕ × ℕ)} {o : Opening} (n : ℕ) → name n ∈ log → severalAllowed c n ≡ true
-      → Books done log all drawn o → Books done log all drawn (setSeveral (snoc (o .several) n) o)
+      → Books c done log all drawn o → Books c done log all drawn (setSeveral (snoc (o .several) n) o)
   unfolding snoc
   noted {o} n m e b = record {
     owner-queued = b .owner-queued;
@@ -299,7 +201,7 @@ module _ (c : Catalogue) where
 
   -- a requirement is served
   marked : {done log all : List Task} {drawn : List (ℕ × ℕ)} {o : Opening} (q : ℕ) (is : List ℕ) → requirement q is ∈ log
-      → Books done log all drawn o → Books done log all drawn (markHandled q is o)
+      → Books c done log all drawn o → Books c done log all drawn (markHandled q is o)
   unfolding markHandled snoc
   marked {o} q is m b = record {
     owner-queued = b .owner-queued;
@@ -323,15 +225,15 @@ module _ (c : Catalogue) where
   -- `pre`: the log and the line. What rules queue goes behind. `es`: disjuncts that fire and are not yet queued
   module _ (done log pre : List Task) where
     abbrev Serving : List (ℕ × ℕ) → Opening → Type 0
-    Serving es s = Books done log (pre ++ s .line) (es ++ s .drawn) s
+    Serving es s = Books c done log (pre ++ s .line) (es ++ s .drawn) s
 
     module _ (es : List (ℕ × ℕ)) where
       queued : {ws : List Owner} {ns : List ℕ} (new : List Task) (s : Opening)
-          → Extends owner new (s .owners) ws → Extends name new (s .names) ns → ((t : Task) → t ∈ new → CalledFor log (setOwners ws (setNames ns s)) t)
+          → Extends owner new (s .owners) ws → Extends name new (s .names) ns → ((t : Task) → t ∈ new → CalledFor c log (setOwners ws (setNames ns s)) t)
           → Serving es s → Serving es (setOwners ws (setNames ns (setLine (s .line ++ new) s)))
       queued new s owners names calls b = rw (append-assoc pre (s .line) new) at (more-tasks {l = s .line ++ new} new owners names calls b)
 
-      queue-serving : (t : Task) (s : Opening) → CalledFor log s t → Serving es s → Serving es (queue t s)
+      queue-serving : (t : Task) (s : Opening) → CalledFor c log s t → Serving es s → Serving es (queue t s)
       unfolding queue snoc
       queue-serving t s f b = queued (t ∷ []) s none-more none-more (λ u m. rw (List·Memᴰ·eq-of-singleton m) f) b
 
@@ -368,10 +270,10 @@ module _ (c : Catalogue) where
         let b₂ = queue-serving (js ++ es) (requirement q (i ∷ is)) s₁ (calls s₁ b₁) b₁ in
         fired-away q (i ∷ is) (in-right pre (at-end (s₁ .line) _)) (rw (append-assoc js es (s₁ .drawn)) at b₂)
       where
-        calls : (s : Opening) → Serving (entries q (i ∷ is) ++ es) s → RequirementFrom log q (i ∷ is)
+        calls : (s : Opening) → Serving (entries q (i ∷ is) ++ es) s → RequirementFrom c log q (i ∷ is)
         calls s b =
-            let entry : (j : ℕ) → j ∈ (i ∷ is) → EntryFrom log q j = λ j m. b .drawn-from q j (in-left _ (in-left es (map-in (λ j. (q, j)) m))) in
-            let from : ConditionFrom log q = b .called-for (condition q) (in-left (s .line) (within _ (entry i (List·Memᴰ·head refl) .condition-served))) in
+            let entry : (j : ℕ) → j ∈ (i ∷ is) → EntryFrom c log q j = λ j m. b .drawn-from q j (in-left _ (in-left es (map-in (λ j. (q, j)) m))) in
+            let from : ConditionFrom c log q = b .called-for (condition q) (in-left (s .line) (within _ (entry i (List·Memᴰ·head refl) .condition-served))) in
             record { of-served = from .of-served; indexed = λ j m. entry j m .indexed; none-fired = λ e. absurd (true≢false (sym e ∙ from .has-condition)) }
 
   -- ---- each task, served
@@ -387,16 +289,16 @@ module _ (c : Catalogue) where
     abbrev Served : Task → Opening → Type 0
     Served t s = Serving (now t) (now t) (now t ++ ts) [] s
 
-    own-task : (w : Owner) (o : Opening) → (t : Task) → t ∈ tasksOf c w → CalledFor (now (owner w)) o t
-    own-task w o = task-rule w (CalledFor (now (owner w)) o) (λ q m. rule q m (unconditional c q) refl) limit
+    own-task : (w : Owner) (o : Opening) → (t : Task) → t ∈ tasksOf c w → CalledFor c (now (owner w)) o t
+    own-task w o = task-rule c w (CalledFor c (now (owner w)) o) (λ q m. rule q m (unconditional c q) refl) limit
       where
-        limit : (k : ℕ) → k ∈ constraintsOf c w → ConstraintFrom (now (owner w)) k
-        limit k m = let e = constraint-owner w m in record { owner-served = rw e (at-end log (owner w)); of-owner = rw e m }
+        limit : (k : ℕ) → k ∈ constraintsOf c w → ConstraintFrom c (now (owner w)) k
+        limit k m = let e = constraint-owner c w m in record { owner-served = rw e (at-end log (owner w)); of-owner = rw e m }
 
-        of-w : (q : ℕ) → q ∈ requirementsOf c w → OfServed (now (owner w)) q
-        of-w q m = let e = requirement-owner w m in record { owner-served = rw e (at-end log (owner w)); of-owner = rw e m }
+        of-w : (q : ℕ) → q ∈ requirementsOf c w → OfServed c (now (owner w)) q
+        of-w q m = let e = requirement-owner c w m in record { owner-served = rw e (at-end log (owner w)); of-owner = rw e m }
 
-        rule : (q : ℕ) → q ∈ requirementsOf c w → (b : Bool) → unconditional c q ≡ b → CalledFor (now (owner w)) o (taskBy c b q)
+        rule : (q : ℕ) → q ∈ requirementsOf c w → (b : Bool) → unconditional c q ≡ b → CalledFor c (now (owner w)) o (taskBy c b q)
         rule q m true e = unfold taskBy in record { of-served = of-w q m; indexed = λ i k. absurd (List·Memᴰ·not-nil k); none-fired = λ e. refl }
         rule q m false e = unfold taskBy in record { of-served = of-w q m; has-condition = e }
 
@@ -466,7 +368,7 @@ module _ (c : Catalogue) where
   pub serve-booked : (f : ℕ → Bool) {log ts : List Task} {t : Task} {o : Opening} → Booked log (t ∷ ts) o → o .line ≡ []
       → Booked (log ++ (t ∷ [])) (ts ++ (serve c f t o) .line) (setLine [] (serve c f t o))
   serve-booked f {log} {ts} {t} {o} b e =
-      let b₁ : Books log (log ++ (t ∷ [])) ((log ++ (t ∷ [])) ++ ts) (o .drawn) o = rw (append-assoc log (t ∷ []) ts) (taken (λ u m. in-left _ m) (b .books)) in
+      let b₁ : Books c log (log ++ (t ∷ [])) ((log ++ (t ∷ [])) ++ ts) (o .drawn) o = rw (append-assoc log (t ∷ []) ts) (taken (λ u m. in-left _ m) (b .books)) in
       let b₂ = task-served log ts f t o (rw (e, append-nil) (aside b₁)) in
       record { books = aside (rw (append-assoc (log ++ (t ∷ [])) ts ((serve c f t o) .line)) at b₂) }
 
@@ -501,40 +403,3 @@ module _ (c : Catalogue) where
       placed f q i (waits m) = ⊎-elim (λ n. is-drawn (in-right (o .drawn) n)) (λ n. waits n) (filter-either f (o .waiting) m)
       placed f q i (is-drawn m) = is-drawn (in-left _ m)
       placed f q i (fires m n) = fires m n
-
-  -- ---- what the books say of each task
-
-  -- when the line is worked off, everything queued is served
-  pub settled : {log : List Task} {o : Opening} → Booked log [] o → Books log log log (o .drawn) o
-  settled {log} b = rw append-nil at (b .books)
-
-  module _ {done log all : List Task} {drawn : List (ℕ × ℕ)} {o : Opening} (b : Books done log all drawn o) where
-    pub owner-opened : (w : Owner) → owner w ∈ all → w ∈ o .owners
-    owner-opened w m = b .called-for (owner w) m
-
-    pub name-opened : (n : ℕ) → name n ∈ all → n ∈ o .names
-    name-opened n m = b .called-for (name n) m
-
-    pub requirement-from : (q : ℕ) (is : List ℕ) → requirement q is ∈ all → RequirementFrom log q is
-    requirement-from q is m = b .called-for (requirement q is) m
-
-    pub condition-from : (q : ℕ) → condition q ∈ all → ConditionFrom log q
-    condition-from q m = b .called-for (condition q) m
-
-    pub constraint-from : (k : ℕ) → constraint k ∈ all → ConstraintFrom log k
-    constraint-from k m = b .called-for (constraint k) m
-
-    pub rules-queued : (w : Owner) → owner w ∈ done → unknownOwner c w ≡ false → tasksOf c w ⊆ all
-    rules-queued w m = b .completed (owner w) m
-
-    pub several-of : (n : ℕ) → name n ∈ done → severalAllowed c n ≡ true → n ∈ o .several
-    several-of n m = b .completed (name n) m
-
-    pub handled-of : (q : ℕ) (is : List ℕ) → requirement q is ∈ done → q ∈ o .handled
-    handled-of q is m = b .completed (requirement q is) m .0
-
-    pub fired-of : (q : ℕ) (is : List ℕ) → requirement q is ∈ done → (i : ℕ) → i ∈ is → (q, i) ∈ o .fired
-    fired-of q is m = b .completed (requirement q is) m .1
-
-    pub split : (q : ℕ) → condition q ∈ done → (i : ℕ) → i ∈ indices c q → Placed all (o .waiting) drawn q i
-    split q m = b .completed (condition q) m

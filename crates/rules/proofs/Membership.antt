@@ -1,12 +1,12 @@
 -- What is in a list: of `++`, `map`, `filter`, `concatMap`, `any`; lists without repeats; and what a `fold` keeps.
 use mathlib.Core.Path.{_≡_, refl, sym, _∙_, ap}
 use mathlib.Core.Logic.{_⊎_, inl, inr, ⊎-elim}
-use mathlib.Core.Bool.{Bool, true, false, not, _||_, true≢false, false≢true}
+use mathlib.Core.Bool.{Bool, true, false, not, _||_, cond, true≢false, false≢true}
 use mathlib.Core.List.{List, [], _∷_, _++_, map, List·Memᴰ·head, List·Memᴰ·tail, List·Memᴰ·cases-cons, List·Memᴰ·append-cases, List·Memᴰ·eq-of-singleton, List·Memᴰ·not-nil, Memᴰ·append-left, Memᴰ·append-right, Memᴰ·map}
 use Prim.Native.Nat.{ℕ}
 use lib.Dec.{eqb}
 use borrow.Author.Tests.{eqb-true, eq-eqb}
-use Rattle.rules.specs.Lists.{filter, any, concatMap, fold, when, unless, elem}
+use Rattle.rules.specs.Lists.{filter, any, elem, snoc, concatMap, fold, when, unless, distinct}
 use Rattle.rules.specs.Called.{_∈_}
 
 -- what is in one list is in the other
@@ -183,3 +183,56 @@ pub fold-through : {A S : Type 0} (P : List A → S → Type 0) (f : A → S →
 unfolding fold
 fold-through P f h [] s p = p
 fold-through P f h (x ∷ xs) s p = fold-through P f h xs (f x s) (h x xs s p)
+
+-- ---- lists without repeats
+
+pub data Once {A : Type 0} : List A → Type 0 where
+  empty : Once []
+  once : {x : A} {xs : List A} → (x ∈ xs → ⊥) → Once xs → Once (x ∷ xs)
+
+pub once-append : {A : Type 0} {xs ys : List A} → Once xs → Once ys → ((x : A) → x ∈ xs → x ∈ ys → ⊥) → Once (xs ++ ys)
+once-append empty q apart = q
+once-append (once {x = x} {xs = xs} n p) q apart =
+    once (λ m. ⊎-elim n (apart x (List·Memᴰ·head refl)) (in-either xs m)) (once-append p q (λ y m. apart y (List·Memᴰ·tail m)))
+
+pub once-snoc : {A : Type 0} {xs : List A} {x : A} → Once xs → (x ∈ xs → ⊥) → Once (snoc xs x)
+unfolding snoc
+once-snoc {x} p n = once-append p (once List·Memᴰ·not-nil empty) (λ y m k. ⊎-elim (λ (e : y ≡ x). n (rw e at m)) List·Memᴰ·not-nil (List·Memᴰ·cases-cons k))
+
+pub once-filter : {A : Type 0} (f : A → Bool) {xs : List A} → Once xs → Once (filter f xs)
+unfolding filter
+once-filter f empty = empty
+once-filter {A} f (once {x = x} {xs = xs} n p) = go (f x) (once-filter f p)
+  where
+    go : (b : Bool) → Once (filter f xs) → Once {A = A} (elim b [ true ↦ x ∷ filter f xs | false ↦ filter f xs ])
+    go true q = once (λ m. n (filter-within f xs x m)) q
+    go false q = q
+
+-- lists whose elements tell which list they are of
+pub once-concatMap : {A B : Type 0} (f : A → List B) (key : B → A) → ((x : A) (y : B) → y ∈ f x → key y ≡ x) → ((x : A) → Once (f x))
+    → {xs : List A} → Once xs → Once (concatMap f xs)
+unfolding concatMap
+once-concatMap f key keyed each empty = empty
+once-concatMap f key keyed each (once {x = x} {xs = xs} n p) =
+    once-append (each x) (once-concatMap f key keyed each p)
+    (λ y m k. let z = concatMap-out f xs k in let e : x ≡ z .0 = sym (keyed x y m) ∙ keyed (z .0) y (z .2) in n (rw e (z .1)))
+
+pub distinct-once : (xs : List ℕ) → Once (distinct xs)
+unfolding distinct
+distinct-once xs = fold-keeps Once _ xs (λ x m seen. step x seen (elem x seen) refl) [] empty
+  where
+    step : (x : ℕ) (seen : List ℕ) (b : Bool) → elem x seen ≡ b → Once seen → Once (cond b seen (snoc seen x))
+    step x seen true e p = p
+    step x seen false e p = once-snoc p (not-elem x seen e)
+
+pub distinct-in : (xs : List ℕ) → xs ⊆ distinct xs
+unfolding distinct
+distinct-in xs x m = fold-gives (λ seen. x ∈ seen) _ xs m (λ seen. gives seen (elem x seen) refl) (λ y seen. keeps y seen (elem y seen)) []
+  where
+    gives : (seen : List ℕ) (b : Bool) → elem x seen ≡ b → x ∈ cond b seen (snoc seen x)
+    gives seen true e = elem-out x seen e
+    gives seen false e = unfold snoc in at-end seen x
+
+    keeps : (y : ℕ) (seen : List ℕ) (b : Bool) → x ∈ seen → x ∈ cond b seen (snoc seen y)
+    keeps y seen true k = k
+    keeps y seen false k = unfold snoc in in-left (y ∷ []) k

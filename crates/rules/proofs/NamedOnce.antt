@@ -10,61 +10,8 @@ use Rattle.rules.specs.Lists.{filter, elem, snoc, concatMap, fold, disti
 use Rattle.rules.specs.Catalogue.{Owner, part, Catalogue, nameOf, rangeName}
 use Rattle.rules.specs.Opening.{Task, owner, name, condition, requirement, constraint, Opening, unopened, queue, openOwner, openName, markHandled, add, openNames, rangesOf, serveOwner, serveName, fire, serveCondition, nameForTracking, openReady, serveRequirement, serve, draw, beginRun, joining, endRun}
 use Rattle.rules.specs.Called.{_∈_}
-use Rattle.rules.proofs.Membership.{_⊆_, at-end, in-left, in-right, in-either, before-or-end, filter-in, filter-out, filter-within, elem-out, not-elem, elem-not, map-in, concatMap-in, concatMap-out, when-keeps, unless-keeps, unless-either, fold-keeps, fold-gives}
+use Rattle.rules.proofs.Membership.{_⊆_, at-end, in-left, in-right, in-either, before-or-end, filter-in, filter-out, filter-within, elem-out, not-elem, elem-not, map-in, concatMap-in, concatMap-out, when-keeps, unless-keeps, unless-either, fold-keeps, fold-gives, Once, empty, once-append, once-snoc, once-filter, once-concatMap, distinct-once, distinct-in}
 use Rattle.rules.proofs.Queueing.{add-keeps, ready-keeps, serve-keeps, begin-keeps, draw-keeps}
-
--- ---- lists without repeats
-
-pub data Once {A : Type 0} : List A → Type 0 where
-  none : Once []
-  once : {x : A} {xs : List A} → (x ∈ xs → ⊥) → Once xs → Once (x ∷ xs)
-
-pub once-append : {A : Type 0} {xs ys : List A} → Once xs → Once ys → ((x : A) → x ∈ xs → x ∈ ys → ⊥) → Once (xs ++ ys)
-once-append none q apart = q
-once-append (once {x = x} {xs = xs} n p) q apart =
-    once (λ m. ⊎-elim n (apart x (List·Memᴰ·head refl)) (in-either xs m)) (once-append p q (λ y m. apart y (List·Memᴰ·tail m)))
-
-pub once-snoc : {A : Type 0} {xs : List A} {x : A} → Once xs → (x ∈ xs → ⊥) → Once (snoc xs x)
-unfolding snoc
-once-snoc {x} p n = once-append p (once List·Memᴰ·not-nil none) (λ y m k. ⊎-elim (λ (e : y ≡ x). n (rw e at m)) List·Memᴰ·not-nil (List·Memᴰ·cases-cons k))
-
-pub once-filter : {A : Type 0} (f : A → Bool) {xs : List A} → Once xs → Once (filter f xs)
-unfolding filter
-once-filter f none = none
-once-filter {A} f (once {x = x} {xs = xs} n p) = go (f x) (once-filter f p)
-  where
-    go : (b : Bool) → Once (filter f xs) → Once {A = A} (elim b [ true ↦ x ∷ filter f xs | false ↦ filter f xs ])
-    go true q = once (λ m. n (filter-within f xs x m)) q
-    go false q = q
-
--- lists whose elements tell which list they are of
-pub once-concatMap : {A B : Type 0} (f : A → List B) (key : B → A) → ((x : A) (y : B) → y ∈ f x → key y ≡ x) → ((x : A) → Once (f x))
-    → {xs : List A} → Once xs → Once (concatMap f xs)
-unfolding concatMap
-once-concatMap f key keyed each none = none
-once-concatMap f key keyed each (once {x = x} {xs = xs} n p) =
-    once-append (each x) (once-concatMap f key keyed each p)
-    (λ y m k. let z = concatMap-out f xs k in let e : x ≡ z .0 = sym (keyed x y m) ∙ keyed (z .0) y (z .2) in n (rw e (z .1)))
-
-pub distinct-once : (xs : List ℕ) → Once (distinct xs)
-unfolding distinct
-distinct-once xs = fold-keeps Once _ xs (λ x m seen. step x seen (elem x seen) refl) [] none
-  where
-    step : (x : ℕ) (seen : List ℕ) (b : Bool) → elem x seen ≡ b → Once seen → Once (cond b seen (snoc seen x))
-    step x seen true e p = p
-    step x seen false e p = once-snoc p (not-elem x seen e)
-
-pub distinct-in : (xs : List ℕ) → xs ⊆ distinct xs
-unfolding distinct
-distinct-in xs x m = fold-gives (λ seen. x ∈ seen) _ xs m (λ seen. gives seen (elem x seen) refl) (λ y seen. keeps y seen (elem y seen)) []
-  where
-    gives : (seen : List ℕ) (b : Bool) → elem x seen ≡ b → x ∈ cond b seen (snoc seen x)
-    gives seen true e = elem-out x seen e
-    gives seen false e = unfold snoc in at-end seen x
-
-    keeps : (y : ℕ) (seen : List ℕ) (b : Bool) → x ∈ seen → x ∈ cond b seen (snoc seen y)
-    keeps y seen true k = k
-    keeps y seen false k = unfold snoc in in-left (y ∷ []) k
 
 -- ---- naming
 
@@ -73,7 +20,7 @@ abbrev pub NamedOnce : Opening → Type 0
 NamedOnce o = Once (o .named) × Once (o .tracked)
 
 pub start-once : NamedOnce unopened
-start-once = (none, none)
+start-once = (empty, empty)
 
 module _ (c : Catalogue) where
   naming-once : (p : ℕ) (s : Opening) → NamedOnce s → NamedOnce (nameForTracking c p s)
@@ -126,7 +73,7 @@ module _ (c : Catalogue) where
 
   pub end-once : (s : Opening) → NamedOnce s → NamedOnce (endRun c s)
   unfolding endRun
-  end-once s p = (none, once-append (p .1) (joining-once s (p .0)) (λ q m k. joining-new s q k m))
+  end-once s p = (empty, once-append (p .1) (joining-once s (p .0)) (λ q m k. joining-new s q k m))
 
   pub draw-once : (f : ℕ → Bool) (k : ℕ) (s : Opening) → NamedOnce s → NamedOnce (draw c f k s)
   draw-once = draw-keeps NamedOnce (λ s ws ns wt d a l p. p) c

@@ -12,7 +12,7 @@ use Rattle.rules.specs.Conditions.{unconditional}
 use Rattle.rules.specs.Opening.{Task, owner, name, condition, requirement, constraint, Opening, setLine, unopened, queue, openOwner, openName, markHandled, add, openNames, rangesOf, rangesFirst, taskBy, tasksOf, serveOwner, serveName, fire, serveCondition, nameForTracking, openReady, serveRequirement, serve, draw, beginRun, endRun}
 use Rattle.rules.specs.Called.{_∈_, constraintRange}
 use Rattle.rules.proofs.Membership.{_⊆_, in-left, in-right, at-end, in-either, before-or-end, filter-in, elem-out, map-in, concatMap-in, when-keeps, unless-keeps, unless-either, fold-keeps, fold-gives}
-use Rattle.rules.proofs.Booked.{task-rule}
+use Rattle.rules.proofs.OwnerTasks.{task-rule, requirement-first, constraint-first}
 
 module _ (c : Catalogue) where
   -- what must stand before a task
@@ -100,14 +100,6 @@ module _ (c : Catalogue) where
   openNames-opens rs s {r} m =
       fold-gives (λ (u : Opening). rangeName c r ∈ u .names) _ rs m (openName-opens (rangeName c r)) (λ q. openName-still (rangeName c q) (rangeName c r)) s
 
-  requirement-first : (w : Owner) {q r : ℕ} → q ∈ requirementsOf c w → unconditional c q ≡ true → r ∈ rangesOf c q → r ∈ rangesFirst c w
-  unfolding rangesFirst
-  requirement-first w m e k = in-left _ (concatMap-in (rangesOf c) _ (filter-in _ _ m e) k)
-
-  constraint-first : (w : Owner) {k : ℕ} → k ∈ constraintsOf c w → constraintRange c k ∈ rangesFirst c w
-  unfolding rangesFirst
-  constraint-first w m = in-right (concatMap (rangesOf c) _) (map-in (constraintRange c) m)
-
   module _ (before : List Task) where
     fire-lined : (q : ℕ) (is : List ℕ) (s : Opening) → Queues before s → Queues before (fire c q is s)
     unfolding fire
@@ -124,11 +116,11 @@ module _ (c : Catalogue) where
           let l₁ = openNames-lined before (rangesFirst c w) s l in
           let first : (r : ℕ) → r ∈ rangesFirst c w → name (rangeName c r) ∈ (before ++ s₁ .line) = λ r m. l₁ .queued _ (openNames-opens (rangesFirst c w) s m) in
           queues-lined before (tasksOf c w) s₁
-          (task-rule c w (Ready (before ++ s₁ .line)) (λ q m. ready m (unconditional c q) refl first) (λ k m. first _ (constraint-first w m))) l₁) l
+          (task-rule c w (Ready (before ++ s₁ .line)) (λ q m. ready m (unconditional c q) refl first) (λ k m. first _ (constraint-first c w m))) l₁) l
       where
         ready : {q : ℕ} {ts : List Task} → q ∈ requirementsOf c w → (b : Bool) → unconditional c q ≡ b
             → ((r : ℕ) → r ∈ rangesFirst c w → name (rangeName c r) ∈ ts) → Ready ts (taskBy c b q)
-        ready m true e first = unfold taskBy in λ r k. first r (requirement-first w m e k)
+        ready m true e first = unfold taskBy in λ r k. first r (requirement-first c w m e k)
         ready m false e first = unfold taskBy in tt
 
     serve-lined : (f : ℕ → Bool) (t : Task) (s : Opening) → Queues before s → Queues before (serve c f t s)
