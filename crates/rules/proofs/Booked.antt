@@ -403,3 +403,25 @@ module _ (c : Catalogue) where
       placed f q i (waits m) = ⊎-elim (λ n. is-drawn (in-right (o .drawn) n)) (λ n. waits n) (filter-either f (o .waiting) m)
       placed f q i (is-drawn m) = is-drawn (in-left _ m)
       placed f q i (fires m n) = fires m n
+
+  -- ---- no rule of an opened owner is lost, when the line is worked off
+
+  module _ {log : List Task} {o : Opening} (b : Booked log [] o) {w : Owner} (opened : w ∈ o .owners) (known : unknownOwner c w ≡ false) where
+    rule-served : tasksOf c w ⊆ log
+    rule-served = rules-queued c (settled b) w (settled b .owner-queued w opened) known
+
+    pub unconditional-served : (q : ℕ) → q ∈ requirementsOf c w → unconditional c q ≡ true → requirement q [] ∈ log
+    unconditional-served q m e = rule-served _ (unconditional-task c w m e)
+
+    pub constraint-served : (k : ℕ) → k ∈ constraintsOf c w → constraint k ∈ log
+    constraint-served k m = rule-served _ (constraint-task c w m)
+
+    -- a disjunct has fired, waits, or is drawn
+    pub disjunct-kept : (q : ℕ) → q ∈ requirementsOf c w → unconditional c q ≡ false → (i : ℕ) → i ∈ indices c q
+        → ((q, i) ∈ o .fired) ⊎ (((q, i) ∈ o .waiting) ⊎ ((q, i) ∈ o .drawn))
+    disjunct-kept q m e i k =
+        elim (split c (settled b) q (rule-served _ (condition-task c w m e)) i k) [
+          waits n ↦ inr (inl n)
+          | is-drawn n ↦ inr (inr n)
+          | fires {is = is} t n ↦ inl (fired-of c (settled b) q is t i n)
+        ]

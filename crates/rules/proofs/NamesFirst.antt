@@ -5,13 +5,16 @@ use mathlib.Core.Logic.{_⊎_, inl, inr, ⊎-elim}
 use mathlib.Core.Bool.{Bool, true, false}
 use mathlib.Core.List.{List, [], _∷_, _++_, map, append-nil, append-assoc, List·Memᴰ·head, List·Memᴰ·tail, List·Memᴰ·not-nil}
 use Prim.Native.Nat.{ℕ}
+use borrow.Author.Tests.{eqb-true}
 use Rattle.rules.specs.Lists.{elem, snoc, concatMap, filter, fold}
-use Rattle.rules.specs.Catalogue.{Owner, part, Catalogue, constraintAt, rangeName, goalAt}
-use Rattle.rules.specs.Candidates.{candidates, requirementsOf, constraintsOf}
+use Rattle.rules.specs.Catalogue.{Owner, part, Catalogue, severalAllowed, nameOf, rangeName, goalAt}
+use Rattle.rules.specs.Candidates.{partsOf, matching, favouredFirst, sorted, candidates, requirementsOf, constraintsOf}
 use Rattle.rules.specs.Conditions.{unconditional}
 use Rattle.rules.specs.Opening.{Task, owner, name, condition, requirement, constraint, Opening, setLine, unopened, queue, openOwner, openName, markHandled, add, openNames, rangesOf, rangesFirst, taskBy, tasksOf, serveOwner, serveName, fire, serveCondition, nameForTracking, openReady, serveRequirement, serve, draw, beginRun, endRun}
 use Rattle.rules.specs.Called.{_∈_, constraintRange}
-use Rattle.rules.proofs.Membership.{_⊆_, in-left, in-right, at-end, in-either, before-or-end, filter-in, elem-out, map-in, concatMap-in, when-keeps, unless-keeps, unless-either, fold-keeps, fold-gives}
+use Rattle.rules.proofs.Membership.{_⊆_, in-left, in-right, at-end, in-either, before-or-end, filter-out, filter-within, elem-out, map-in, concatMap-in, concatMap-out, when-keeps, unless-keeps, unless-either, fold-keeps, fold-gives}
+use Rattle.rules.proofs.Books.{several-of}
+use Rattle.rules.proofs.Booked.{Booked}
 use Rattle.rules.proofs.OwnerTasks.{task-rule, requirement-first, constraint-first}
 
 module _ (c : Catalogue) where
@@ -174,3 +177,23 @@ module _ (c : Catalogue) where
     where
       go : NamesFirst log (t ∷ ts) → Ready log t
       go (next h k) = h
+
+  -- ---- a candidate of a name that allows several
+
+  sorted-name : (r : ℕ) {p : ℕ} → p ∈ sorted c r → nameOf c p ≡ rangeName c r
+  unfolding sorted favouredFirst matching partsOf
+  sorted-name r {p} m = matching-name (⊎-elim (filter-within _ (matching c r) p) (filter-within _ (matching c r) p) (in-either _ m))
+    where
+      matching-name : p ∈ matching c r → nameOf c p ≡ rangeName c r
+      matching-name m = eqb-true (nameOf c p) (rangeName c r) (filter-out _ _ (filter-within _ _ p m) .1)
+
+  candidate-name : (q : ℕ) {p : ℕ} → p ∈ candidates c (goalAt c q) → (r : ℕ) × (r ∈ rangesOf c q) × (nameOf c p ≡ rangeName c r)
+  unfolding candidates
+  candidate-name q m = let x = concatMap-out (sorted c) (rangesOf c q) m in (x .0, x .1, sorted-name (x .0) (x .2))
+
+  -- it is known as such when the requirement is served, and so it is not named for tracking
+  pub several-known : {log ts : List Task} {q : ℕ} {is : List ℕ} {o : Opening} → Booked c log (requirement q is ∷ ts) o → InOrder log (requirement q is ∷ ts) o
+      → (p : ℕ) → p ∈ candidates c (goalAt c q) → severalAllowed c (nameOf c p) ≡ true → nameOf c p ∈ o .several
+  several-known {q} {o} b l p m e =
+      let x = candidate-name q m in
+      rw (x .2) (several-of c (b .books) _ (names-served o l (x .0) (x .1)) (rw (x .2) at e))
