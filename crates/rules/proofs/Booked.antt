@@ -2,19 +2,18 @@
 -- every task was called for by a rule of a served owner; and every served task has had its effect, so that no rule and no disjunct is lost.
 use mathlib.Core.Path.{_≡_, refl, sym, _∙_, ap}
 use mathlib.Core.Logic.{_⊎_, inl, inr, ⊎-elim}
-use mathlib.Core.Bool.{Bool, true, false, not, true≢false, false≢true}
-use mathlib.Core.List.{List, [], _∷_, _++_, map, append-nil, append-assoc, List·Memᴰ·head, List·Memᴰ·tail, List·Memᴰ·cases-cons, List·Memᴰ·not-nil, List·Memᴰ·eq-of-singleton}
+use mathlib.Core.Bool.{Bool, true, false, not, true≢false}
+use mathlib.Core.List.{List, [], _∷_, _++_, append-nil, append-assoc, List·Memᴰ·head, List·Memᴰ·not-nil, List·Memᴰ·eq-of-singleton}
 use Prim.Native.Nat.{ℕ}
-use borrow.Author.Tests.{eqb-true}
-use Rattle.rules.specs.Lists.{filter, any, elem, snoc, fold, when, unless, upTo}
-use Rattle.rules.specs.Catalogue.{Owner, root, part, Catalogue, partAt, constraintAt, severalAllowed, rangeName, ownerAt, goalAt, sameOwner, unknownOwner}
-use Rattle.rules.specs.Candidates.{candidates, requirementsOf, constraintsOf}
+use Rattle.rules.specs.Lists.{filter, snoc, fold}
+use Rattle.rules.specs.Catalogue.{Owner, part, Catalogue, severalAllowed, rangeName, unknownOwner}
+use Rattle.rules.specs.Candidates.{requirementsOf, constraintsOf}
 use Rattle.rules.specs.Conditions.{indices, unconditional}
-use Rattle.rules.specs.Opening.{Task, owner, name, condition, requirement, constraint, Opening, setOwners, setNames, setSeveral, setHandled, setFired, setWaiting, setDrawn, setAdded, setNamed, setTracked, setLine, unopened, queue, openOwner, openName, markHandled, add, openNames, rangesOf, rangesFirst, taskBy, tasksOf, serveOwner, serveName, entryHolds, fire, serveCondition, firedParts, nameForTracking, openReady, serveRequirement, serve, isDrawn, draw, beginRun, joining, endRun}
+use Rattle.rules.specs.Opening.{Task, owner, name, condition, requirement, constraint, Opening, setOwners, setNames, setSeveral, setWaiting, setDrawn, setAdded, setNamed, setTracked, setLine, unopened, queue, openOwner, openName, markHandled, add, openNames, rangesOf, rangesFirst, taskBy, tasksOf, serveOwner, serveName, fire, serveCondition, nameForTracking, openReady, serveRequirement, serve, draw, beginRun, endRun}
 use Rattle.rules.specs.Called.{_∈_}
 use Rattle.rules.proofs.OwnerTasks.{requirement-owner, constraint-owner, task-rule, unconditional-task, condition-task, constraint-task}
 use Rattle.rules.proofs.Books.{OfServed, RequirementFrom, ConditionFrom, ConstraintFrom, EntryFrom, Placed, waits, is-drawn, fires, CalledFor, Done, Books, fired-of, rules-queued, split}
-use Rattle.rules.proofs.Membership.{_⊆_, in-left, in-right, at-end, in-either, before-or-end, filter-out, filter-within, filter-either, map-in, map-out, entries, entries-out, when-either, unless-either, when-keeps, unless-keeps, fold-keeps, fold-through}
+use Rattle.rules.proofs.Membership.{_⊆_, in-left, in-right, at-end, in-either, before-or-end, filter-within, filter-either, map-in, entries, entries-out, when-either, unless-either, when-keeps, unless-keeps, fold-keeps, fold-through}
 
 module _ (c : Catalogue) where
   -- `log`: the tasks served so far in the job; `ts`: those in the line

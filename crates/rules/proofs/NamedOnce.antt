@@ -1,16 +1,15 @@
 -- No part is named for tracking twice in a run, none that joins is tracked already, and none is tracked twice. What joins is what was named.
-use mathlib.Core.Path.{_≡_, refl, sym, _∙_, ap}
+use mathlib.Core.Path.{_≡_, refl, ap}
 use mathlib.Core.Logic.{_⊎_, inl, inr, ⊎-elim}
-use mathlib.Core.Bool.{Bool, true, false, not, _||_, cond, true≢false, false≢true}
-use mathlib.Core.List.{List, [], _∷_, _++_, map, List·Memᴰ·head, List·Memᴰ·tail, List·Memᴰ·cases-cons, List·Memᴰ·not-nil}
+use mathlib.Core.Bool.{Bool, true, false, not, _||_, true≢false}
+use mathlib.Core.List.{_++_}
 use Prim.Native.Nat.{ℕ}
-use lib.Dec.{eqb}
 use borrow.Author.Tests.{eqb-true, eq-eqb, not-true}
-use Rattle.rules.specs.Lists.{filter, elem, snoc, concatMap, fold, distinct}
-use Rattle.rules.specs.Catalogue.{Owner, part, Catalogue, nameOf, rangeName}
-use Rattle.rules.specs.Opening.{Task, owner, name, condition, requirement, constraint, Opening, unopened, queue, openOwner, openName, markHandled, add, openNames, rangesOf, serveOwner, serveName, fire, serveCondition, nameForTracking, openReady, serveRequirement, serve, draw, beginRun, joining, endRun}
+use Rattle.rules.specs.Lists.{elem}
+use Rattle.rules.specs.Catalogue.{Owner, Catalogue, nameOf}
+use Rattle.rules.specs.Opening.{Task, Opening, unopened, markHandled, add, nameForTracking, serveRequirement, serve, draw, beginRun, joining, endRun}
 use Rattle.rules.specs.Called.{_∈_}
-use Rattle.rules.proofs.Membership.{_⊆_, at-end, in-left, in-right, in-either, before-or-end, filter-in, filter-out, filter-within, elem-out, not-elem, elem-not, map-in, concatMap-in, concatMap-out, when-keeps, unless-keeps, unless-either, fold-keeps, fold-gives, Once, empty, once-append, once-snoc, once-filter, once-concatMap, distinct-once, distinct-in}
+use Rattle.rules.proofs.Membership.{in-left, in-right, in-either, filter-in, filter-out, filter-within, elem-out, not-elem, elem-not, map-in, concatMap-in, concatMap-out, unless-either, fold-keeps, Once, empty, once-append, once-snoc, once-filter, once-concatMap, distinct-once, distinct-in}
 use Rattle.rules.proofs.Queueing.{add-keeps, ready-keeps, serve-keeps, begin-keeps, draw-keeps}
 
 -- ---- naming

@@ -1,18 +1,18 @@
 -- 01, "A known owner's unconditional requirements and its constraints open their names first. A fired or drawn requirement opens its
 -- names before it is handled": in the task line the names of a requirement's goal, and of a constraint's range, stand before it.
-use mathlib.Core.Path.{_≡_, refl, sym, _∙_, ap}
-use mathlib.Core.Logic.{_⊎_, inl, inr, ⊎-elim}
+use mathlib.Core.Path.{_≡_, refl, ap}
+use mathlib.Core.Logic.{⊎-elim}
 use mathlib.Core.Bool.{Bool, true, false}
-use mathlib.Core.List.{List, [], _∷_, _++_, map, append-nil, append-assoc, List·Memᴰ·head, List·Memᴰ·tail, List·Memᴰ·not-nil}
+use mathlib.Core.List.{List, [], _∷_, _++_, append-nil, append-assoc, List·Memᴰ·head, List·Memᴰ·not-nil}
 use Prim.Native.Nat.{ℕ}
 use borrow.Author.Tests.{eqb-true}
-use Rattle.rules.specs.Lists.{elem, snoc, concatMap, filter, fold}
+use Rattle.rules.specs.Lists.{snoc, fold}
 use Rattle.rules.specs.Catalogue.{Owner, part, Catalogue, severalAllowed, nameOf, rangeName, goalAt}
-use Rattle.rules.specs.Candidates.{partsOf, matching, favouredFirst, sorted, candidates, requirementsOf, constraintsOf}
+use Rattle.rules.specs.Candidates.{partsOf, matching, favouredFirst, sorted, candidates, requirementsOf}
 use Rattle.rules.specs.Conditions.{unconditional}
 use Rattle.rules.specs.Opening.{Task, owner, name, condition, requirement, constraint, Opening, setLine, unopened, queue, openOwner, openName, markHandled, add, openNames, rangesOf, rangesFirst, taskBy, tasksOf, serveOwner, serveName, fire, serveCondition, nameForTracking, openReady, serveRequirement, serve, draw, beginRun, endRun}
 use Rattle.rules.specs.Called.{_∈_, constraintRange}
-use Rattle.rules.proofs.Membership.{_⊆_, in-left, in-right, at-end, in-either, before-or-end, filter-out, filter-within, elem-out, map-in, concatMap-in, concatMap-out, when-keeps, unless-keeps, unless-either, fold-keeps, fold-gives}
+use Rattle.rules.proofs.Membership.{_⊆_, in-left, in-right, at-end, in-either, before-or-end, filter-out, filter-within, elem-out, concatMap-out, when-keeps, unless-keeps, unless-either, fold-keeps, fold-gives}
 use Rattle.rules.proofs.Books.{several-of}
 use Rattle.rules.proofs.Booked.{Booked}
 use Rattle.rules.proofs.OwnerTasks.{task-rule, requirement-first, constraint-first}

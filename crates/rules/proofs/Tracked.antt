@@ -1,17 +1,17 @@
 -- 01, "Tracked are the candidates of a handled requirement and the non-matching parts of a fired range, unless their name has by then
 -- been opened with several allowed": no other part is named or tracked, and none of these is left out.
-use mathlib.Core.Path.{_≡_, refl, sym, _∙_, ap}
+use mathlib.Core.Path.{_≡_, refl}
 use mathlib.Core.Logic.{_⊎_, inl, inr, ⊎-elim}
 use mathlib.Core.Bool.{Bool, true, false, _||_}
-use mathlib.Core.List.{List, [], _∷_, _++_, map, List·Memᴰ·head, List·Memᴰ·tail, List·Memᴰ·cases-cons, List·Memᴰ·not-nil}
+use mathlib.Core.List.{List, [], _∷_, _++_, List·Memᴰ·head, List·Memᴰ·tail, List·Memᴰ·cases-cons, List·Memᴰ·not-nil}
 use Prim.Native.Nat.{ℕ}
 use Rattle.rules.specs.Lists.{elem, snoc}
-use Rattle.rules.specs.Catalogue.{Owner, part, Catalogue, nameOf, rangeName, goalAt}
+use Rattle.rules.specs.Catalogue.{Owner, Catalogue, nameOf, goalAt}
 use Rattle.rules.specs.Candidates.{nonMatching, candidates}
 use Rattle.rules.specs.Conditions.{disjunctAt}
-use Rattle.rules.specs.Opening.{Task, owner, name, condition, requirement, constraint, Opening, unopened, queue, openOwner, openName, markHandled, add, openNames, rangesOf, serveOwner, serveName, fire, serveCondition, firedParts, nameForTracking, openReady, serveRequirement, serve, draw, beginRun, endRun}
+use Rattle.rules.specs.Opening.{Task, Opening, unopened, markHandled, add, firedParts, nameForTracking, serveRequirement, serve, draw, beginRun, endRun}
 use Rattle.rules.specs.Called.{_∈_}
-use Rattle.rules.proofs.Membership.{_⊆_, in-left, in-right, at-end, in-either, before-or-end, entries-out, elem-out, map-in, concatMap-in, concatMap-out, when-keeps, unless-keeps, unless-either, fold-keeps, fold-through}
+use Rattle.rules.proofs.Membership.{_⊆_, in-left, in-right, at-end, in-either, before-or-end, entries-out, elem-out, map-in, concatMap-in, concatMap-out, unless-either, fold-keeps, fold-through}
 use Rattle.rules.proofs.Queueing.{add-keeps, ready-keeps, serve-keeps, begin-keeps, draw-keeps}
 use Rattle.rules.proofs.NamedOnce.{joined-in, joined-out}
 
