@@ -1,5 +1,5 @@
--- The books of the task line (MEANING.md, E4): the opening's lists hold exactly what the tasks served and queued so far put there;
--- every task was called for by a rule of a served owner; and every served task has had its effect, so that no rule and no disjunct is lost.
+-- Every step of a job keeps the books of the task line (proofs/Books.antt), whatever the catalogue and whatever is decided true.
+-- So, when the line is worked off, no rule of an opened owner is lost, and no disjunct.
 use mathlib.Core.Path.{_≡_, refl, sym, _∙_, ap}
 use mathlib.Core.Logic.{_⊎_, inl, inr, ⊎-elim}
 use mathlib.Core.Bool.{Bool, true, false, not, true≢false}
@@ -21,8 +21,8 @@ module _ (c : Catalogue) where
     pub books : Books c log log (log ++ ts) (o .drawn) o
 
   -- when the line is worked off, everything queued is served
-  pub settled : {log : List Task} {o : Opening} → Booked log [] o → Books c log log log (o .drawn) o
-  settled {log} b = rw append-nil at (b .books)
+  pub all-served : {log : List Task} {o : Opening} → Booked log [] o → Books c log log log (o .drawn) o
+  all-served {log} b = rw append-nil at (b .books)
 
   -- ---- what was called for, or done, stays so
 
@@ -89,10 +89,10 @@ module _ (c : Catalogue) where
     completed = λ u m. ⊎-elim (b .completed u) (λ (e : u ≡ t). rw e d) (before-or-end done m);
   }
 
-  -- the lists that the books do not speak of
-  aside : {done log all : List Task} {drawn : List (ℕ × ℕ)} {o : Opening} {d : List (ℕ × ℕ)} {ws : List Owner} {ns ts : List ℕ} {l : List Task}
+  -- the lists that the books do not read change
+  unread : {done log all : List Task} {drawn : List (ℕ × ℕ)} {o : Opening} {d : List (ℕ × ℕ)} {ws : List Owner} {ns ts : List ℕ} {l : List Task}
       → Books c done log all drawn o → Books c done log all drawn (setDrawn d (setAdded ws (setNamed ns (setTracked ts (setLine l o)))))
-  aside b = record {
+  unread b = record {
     owner-queued = b .owner-queued;
     name-queued = b .name-queued;
     several-from = b .several-from;
@@ -130,7 +130,8 @@ module _ (c : Catalogue) where
     called-for = λ t m. ⊎-elim
       (λ k. called-onward o _ same (owners .kept) (names .kept) t (b .called-for t k))
       (λ k. called-onward (setOwners ws (setNames ns o)) _ same same same t (calls t k)) (in-either all m);
-    completed = λ t m. done-onward (record { tasks = λ u k. in-left new k; several = same; handled = same; fired = same; placed = placed }) t (b .completed t m);
+    completed = λ t m. done-onward (record { tasks = λ u k. in-left new k; several = same; handled = same; fired = same; placed = placed }) t
+      (b .completed t m);
   }
     where
       placed : {ws ds : List (ℕ × ℕ)} (q i : ℕ) → Placed all ws ds q i → Placed (all ++ new) ws ds q i
@@ -156,9 +157,9 @@ module _ (c : Catalogue) where
   }
 
   -- a requirement's task is in the line: its disjuncts are drawn no longer
-  fired-away : {done log all : List Task} {drawn : List (ℕ × ℕ)} {o : Opening} (q : ℕ) (is : List ℕ) → requirement q is ∈ all
+  task-queued : {done log all : List Task} {drawn : List (ℕ × ℕ)} {o : Opening} (q : ℕ) (is : List ℕ) → requirement q is ∈ all
       → Books c done log all (entries q is ++ drawn) o → Books c done log all drawn o
-  fired-away {all} {drawn} q is m b = moved (b .waiting-from) (λ p i k. b .drawn-from p i (in-right (entries q is) k)) placed b
+  task-queued {all} {drawn} q is m b = moved (b .waiting-from) (λ p i k. b .drawn-from p i (in-right (entries q is) k)) placed b
     where
       placed : {ws : List (ℕ × ℕ)} (p i : ℕ) → Placed all ws (entries q is ++ drawn) p i → Placed all ws drawn p i
       placed p i (waits k) = waits k
@@ -166,7 +167,8 @@ module _ (c : Catalogue) where
       placed p i (fires k n) = fires k n
 
   -- a condition's disjuncts wait, or are drawn
-  entered : {done log all : List Task} {drawn : List (ℕ × ℕ)} {o : Opening} (q : ℕ) (stay hold : List ℕ) → condition q ∈ log → stay ⊆ indices c q → hold ⊆ indices c q
+  entered : {done log all : List Task} {drawn : List (ℕ × ℕ)} {o : Opening} (q : ℕ) (stay hold : List ℕ)
+      → condition q ∈ log → stay ⊆ indices c q → hold ⊆ indices c q
       → Books c done log all drawn o → Books c done log all (entries q hold ++ drawn) (setWaiting (o .waiting ++ entries q stay) o)
   entered {log} {all} {drawn} {o} q stay hold m stays holds b =
       moved
@@ -195,7 +197,8 @@ module _ (c : Catalogue) where
     waiting-from = b .waiting-from;
     drawn-from = b .drawn-from;
     called-for = λ t k. called-onward o _ same same same t (b .called-for t k);
-    completed = λ t k. done-onward (record { tasks = same; several = λ p n. in-left _ n; handled = same; fired = same; placed = λ q i p. p }) t (b .completed t k);
+    completed = λ t k. done-onward (record { tasks = same; several = λ p n. in-left _ n; handled = same; fired = same; placed = λ q i p. p }) t
+      (b .completed t k);
   }
 
   -- a requirement is served
@@ -211,7 +214,8 @@ module _ (c : Catalogue) where
     waiting-from = b .waiting-from;
     drawn-from = b .drawn-from;
     called-for = λ t k. called-onward o _ same same same t (b .called-for t k);
-    completed = λ t k. done-onward (record { tasks = same; several = same; handled = λ p n. in-left _ n; fired = λ e n. in-left _ n; placed = λ q i p. p }) t (b .completed t k);
+    completed = λ t k. done-onward (record { tasks = same; several = same; handled = λ p n. in-left _ n; fired = λ e n. in-left _ n; placed = λ q i p. p }) t
+      (b .completed t k);
   }
 
   -- ---- rules that queue, while a task is served
@@ -221,7 +225,7 @@ module _ (c : Catalogue) where
   queues [] s = ap (λ l. setLine l s) (sym (append-nil (s .line)))
   queues (t ∷ ts) s = rw (queues ts (queue t s)) (ap (λ l. setLine l s) (append-assoc (s .line) (t ∷ []) ts))
 
-  -- `pre`: the log and the line. What rules queue goes behind. `es`: disjuncts that fire and are not yet queued
+  -- `pre`: the log and the line, behind which rules queue; `es`: disjuncts that fire and are not yet queued
   module _ (done log pre : List Task) where
     abbrev Serving : List (ℕ × ℕ) → Opening → Type 0
     Serving es s = Books c done log (pre ++ s .line) (es ++ s .drawn) s
@@ -239,12 +243,14 @@ module _ (c : Catalogue) where
       openOwner-serving : (w : Owner) (s : Opening) → Serving es s → Serving es (openOwner w s)
       unfolding openOwner queue snoc
       openOwner-serving w s b =
-          unless-keeps (Serving es) _ _ s (queued (owner w ∷ []) s (one-more owner (s .owners) w) none-more (λ u m. rw (List·Memᴰ·eq-of-singleton m) (at-end (s .owners) w))) b
+          unless-keeps (Serving es) _ _ s
+          (queued (owner w ∷ []) s (one-more owner (s .owners) w) none-more (λ u m. rw (List·Memᴰ·eq-of-singleton m) (at-end (s .owners) w))) b
 
       openName-serving : (n : ℕ) (s : Opening) → Serving es s → Serving es (openName n s)
       unfolding openName queue snoc
       openName-serving n s b =
-          unless-keeps (Serving es) _ _ s (queued (name n ∷ []) s none-more (one-more name (s .names) n) (λ u m. rw (List·Memᴰ·eq-of-singleton m) (at-end (s .names) n))) b
+          unless-keeps (Serving es) _ _ s
+          (queued (name n ∷ []) s none-more (one-more name (s .names) n) (λ u m. rw (List·Memᴰ·eq-of-singleton m) (at-end (s .names) n))) b
 
       openNames-serving : (rs : List ℕ) (s : Opening) → Serving es s → Serving es (openNames c rs s)
       unfolding openNames
@@ -256,7 +262,7 @@ module _ (c : Catalogue) where
 
       naming-serving : (p : ℕ) (s : Opening) → Serving es s → Serving es (nameForTracking c p s)
       unfolding nameForTracking
-      naming-serving p s b = unless-keeps (Serving es) _ _ s aside b
+      naming-serving p s b = unless-keeps (Serving es) _ _ s unread b
 
     -- what fires counts as drawn until its task is queued
     fire-serving : log ⊆ pre → (q : ℕ) (is : List ℕ) (es : List (ℕ × ℕ)) (s : Opening) → Serving (entries q is ++ es) s → Serving es (fire c q is s)
@@ -267,7 +273,7 @@ module _ (c : Catalogue) where
         let js = entries q (i ∷ is) in
         let b₁ = openNames-serving (js ++ es) (rangesOf c q) s b in
         let b₂ = queue-serving (js ++ es) (requirement q (i ∷ is)) s₁ (calls s₁ b₁) b₁ in
-        fired-away q (i ∷ is) (in-right pre (at-end (s₁ .line) _)) (rw (append-assoc js es (s₁ .drawn)) at b₂)
+        task-queued q (i ∷ is) (in-right pre (at-end (s₁ .line) _)) (rw (append-assoc js es (s₁ .drawn)) at b₂)
       where
         calls : (s : Opening) → Serving (entries q (i ∷ is) ++ es) s → RequirementFrom c log q (i ∷ is)
         calls s b =
@@ -367,32 +373,33 @@ module _ (c : Catalogue) where
   pub serve-booked : (f : ℕ → Bool) {log ts : List Task} {t : Task} {o : Opening} → Booked log (t ∷ ts) o → o .line ≡ []
       → Booked (log ++ (t ∷ [])) (ts ++ (serve c f t o) .line) (setLine [] (serve c f t o))
   serve-booked f {log} {ts} {t} {o} b e =
-      let b₁ : Books c log (log ++ (t ∷ [])) ((log ++ (t ∷ [])) ++ ts) (o .drawn) o = rw (append-assoc log (t ∷ []) ts) (taken (λ u m. in-left _ m) (b .books)) in
-      let b₂ = task-served log ts f t o (rw (e, append-nil) (aside b₁)) in
-      record { books = aside (rw (append-assoc (log ++ (t ∷ [])) ts ((serve c f t o) .line)) at b₂) }
+      let b₁ : Books c log (log ++ (t ∷ [])) ((log ++ (t ∷ [])) ++ ts) (o .drawn) o =
+        rw (append-assoc log (t ∷ []) ts) (taken (λ u m. in-left _ m) (b .books)) in
+      let b₂ = task-served log ts f t o (rw (e, append-nil) (unread b₁)) in
+      record { books = unread (rw (append-assoc (log ++ (t ∷ [])) ts ((serve c f t o) .line)) at b₂) }
 
   pub begin-booked : {log : List Task} {o : Opening} → Booked log [] o → o .line ≡ [] → Booked log ((beginRun c o) .line) (setLine [] (beginRun c o))
   unfolding beginRun
   begin-booked {log} {o} b e =
       let s₁ = setAdded [] (setDrawn [] o) in
-      let b₁ : Serving log log log (o .drawn) s₁ = rw (append-nil (o .drawn), e) (aside (b .books)) in
+      let b₁ : Serving log log log (o .drawn) s₁ = rw (append-nil (o .drawn), e) (unread (b .books)) in
       let b₂ = fold-keeps (Serving log log log (o .drawn)) openOwner (o .added) (λ w m. openOwner-serving log log log (o .drawn) w) s₁ b₁ in
       let b₃ = fold-through (Serving log log log) _ (λ e es. fire-serving log log log (λ t m. m) (e .0) _ es) (o .drawn) _ b₂ in
-      record { books = aside b₃ }
+      record { books = unread b₃ }
 
   pub end-booked : {log ts : List Task} {o : Opening} → Booked log ts o → Booked log ts (endRun c o)
   unfolding endRun
-  end-booked b = record { books = aside (b .books) }
+  end-booked b = record { books = unread (b .books) }
 
   pub add-booked : (w : Owner) {log ts : List Task} {o : Opening} → Booked log ts o → Booked log ts (add w o)
   unfolding add
-  add-booked w b = record { books = aside (b .books) }
+  add-booked w b = record { books = unread (b .books) }
 
   pub draw-booked : (f : ℕ → Bool) (k : ℕ) {log ts : List Task} {o : Opening} → Booked log ts o → Booked log ts (draw c f k o)
   unfolding draw
   draw-booked f k {o} b =
       let bs = b .books in
-      record { books = aside (moved
+      record { books = unread (moved
         (λ q i m. bs .waiting-from q i (filter-within _ (o .waiting) _ m))
         (λ q i m. ⊎-elim (bs .drawn-from q i) (λ n. bs .waiting-from q i (filter-within _ (o .waiting) _ n)) (in-either (o .drawn) m))
         (placed _) bs) }
@@ -407,7 +414,7 @@ module _ (c : Catalogue) where
 
   module _ {log : List Task} {o : Opening} (b : Booked log [] o) {w : Owner} (opened : w ∈ o .owners) (known : unknownOwner c w ≡ false) where
     rule-served : tasksOf c w ⊆ log
-    rule-served = rules-queued c (settled b) w (settled b .owner-queued w opened) known
+    rule-served = rules-queued c (all-served b) w (all-served b .owner-queued w opened) known
 
     pub unconditional-served : (q : ℕ) → q ∈ requirementsOf c w → unconditional c q ≡ true → requirement q [] ∈ log
     unconditional-served q m e = rule-served _ (unconditional-task c w m e)
@@ -419,8 +426,8 @@ module _ (c : Catalogue) where
     pub disjunct-kept : (q : ℕ) → q ∈ requirementsOf c w → unconditional c q ≡ false → (i : ℕ) → i ∈ indices c q
         → ((q, i) ∈ o .fired) ⊎ (((q, i) ∈ o .waiting) ⊎ ((q, i) ∈ o .drawn))
     disjunct-kept q m e i k =
-        elim (split c (settled b) q (rule-served _ (condition-task c w m e)) i k) [
+        elim (split c (all-served b) q (rule-served _ (condition-task c w m e)) i k) [
           waits n ↦ inr (inl n)
           | is-drawn n ↦ inr (inr n)
-          | fires {is = is} t n ↦ inl (fired-of c (settled b) q is t i n)
+          | fires {is = is} t n ↦ inl (fired-of c (all-served b) q is t i n)
         ]

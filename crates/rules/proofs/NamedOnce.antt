@@ -24,16 +24,20 @@ start-once = (empty, empty)
 module _ (c : Catalogue) where
   naming-once : (p : ℕ) (s : Opening) → NamedOnce s → NamedOnce (nameForTracking c p s)
   unfolding nameForTracking
-  naming-once p s h = unless-either NamedOnce _ _ s (λ e. h) (λ e. (once-snoc (h .0) (not-elem p (s .named) (or-right (elem (nameOf c p) (s .several)) (elem p (s .named)) e)), h .1))
+  naming-once p s h = unless-either NamedOnce _ _ s (λ e. h) (λ e. (once-snoc (h .0) (unnamed e), h .1))
     where
       or-right : (a b : Bool) → (a || b) ≡ false → b ≡ false
       or-right true b e = absurd (true≢false e)
       or-right false b e = e
 
+      unnamed : (elem (nameOf c p) (s .several) || elem p (s .named)) ≡ false → p ∈ s .named → ⊥
+      unnamed e = not-elem p (s .named) (or-right (elem (nameOf c p) (s .several)) (elem p (s .named)) e)
+
   pub serve-once : (f : ℕ → Bool) (t : Task) (s : Opening) → NamedOnce s → NamedOnce (serve c f t s)
   unfolding serveRequirement markHandled
   serve-once = serve-keeps NamedOnce (λ s ws ns wt d a l p. p) c (λ n s p. p)
-      (λ q is s p. fold-keeps NamedOnce _ _ (λ x m. ready-keeps NamedOnce (λ s ws ns wt d a l p. p) c x) _ (fold-keeps NamedOnce _ _ (λ x m. naming-once x) _ p))
+      (λ q is s p. fold-keeps NamedOnce _ _ (λ x m. ready-keeps NamedOnce (λ s ws ns wt d a l p. p) c x) _
+        (fold-keeps NamedOnce _ _ (λ x m. naming-once x) _ p))
 
   pub begin-once : (s : Opening) → NamedOnce s → NamedOnce (beginRun c s)
   begin-once = begin-keeps NamedOnce (λ s ws ns wt d a l p. p) c
@@ -50,11 +54,14 @@ module _ (c : Catalogue) where
 
   pub joining-in : (s : Opening) (p : ℕ) → p ∈ s .named → (p ∈ s .tracked → ⊥) → p ∈ joining c s
   unfolding joining
-  joining-in s p m new = filter-in _ _ (concatMap-in _ _ (distinct-in _ _ (map-in (nameOf c) m)) (filter-in _ (s .named) m (eq-eqb (nameOf c p) _ refl))) (ap not (elem-not p (s .tracked) new))
+  joining-in s p m new =
+      filter-in _ _ (concatMap-in _ _ (distinct-in _ _ (map-in (nameOf c) m)) (filter-in _ (s .named) m (eq-eqb (nameOf c p) _ refl)))
+      (ap not (elem-not p (s .tracked) new))
 
   pub joining-once : (s : Opening) → Once (s .named) → Once (joining c s)
   unfolding joining
-  joining-once s p = once-filter _ (once-concatMap _ (nameOf c) (λ n q m. eqb-true (nameOf c q) n (filter-out _ (s .named) m .1)) (λ n. once-filter _ p) (distinct-once _))
+  joining-once s p =
+      once-filter _ (once-concatMap _ (nameOf c) (λ n q m. eqb-true (nameOf c q) n (filter-out _ (s .named) m .1)) (λ n. once-filter _ p) (distinct-once _))
 
   -- at a run's end what it named is tracked, and nothing else new
   pub joined-in : (s : Opening) (p : ℕ) → (p ∈ s .tracked) ⊎ (p ∈ s .named) → p ∈ (endRun c s) .tracked

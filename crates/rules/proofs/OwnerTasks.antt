@@ -47,7 +47,8 @@ module _ (c : Catalogue) where
   unfolding tasksOf
   constraint-task w m = in-right (map requirementTask (requirementsOf c w)) (map-in constraint m)
 
-  pub task-rule : (w : Owner) (P : Task → Type 0) → ((q : ℕ) → q ∈ requirementsOf c w → P (requirementTask q)) → ((k : ℕ) → k ∈ constraintsOf c w → P (constraint k))
+  pub task-rule : (w : Owner) (P : Task → Type 0)
+      → ((q : ℕ) → q ∈ requirementsOf c w → P (requirementTask q)) → ((k : ℕ) → k ∈ constraintsOf c w → P (constraint k))
       → (t : Task) → t ∈ tasksOf c w → P t
   unfolding tasksOf
   task-rule w P f g t m =

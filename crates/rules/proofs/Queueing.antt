@@ -1,5 +1,5 @@
--- What does not speak of opened owners and names, of waiting and drawn entries or of the line is kept by every rule but two:
--- a name that allows several is served, and a requirement is handled.
+-- What reads neither opened owners and names, nor waiting and drawn entries, nor added owners, nor the line is kept by every rule but two:
+-- those that serve a name which allows several, and a requirement.
 use mathlib.Core.Bool.{Bool}
 use mathlib.Core.List.{List, [], _∷_}
 use Prim.Native.Nat.{ℕ}
@@ -9,20 +9,20 @@ use Rattle.rules.specs.Opening.{Task, owner, name, condition, requiremen
 use Rattle.rules.proofs.Membership.{when-keeps, unless-keeps, fold-keeps}
 
 module _ (P : Opening → Type 0)
-    (aside : (s : Opening) (ws : List Owner) (ns : List ℕ) (waiting drawn : List (ℕ × ℕ)) (added : List Owner) (l : List Task)
+    (unread : (s : Opening) (ws : List Owner) (ns : List ℕ) (waiting drawn : List (ℕ × ℕ)) (added : List Owner) (l : List Task)
       → P s → P (setOwners ws (setNames ns (setWaiting waiting (setDrawn drawn (setAdded added (setLine l s)))))))
     where
   openOwner-keeps : (w : Owner) (s : Opening) → P s → P (openOwner w s)
   unfolding openOwner queue
-  openOwner-keeps w s p = unless-keeps P _ _ s (aside s _ _ _ _ _ _) p
+  openOwner-keeps w s p = unless-keeps P _ _ s (unread s _ _ _ _ _ _) p
 
   openName-keeps : (n : ℕ) (s : Opening) → P s → P (openName n s)
   unfolding openName queue
-  openName-keeps n s p = unless-keeps P _ _ s (aside s _ _ _ _ _ _) p
+  openName-keeps n s p = unless-keeps P _ _ s (unread s _ _ _ _ _ _) p
 
   pub add-keeps : (w : Owner) (s : Opening) → P s → P (add w s)
   unfolding add
-  add-keeps w s p = aside s _ _ _ _ _ _ p
+  add-keeps w s p = unread s _ _ _ _ _ _ p
 
   module _ (c : Catalogue) where
     openNames-keeps : (rs : List ℕ) (s : Opening) → P s → P (openNames c rs s)
@@ -32,7 +32,7 @@ module _ (P : Opening → Type 0)
     fire-keeps : (q : ℕ) (is : List ℕ) (s : Opening) → P s → P (fire c q is s)
     unfolding fire queue
     fire-keeps q [] s p = p
-    fire-keeps q (i ∷ is) s p = aside _ _ _ _ _ _ _ (openNames-keeps (rangesOf c q) s p)
+    fire-keeps q (i ∷ is) s p = unread _ _ _ _ _ _ _ (openNames-keeps (rangesOf c q) s p)
 
     pub ready-keeps : (p : ℕ) (s : Opening) → P s → P (openReady c p s)
     unfolding openReady
@@ -42,17 +42,17 @@ module _ (P : Opening → Type 0)
         → ((q : ℕ) (is : List ℕ) (s : Opening) → P s → P (serveRequirement c q is s))
         → (f : ℕ → Bool) (t : Task) (s : Opening) → P s → P (serve c f t s)
     unfolding serve serveOwner serveName serveCondition queue
-    serve-keeps several handled f (owner w) s p = unless-keeps P _ _ s (λ p. fold-keeps P queue _ (λ t m s. aside s _ _ _ _ _ _) _ (openNames-keeps _ s p)) p
+    serve-keeps several handled f (owner w) s p = unless-keeps P _ _ s (λ p. fold-keeps P queue _ (λ t m s. unread s _ _ _ _ _ _) _ (openNames-keeps _ s p)) p
     serve-keeps several handled f (name n) s p = when-keeps P _ _ s (several n s) p
-    serve-keeps several handled f (condition q) s p = fire-keeps q _ _ (aside s _ _ _ _ _ _ p)
+    serve-keeps several handled f (condition q) s p = fire-keeps q _ _ (unread s _ _ _ _ _ _ p)
     serve-keeps several handled f (requirement q is) s p = handled q is s p
     serve-keeps several handled f (constraint k) s p = p
 
     pub begin-keeps : (s : Opening) → P s → P (beginRun c s)
     unfolding beginRun
     begin-keeps s p =
-        fold-keeps P _ (s .drawn) (λ e m. fire-keeps (e .0) _) _ (fold-keeps P openOwner (s .added) (λ w m. openOwner-keeps w) _ (aside s _ _ _ _ _ _ p))
+        fold-keeps P _ (s .drawn) (λ e m. fire-keeps (e .0) _) _ (fold-keeps P openOwner (s .added) (λ w m. openOwner-keeps w) _ (unread s _ _ _ _ _ _ p))
 
     pub draw-keeps : (f : ℕ → Bool) (k : ℕ) (s : Opening) → P s → P (draw c f k s)
     unfolding draw
-    draw-keeps f k s p = aside s _ _ _ _ _ _ p
+    draw-keeps f k s p = unread s _ _ _ _ _ _ p

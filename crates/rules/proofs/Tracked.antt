@@ -59,10 +59,12 @@ module _ (c : Catalogue) where
       due p m =
           ⊎-elim
           (λ k. candidate (at-end (s .handled) q) k)
-          (λ k. let x = concatMap-out _ is k in let y = concatMap-out (nonMatching c) _ (x .2) in outside (in-right (s .fired) (map-in (λ i. (q, i)) (x .1))) (y .1) (y .2))
+          (λ k. let x = concatMap-out _ is k in
+            let y = concatMap-out (nonMatching c) _ (x .2) in
+            outside (in-right (s .fired) (map-in (λ i. (q, i)) (x .1))) (y .1) (y .2))
           (in-either (candidates c (goalAt c q)) m)
 
-      old : (p : ℕ) → Noticed [] (s .several) (s .named) (s .tracked) p → Noticed (candidates c (goalAt c q) ++ firedParts c q is) (s .several) (s .named) (s .tracked) p
+      old : {due : List ℕ} (p : ℕ) → Noticed [] (s .several) (s .named) (s .tracked) p → Noticed due (s .several) (s .named) (s .tracked) p
       old p (is-named m) = is-named m
       old p (is-tracked m) = is-tracked m
       old p (with-several m) = with-several m
@@ -74,7 +76,8 @@ module _ (c : Catalogue) where
           ⊎-elim (λ n. old p (h .each p (candidate n k))) (λ (e : r ≡ q). is-due (in-left _ (rw e at k))) (before-or-end (s .handled) m)
       each p (outside {q = r} {i = i} m k n) =
           ⊎-elim (λ l. old p (h .each p (outside l k n)))
-          (λ l. let x = entries-out q is l in is-due (in-right (candidates c (goalAt c q)) (concatMap-in _ is (x .1) (concatMap-in (nonMatching c) _ (rw (x .0) at k) n))))
+          (λ l. let x = entries-out q is l in
+            is-due (in-right (candidates c (goalAt c q)) (concatMap-in _ is (x .1) (concatMap-in (nonMatching c) _ (rw (x .0) at k) n))))
           (in-either (s .fired) m)
 
   -- the first part that is due is named
@@ -101,7 +104,7 @@ module _ (c : Catalogue) where
       named : Tracks due (s .handled) (s .fired) (s .several) (s .named ++ (p ∷ [])) (s .tracked)
       named = later (s .named ++ (p ∷ [])) (λ x m. in-left _ m) (λ x m. m) (is-named (at-end (s .named) p))
 
-      without : (b : Bool) → elem (nameOf c p) (s .several) ≡ b → (b || elem p (s .named)) ≡ true → Tracks due (s .handled) (s .fired) (s .several) (s .named) (s .tracked)
+      without : (b : Bool) → elem (nameOf c p) (s .several) ≡ b → (b || elem p (s .named)) ≡ true → Tracking due s
       without b e f = later (s .named) (λ x m. m) (λ x m. in-left _ m) (noticed b e f)
         where
           noticed : (b : Bool) → elem (nameOf c p) (s .several) ≡ b → (b || elem p (s .named)) ≡ true → Noticed due (s .several) (s .named) (s .tracked) p
@@ -119,7 +122,12 @@ module _ (c : Catalogue) where
     only-named = h .only-named;
     only-tracked = h .only-tracked;
     only-due = h .only-due;
-    each = λ p a. elim (h .each p a) [ is-named m ↦ is-named m | is-tracked m ↦ is-tracked m | with-several m ↦ with-several (in-left _ m) | is-due m ↦ is-due m ];
+    each = λ p a. elim (h .each p a) [
+      is-named m ↦ is-named m
+      | is-tracked m ↦ is-tracked m
+      | with-several m ↦ with-several (in-left _ m)
+      | is-due m ↦ is-due m
+    ];
   }
 
   -- ---- every step
@@ -165,7 +173,8 @@ module _ (c : Catalogue) where
   pub tracked-asked : (s : Opening) → TracksAll s → (p : ℕ) → p ∈ s .tracked → Asked (s .handled) (s .fired) p
   tracked-asked s h = h .only-tracked
 
-  pub asked-tracked : (s : Opening) → TracksAll s → s .named ≡ [] → (p : ℕ) → Asked (s .handled) (s .fired) p → (p ∈ s .tracked) ⊎ (nameOf c p ∈ s .several)
+  pub asked-tracked : (s : Opening) → TracksAll s → s .named ≡ []
+      → (p : ℕ) → Asked (s .handled) (s .fired) p → (p ∈ s .tracked) ⊎ (nameOf c p ∈ s .several)
   asked-tracked s h e p a = elim (h .each p a) [
     is-named m ↦ absurd (List·Memᴰ·not-nil (rw e at m))
     | is-tracked m ↦ inl m
