@@ -24,14 +24,12 @@ start-once = (empty, empty)
 module _ (c : Catalogue) where
   naming-once : (p : ℕ) (s : Opening) → NamedOnce s → NamedOnce (nameForTracking c p s)
   unfolding nameForTracking
-  naming-once p s h = unless-either NamedOnce _ _ s (λ e. h) (λ e. (once-snoc (h .0) (unnamed e), h .1))
+  naming-once p s h =
+      unless-either NamedOnce _ _ s (λ e. h) (λ e. (once-snoc (h .0) (not-elem p (s .named) (or-right (elem (nameOf c p) (s .several)) _ e)), h .1))
     where
       or-right : (a b : Bool) → (a || b) ≡ false → b ≡ false
       or-right true b e = absurd (true≢false e)
       or-right false b e = e
-
-      unnamed : (elem (nameOf c p) (s .several) || elem p (s .named)) ≡ false → p ∈ s .named → ⊥
-      unnamed e = not-elem p (s .named) (or-right (elem (nameOf c p) (s .several)) (elem p (s .named)) e)
 
   pub serve-once : (f : ℕ → Bool) (t : Task) (s : Opening) → NamedOnce s → NamedOnce (serve c f t s)
   unfolding serveRequirement markHandled
