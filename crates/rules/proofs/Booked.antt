@@ -13,7 +13,7 @@ use Rattle.rules.specs.Opening.{Task, owner, name, condition, requiremen
 use Rattle.rules.specs.Called.{_∈_}
 use Rattle.rules.proofs.OwnerTasks.{requirement-owner, constraint-owner, task-rule, unconditional-task, condition-task, constraint-task}
 use Rattle.rules.proofs.Books.{OfServed, RequirementFrom, ConditionFrom, ConstraintFrom, EntryFrom, Placed, waits, is-drawn, fires, CalledFor, Done, Books, fired-of, rules-queued, split}
-use Rattle.rules.proofs.Membership.{_⊆_, in-left, in-right, at-end, in-either, before-or-end, filter-within, filter-either, map-in, entries, entries-out, when-either, unless-either, when-keeps, unless-keeps, fold-keeps, fold-through}
+use Rattle.rules.proofs.Membership.{_⊆_, ⊆-refl, in-left, in-right, at-end, in-either, before-or-end, filter-within, filter-either, map-in, entries, entries-out, when-either, unless-either, when-keeps, unless-keeps, fold-keeps, fold-through}
 
 module _ (c : Catalogue) where
   -- `log`: the tasks served so far in the job; `ts`: those in the line
@@ -57,9 +57,6 @@ module _ (c : Catalogue) where
 
   -- ---- one change at a time
 
-  same : {A : Type 0} {xs : List A} → xs ⊆ xs
-  same x m = m
-
   -- a task is taken from the line
   taken : {done log log′ all : List Task} {drawn : List (ℕ × ℕ)} {o : Opening} → log ⊆ log′ → Books c done log all drawn o → Books c done log′ all drawn o
   taken {o} up b = record {
@@ -70,7 +67,7 @@ module _ (c : Catalogue) where
     fired-from = λ q i m. let f = b .fired-from q i m in (f .0, up _ (f .1), f .2);
     waiting-from = λ q i m. let f = b .waiting-from q i m in record { condition-served = up _ f.condition-served; indexed = f.indexed };
     drawn-from = λ q i m. let f = b .drawn-from q i m in record { condition-served = up _ f.condition-served; indexed = f.indexed };
-    called-for = λ t m. called-onward o o up same same t (b .called-for t m);
+    called-for = λ t m. called-onward o o up ⊆-refl ⊆-refl t (b .called-for t m);
     completed = b .completed;
   }
 
@@ -100,8 +97,8 @@ module _ (c : Catalogue) where
     fired-from = b .fired-from;
     waiting-from = b .waiting-from;
     drawn-from = b .drawn-from;
-    called-for = λ t m. called-onward _ _ same same same t (b .called-for t m);
-    completed = λ t m. done-onward (record { tasks = same; several = same; handled = same; fired = same; placed = λ q i p. p }) t (b .completed t m);
+    called-for = λ t m. called-onward _ _ ⊆-refl ⊆-refl ⊆-refl t (b .called-for t m);
+    completed = λ t m. done-onward (record { tasks = ⊆-refl; several = ⊆-refl; handled = ⊆-refl; fired = ⊆-refl; placed = λ q i p. p }) t (b .completed t m);
   }
 
   -- of more owners, or names, only those that new tasks open
@@ -110,7 +107,7 @@ module _ (c : Catalogue) where
     fresh : (y : A) → y ∈ ys → (y ∈ xs) ⊎ (opens y ∈ new)
 
   none-more : {A : Type 0} {opens : A → Task} {new : List Task} {xs : List A} → Extends opens new xs xs
-  none-more = record { kept = same; fresh = λ y m. inl m }
+  none-more = record { kept = ⊆-refl; fresh = λ y m. inl m }
 
   one-more : {A : Type 0} (opens : A → Task) (xs : List A) (x : A) → Extends opens (opens x ∷ []) xs (snoc xs x)
   unfolding snoc
@@ -128,9 +125,9 @@ module _ (c : Catalogue) where
     waiting-from = b .waiting-from;
     drawn-from = b .drawn-from;
     called-for = λ t m. ⊎-elim
-      (λ k. called-onward o _ same (owners .kept) (names .kept) t (b .called-for t k))
-      (λ k. called-onward (setOwners ws (setNames ns o)) _ same same same t (calls t k)) (in-either all m);
-    completed = λ t m. done-onward (record { tasks = λ u k. in-left new k; several = same; handled = same; fired = same; placed = placed }) t
+      (λ k. called-onward o _ ⊆-refl (owners .kept) (names .kept) t (b .called-for t k))
+      (λ k. called-onward (setOwners ws (setNames ns o)) _ ⊆-refl ⊆-refl ⊆-refl t (calls t k)) (in-either all m);
+    completed = λ t m. done-onward (record { tasks = λ u k. in-left new k; several = ⊆-refl; handled = ⊆-refl; fired = ⊆-refl; placed = placed }) t
       (b .completed t m);
   }
     where
@@ -152,8 +149,8 @@ module _ (c : Catalogue) where
     fired-from = b .fired-from;
     waiting-from = waiting;
     drawn-from = drawn;
-    called-for = λ t k. called-onward o _ same same same t (b .called-for t k);
-    completed = λ t k. done-onward (record { tasks = same; several = same; handled = same; fired = same; placed = placed }) t (b .completed t k);
+    called-for = λ t k. called-onward o _ ⊆-refl ⊆-refl ⊆-refl t (b .called-for t k);
+    completed = λ t k. done-onward (record { tasks = ⊆-refl; several = ⊆-refl; handled = ⊆-refl; fired = ⊆-refl; placed = placed }) t (b .completed t k);
   }
 
   -- a requirement's task is in the line: its disjuncts are drawn no longer
@@ -196,8 +193,8 @@ module _ (c : Catalogue) where
     fired-from = b .fired-from;
     waiting-from = b .waiting-from;
     drawn-from = b .drawn-from;
-    called-for = λ t k. called-onward o _ same same same t (b .called-for t k);
-    completed = λ t k. done-onward (record { tasks = same; several = λ p n. in-left _ n; handled = same; fired = same; placed = λ q i p. p }) t
+    called-for = λ t k. called-onward o _ ⊆-refl ⊆-refl ⊆-refl t (b .called-for t k);
+    completed = λ t k. done-onward (record { tasks = ⊆-refl; several = λ p n. in-left _ n; handled = ⊆-refl; fired = ⊆-refl; placed = λ q i p. p }) t
       (b .completed t k);
   }
 
@@ -213,8 +210,8 @@ module _ (c : Catalogue) where
     fired-from = λ p i k. ⊎-elim (b .fired-from p i) (λ n. let x = entries-out q is n in (is, rw (x .0) m, x .1)) (in-either (o .fired) k);
     waiting-from = b .waiting-from;
     drawn-from = b .drawn-from;
-    called-for = λ t k. called-onward o _ same same same t (b .called-for t k);
-    completed = λ t k. done-onward (record { tasks = same; several = same; handled = λ p n. in-left _ n; fired = λ e n. in-left _ n; placed = λ q i p. p }) t
+    called-for = λ t k. called-onward o _ ⊆-refl ⊆-refl ⊆-refl t (b .called-for t k);
+    completed = λ t k. done-onward (record { tasks = ⊆-refl; several = ⊆-refl; handled = λ p n. in-left _ n; fired = λ e n. in-left _ n; placed = λ q i p. p }) t
       (b .completed t k);
   }
 

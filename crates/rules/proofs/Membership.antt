@@ -16,6 +16,13 @@ _⊆_ {A} xs ys = (x : A) → x ∈ xs → x ∈ ys
 infix 4 _⊆_
 
 module _ {A : Type 0} where
+  pub ⊆-refl : {xs : List A} → xs ⊆ xs
+  ⊆-refl x m = m
+
+  pub ⊆-snoc : (xs : List A) (x : A) → xs ⊆ snoc xs x
+  unfolding snoc
+  ⊆-snoc xs x y m = Memᴰ·append-left (x ∷ []) m
+
   pub in-left : {x : A} {xs : List A} (ys : List A) → x ∈ xs → x ∈ (xs ++ ys)
   in-left ys m = Memᴰ·append-left ys m
 

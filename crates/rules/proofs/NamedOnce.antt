@@ -10,13 +10,16 @@ use Rattle.rules.specs.Catalogue.{Owner, Catalogue, nameOf}
 use Rattle.rules.specs.Opening.{Task, Opening, unopened, markHandled, add, nameForTracking, serveRequirement, serve, draw, beginRun, joining, endRun}
 use Rattle.rules.specs.Called.{_∈_}
 use Rattle.rules.proofs.Membership.{in-left, in-right, in-either, filter-in, filter-out, filter-within, elem-out, not-elem, elem-not, map-in, concatMap-in, concatMap-out, unless-either, fold-keeps, Once, empty, once-append, once-snoc, once-filter, once-concatMap, distinct-once, distinct-in}
-use Rattle.rules.proofs.Queueing.{add-keeps, ready-keeps, serve-keeps, begin-keeps, draw-keeps}
+use Rattle.rules.proofs.Queueing.{Stable, add-keeps, ready-keeps, serve-keeps, begin-keeps, draw-keeps}
 
 -- ---- naming
 
 -- neither the parts that a run named nor those tracked have repeats
 abbrev pub NamedOnce : Opening → Type 0
 NamedOnce o = Once (o .named) × Once (o .tracked)
+
+stable : Stable NamedOnce
+stable = record { kept = λ s ws ns p. p }
 
 pub start-once : NamedOnce unopened
 start-once = (empty, empty)
@@ -33,12 +36,12 @@ module _ (c : Catalogue) where
 
   pub serve-once : (f : ℕ → Bool) (t : Task) (s : Opening) → NamedOnce s → NamedOnce (serve c f t s)
   unfolding serveRequirement markHandled
-  serve-once = serve-keeps NamedOnce (λ s ws ns wt d a l p. p) c (λ n s p. p)
-      (λ q is s p. fold-keeps NamedOnce _ _ (λ x m. ready-keeps NamedOnce (λ s ws ns wt d a l p. p) c x) _
+  serve-once = serve-keeps NamedOnce stable c (λ n s p. p)
+      (λ q is s p. fold-keeps NamedOnce _ _ (λ x m. ready-keeps NamedOnce stable c x) _
         (fold-keeps NamedOnce _ _ (λ x m. naming-once x) _ p))
 
   pub begin-once : (s : Opening) → NamedOnce s → NamedOnce (beginRun c s)
-  begin-once = begin-keeps NamedOnce (λ s ws ns wt d a l p. p) c
+  begin-once = begin-keeps NamedOnce stable c
 
   -- ---- joining
 
@@ -80,7 +83,7 @@ module _ (c : Catalogue) where
   end-once s p = (empty, once-append (p .1) (joining-once s (p .0)) (λ q m k. joining-new s q k m))
 
   pub draw-once : (f : ℕ → Bool) (k : ℕ) (s : Opening) → NamedOnce s → NamedOnce (draw c f k s)
-  draw-once = draw-keeps NamedOnce (λ s ws ns wt d a l p. p) c
+  draw-once = draw-keeps NamedOnce stable c
 
 pub add-once : (w : Owner) (s : Opening) → NamedOnce s → NamedOnce (add w s)
-add-once = add-keeps NamedOnce (λ s ws ns wt d a l p. p)
+add-once = add-keeps NamedOnce stable

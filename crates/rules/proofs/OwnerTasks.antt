@@ -13,7 +13,7 @@ use Rattle.rules.specs.Opening.{Task, condition, requirement, constraint
 use Rattle.rules.specs.Called.{_∈_, constraintRange}
 use Rattle.rules.proofs.Membership.{in-left, in-right, in-either, filter-in, filter-out, map-in, map-out, concatMap-in}
 
-same-owner : (v w : Owner) → sameOwner v w ≡ true → w ≡ v
+pub same-owner : (v w : Owner) → sameOwner v w ≡ true → w ≡ v
 same-owner root root e = refl
 same-owner root (part q) e = absurd (false≢true e)
 same-owner (part p) root e = absurd (false≢true e)

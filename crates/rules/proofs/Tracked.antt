@@ -12,7 +12,7 @@ use Rattle.rules.specs.Conditions.{disjunctAt}
 use Rattle.rules.specs.Opening.{Task, Opening, unopened, markHandled, add, firedParts, nameForTracking, serveRequirement, serve, draw, beginRun, endRun}
 use Rattle.rules.specs.Called.{_∈_}
 use Rattle.rules.proofs.Membership.{_⊆_, in-left, in-right, at-end, in-either, before-or-end, entries-out, elem-out, map-in, concatMap-in, concatMap-out, unless-either, fold-keeps, fold-through}
-use Rattle.rules.proofs.Queueing.{add-keeps, ready-keeps, serve-keeps, begin-keeps, draw-keeps}
+use Rattle.rules.proofs.Queueing.{Stable, add-keeps, ready-keeps, serve-keeps, begin-keeps, draw-keeps}
 use Rattle.rules.proofs.NamedOnce.{joined-in, joined-out}
 
 module _ (c : Catalogue) where
@@ -111,10 +111,13 @@ module _ (c : Catalogue) where
           noticed true e f = with-several (elem-out _ (s .several) e)
           noticed false e f = is-named (elem-out p (s .named) f)
 
+  stable : Stable TracksAll
+  stable = record { kept = λ s ws ns p. p }
+
   handled-tracks : (q : ℕ) (is : List ℕ) (s : Opening) → TracksAll s → TracksAll (serveRequirement c q is s)
   unfolding serveRequirement
   handled-tracks q is s h =
-      fold-keeps TracksAll _ _ (λ p m. ready-keeps TracksAll (λ s ws ns wt d a l p. p) c p) _ (fold-through Tracking _ naming-tracks _ _ (marked q is s h))
+      fold-keeps TracksAll _ _ (λ p m. ready-keeps TracksAll stable c p) _ (fold-through Tracking _ naming-tracks _ _ (marked q is s h))
 
   several-tracks : (n : ℕ) (s : Opening) → TracksAll s → Tracks [] (s .handled) (s .fired) (snoc (s .several) n) (s .named) (s .tracked)
   unfolding snoc
@@ -143,16 +146,16 @@ module _ (c : Catalogue) where
       asked p (outside m k n) = absurd (List·Memᴰ·not-nil m)
 
   pub serve-tracks : (f : ℕ → Bool) (t : Task) (s : Opening) → TracksAll s → TracksAll (serve c f t s)
-  serve-tracks = serve-keeps TracksAll (λ s ws ns wt d a l p. p) c several-tracks handled-tracks
+  serve-tracks = serve-keeps TracksAll stable c several-tracks handled-tracks
 
   pub begin-tracks : (s : Opening) → TracksAll s → TracksAll (beginRun c s)
-  begin-tracks = begin-keeps TracksAll (λ s ws ns wt d a l p. p) c
+  begin-tracks = begin-keeps TracksAll stable c
 
   pub draw-tracks : (f : ℕ → Bool) (k : ℕ) (s : Opening) → TracksAll s → TracksAll (draw c f k s)
-  draw-tracks = draw-keeps TracksAll (λ s ws ns wt d a l p. p) c
+  draw-tracks = draw-keeps TracksAll stable c
 
   pub add-tracks : (w : Owner) (s : Opening) → TracksAll s → TracksAll (add w s)
-  add-tracks = add-keeps TracksAll (λ s ws ns wt d a l p. p)
+  add-tracks = add-keeps TracksAll stable
 
   pub end-tracks : (s : Opening) → TracksAll s → TracksAll (endRun c s)
   unfolding endRun
