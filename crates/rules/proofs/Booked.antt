@@ -125,10 +125,10 @@ module _ (c : Catalogue) where
     waiting-from = b .waiting-from;
     drawn-from = b .drawn-from;
     called-for = λ t m. ⊎-elim
-      (λ k. called-onward o _ ⊆-refl (owners .kept) (names .kept) t (b .called-for t k))
-      (λ k. called-onward (setOwners ws (setNames ns o)) _ ⊆-refl ⊆-refl ⊆-refl t (calls t k)) (in-either all m);
+        (λ k. called-onward o _ ⊆-refl (owners .kept) (names .kept) t (b .called-for t k))
+        (λ k. called-onward (setOwners ws (setNames ns o)) _ ⊆-refl ⊆-refl ⊆-refl t (calls t k)) (in-either all m);
     completed = λ t m. done-onward (record { tasks = λ u k. in-left new k; several = ⊆-refl; handled = ⊆-refl; fired = ⊆-refl; placed = placed }) t
-      (b .completed t m);
+        (b .completed t m);
   }
     where
       placed : {ws ds : List (ℕ × ℕ)} (q i : ℕ) → Placed all ws ds q i → Placed (all ++ new) ws ds q i
@@ -195,7 +195,7 @@ module _ (c : Catalogue) where
     drawn-from = b .drawn-from;
     called-for = λ t k. called-onward o _ ⊆-refl ⊆-refl ⊆-refl t (b .called-for t k);
     completed = λ t k. done-onward (record { tasks = ⊆-refl; several = λ p n. in-left _ n; handled = ⊆-refl; fired = ⊆-refl; placed = λ q i p. p }) t
-      (b .completed t k);
+        (b .completed t k);
   }
 
   -- a requirement is served
@@ -212,7 +212,7 @@ module _ (c : Catalogue) where
     drawn-from = b .drawn-from;
     called-for = λ t k. called-onward o _ ⊆-refl ⊆-refl ⊆-refl t (b .called-for t k);
     completed = λ t k. done-onward (record { tasks = ⊆-refl; several = ⊆-refl; handled = λ p n. in-left _ n; fired = λ e n. in-left _ n; placed = λ q i p. p }) t
-      (b .completed t k);
+        (b .completed t k);
   }
 
   -- ---- rules that queue, while a task is served
@@ -310,10 +310,10 @@ module _ (c : Catalogue) where
         unless-either (Served (owner w)) _ _ s
         (λ e. finished (owner w) (λ known. absurd (true≢false (sym e ∙ known))) b)
         (λ e. let s₁ = openNames c (rangesFirst c w) s in
-          rw (queues (tasksOf c w) s₁)
-          (finished (owner w) (λ known t m. in-right (now (owner w) ++ ts) (in-right (s₁ .line) m))
-          (queued log (now (owner w)) (now (owner w) ++ ts) [] (tasksOf c w) s₁ none-more none-more (own-task w s₁)
-          (openNames-serving log (now (owner w)) (now (owner w) ++ ts) [] (rangesFirst c w) s b))))
+        rw (queues (tasksOf c w) s₁)
+        (finished (owner w) (λ known t m. in-right (now (owner w) ++ ts) (in-right (s₁ .line) m))
+        (queued log (now (owner w)) (now (owner w) ++ ts) [] (tasksOf c w) s₁ none-more none-more (own-task w s₁)
+        (openNames-serving log (now (owner w)) (now (owner w) ++ ts) [] (rangesFirst c w) s b))))
 
     name-served : (n : ℕ) (s : Opening) → Taken (name n) s → Served (name n) (serveName c n s)
     unfolding serveName snoc
@@ -326,12 +326,16 @@ module _ (c : Catalogue) where
     unfolding serveCondition
     condition-served f q s b =
         fire-serving (now (condition q)) (now (condition q)) (now (condition q) ++ ts) (λ u m. in-left ts m) q _ [] _
-        (rw append-nil (finished (condition q)
-          (λ i m. ⊎-elim
-            (λ k. is-drawn (in-left (s .drawn) (map-in (λ i. (q, i)) k)))
-            (λ k. waits (in-right (s .waiting) (map-in (λ i. (q, i)) k)))
-            (filter-either _ (indices c q) m))
-          (entered q _ _ (at-end log (condition q)) (filter-within _ (indices c q)) (filter-within _ (indices c q)) b)))
+        (rw append-nil (finished (condition q) (placed _)
+        (entered q _ _ (at-end log (condition q)) (filter-within _ (indices c q)) (filter-within _ (indices c q)) b)))
+      where
+        placed : (h : ℕ → Bool) {all : List Task} (i : ℕ) → i ∈ indices c q
+            → Placed all (s .waiting ++ entries q (filter (λ j. not (h j)) (indices c q))) (entries q (filter h (indices c q)) ++ s .drawn) q i
+        placed h i m =
+            ⊎-elim
+            (λ k. is-drawn (in-left (s .drawn) (map-in (λ j. (q, j)) k)))
+            (λ k. waits (in-right (s .waiting) (map-in (λ j. (q, j)) k)))
+            (filter-either h (indices c q) m)
 
     requirement-served : (q : ℕ) (is : List ℕ) (s : Opening) → Taken (requirement q is) s → Served (requirement q is) (serveRequirement c q is s)
     unfolding serveRequirement markHandled snoc
@@ -352,17 +356,19 @@ module _ (c : Catalogue) where
   -- ---- a run and the records of the sheet
 
   pub start-booked : Booked [] [] unopened
-  start-booked = record { books = record {
-    owner-queued = λ w m. none-in m;
-    name-queued = λ n m. none-in m;
-    several-from = λ n m. none-in m;
-    handled-from = λ q m. none-in m;
-    fired-from = λ q i m. none-in m;
-    waiting-from = λ q i m. none-in m;
-    drawn-from = λ q i m. none-in m;
-    called-for = λ t m. none-in m;
-    completed = λ t m. none-in m;
-  } }
+  start-booked = record {
+    books = record {
+      owner-queued = λ w m. none-in m;
+      name-queued = λ n m. none-in m;
+      several-from = λ n m. none-in m;
+      handled-from = λ q m. none-in m;
+      fired-from = λ q i m. none-in m;
+      waiting-from = λ q i m. none-in m;
+      drawn-from = λ q i m. none-in m;
+      called-for = λ t m. none-in m;
+      completed = λ t m. none-in m;
+    };
+  }
     where
       none-in : {A B : Type 0} {x : A} → x ∈ [] → B
       none-in m = absurd (List·Memᴰ·not-nil m)
@@ -371,7 +377,7 @@ module _ (c : Catalogue) where
       → Booked (log ++ (t ∷ [])) (ts ++ (serve c f t o) .line) (setLine [] (serve c f t o))
   serve-booked f {log} {ts} {t} {o} b e =
       let b₁ : Books c log (log ++ (t ∷ [])) ((log ++ (t ∷ [])) ++ ts) (o .drawn) o =
-        rw (append-assoc log (t ∷ []) ts) (taken (λ u m. in-left _ m) (b .books)) in
+      rw (append-assoc log (t ∷ []) ts) (taken (λ u m. in-left _ m) (b .books)) in
       let b₂ = task-served log ts f t o (rw (e, append-nil) (unread b₁)) in
       record { books = unread (rw (append-assoc (log ++ (t ∷ [])) ts ((serve c f t o) .line)) at b₂) }
 
@@ -396,10 +402,12 @@ module _ (c : Catalogue) where
   unfolding draw
   draw-booked f k {o} b =
       let bs = b .books in
-      record { books = unread (moved
-        (λ q i m. bs .waiting-from q i (filter-within _ (o .waiting) _ m))
-        (λ q i m. ⊎-elim (bs .drawn-from q i) (λ n. bs .waiting-from q i (filter-within _ (o .waiting) _ n)) (in-either (o .drawn) m))
-        (placed _) bs) }
+      record {
+        books = unread (moved
+            (λ q i m. bs .waiting-from q i (filter-within _ (o .waiting) _ m))
+            (λ q i m. ⊎-elim (bs .drawn-from q i) (λ n. bs .waiting-from q i (filter-within _ (o .waiting) _ n)) (in-either (o .drawn) m))
+            (placed _) bs);
+      }
     where
       placed : (f : ℕ × ℕ → Bool) {all : List Task} (q i : ℕ) → Placed all (o .waiting) (o .drawn) q i
           → Placed all (filter (λ (e : ℕ × ℕ). not (f e)) (o .waiting)) (o .drawn ++ filter f (o .waiting)) q i
@@ -424,7 +432,7 @@ module _ (c : Catalogue) where
         → ((q, i) ∈ o .fired) ⊎ (((q, i) ∈ o .waiting) ⊎ ((q, i) ∈ o .drawn))
     disjunct-kept q m e i k =
         elim (split c (all-served b) q (rule-served _ (condition-task c w m e)) i k) [
-          waits n ↦ inr (inl n)
+          | waits n ↦ inr (inl n)
           | is-drawn n ↦ inr (inr n)
           | fires {is = is} t n ↦ inl (fired-of c (all-served b) q is t i n)
         ]

@@ -14,7 +14,6 @@ abbrev pub _⊆_ : {A : Type 0} → List A → List A → Type 0
 _⊆_ {A} xs ys = (x : A) → x ∈ xs → x ∈ ys
 
 infix 4 _⊆_
-
 module _ {A : Type 0} where
   pub ⊆-refl : {xs : List A} → xs ⊆ xs
   ⊆-refl x m = m

@@ -38,7 +38,7 @@ module _ (c : Catalogue) where
   unfolding serveRequirement markHandled
   serve-once = serve-keeps NamedOnce stable c (λ n s p. p)
       (λ q is s p. fold-keeps NamedOnce _ _ (λ x m. ready-keeps NamedOnce stable c x) _
-        (fold-keeps NamedOnce _ _ (λ x m. naming-once x) _ p))
+      (fold-keeps NamedOnce _ _ (λ x m. naming-once x) _ p))
 
   pub begin-once : (s : Opening) → NamedOnce s → NamedOnce (beginRun c s)
   begin-once = begin-keeps NamedOnce stable c

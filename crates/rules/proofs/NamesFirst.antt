@@ -72,9 +72,9 @@ module _ (c : Catalogue) where
         opened l = record {
           in-order = behind (l .in-order) (next tt end);
           queued = λ m k. rw (append-assoc before (s .line) (name n ∷ [])) at (⊎-elim
-            (λ i. in-left (name n ∷ []) (l .queued m i))
-            (λ (e : m ≡ n). in-right (before ++ s .line) (List·Memᴰ·head (ap name e)))
-            (before-or-end (s .names) k));
+              (λ i. in-left (name n ∷ []) (l .queued m i))
+              (λ (e : m ≡ n). in-right (before ++ s .line) (List·Memᴰ·head (ap name e)))
+              (before-or-end (s .names) k));
         }
 
     openNames-lined : (rs : List ℕ) (s : Opening) → Queues s → Queues (openNames c rs s)
@@ -118,11 +118,11 @@ module _ (c : Catalogue) where
     owner-lined w s l =
         unless-keeps (Queues before) _ _ s
         (λ l. let s₁ = openNames c (rangesFirst c w) s in
-          let l₁ = openNames-lined before (rangesFirst c w) s l in
-          let first : (r : ℕ) → r ∈ rangesFirst c w → name (rangeName c r) ∈ (before ++ s₁ .line) =
-            λ r m. l₁ .queued _ (openNames-opens (rangesFirst c w) s m) in
-          queues-lined before (tasksOf c w) s₁
-          (task-rule c w (Ready (before ++ s₁ .line)) (λ q m. ready m (unconditional c q) refl first) (λ k m. first _ (constraint-first c w m))) l₁) l
+        let l₁ = openNames-lined before (rangesFirst c w) s l in
+        let first : (r : ℕ) → r ∈ rangesFirst c w → name (rangeName c r) ∈ (before ++ s₁ .line) =
+        λ r m. l₁ .queued _ (openNames-opens (rangesFirst c w) s m) in
+        queues-lined before (tasksOf c w) s₁
+        (task-rule c w (Ready (before ++ s₁ .line)) (λ q m. ready m (unconditional c q) refl first) (λ k m. first _ (constraint-first c w m))) l₁) l
       where
         ready : {q : ℕ} {ts : List Task} → q ∈ requirementsOf c w → (b : Bool) → unconditional c q ≡ b
             → ((r : ℕ) → r ∈ rangesFirst c w → name (rangeName c r) ∈ ts) → Ready ts (taskBy c b q)
@@ -154,7 +154,7 @@ module _ (c : Catalogue) where
       go : NamesFirst log (t ∷ ts) → InOrder (log ++ (t ∷ [])) (ts ++ (serve c f t o) .line) (setLine [] (serve c f t o))
       go (next h k) =
           let start : Queues ((log ++ (t ∷ [])) ++ ts) o =
-            rw e (record { in-order = end; queued = λ n m. rw (append-nil, append-assoc log (t ∷ []) ts) (l .queued n m) }) in
+          rw e (record { in-order = end; queued = λ n m. rw (append-nil, append-assoc log (t ∷ []) ts) (l .queued n m) }) in
           let l₁ = serve-lined ((log ++ (t ∷ [])) ++ ts) f t o start in
           record { in-order = behind k (l₁ .in-order); queued = λ n m. rw (append-assoc (log ++ (t ∷ [])) ts ((serve c f t o) .line)) at (l₁ .queued n m) }
 

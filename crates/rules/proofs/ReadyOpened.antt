@@ -30,8 +30,8 @@ module _ (c : Catalogue) where
   open-due x due s h =
       when-either (Opens due) _ _ s
       (λ e. unless-either (Opens due) _ _ s
-        (λ f. opened (s .owners) ⊆-refl (let w = any-out (sameOwner (part x)) (s .owners) f in rw (← same-owner (part x) (w .0) (w .2)) (w .1)))
-        (λ f. opened (s .owners ++ (part x ∷ [])) (λ w m. in-left _ m) (at-end (s .owners) (part x))))
+      (λ f. opened (s .owners) ⊆-refl (let w = any-out (sameOwner (part x)) (s .owners) f in rw (← same-owner (part x) (w .0) (w .2)) (w .1)))
+      (λ f. opened (s .owners ++ (part x ∷ [])) (λ w m. in-left _ m) (at-end (s .owners) (part x))))
       (λ e q m p k f. ⊎-elim inl (λ n. ⊎-elim (λ (a : p ≡ x). absurd (true≢false (sym f ∙ rw a e))) inr (List·Memᴰ·cases-cons n)) (h q m p k f))
     where
       opened : (ws : List Owner) → s .owners ⊆ ws → part x ∈ ws

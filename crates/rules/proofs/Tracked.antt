@@ -60,8 +60,8 @@ module _ (c : Catalogue) where
           ⊎-elim
           (λ k. candidate (at-end (s .handled) q) k)
           (λ k. let x = concatMap-out _ is k in
-            let y = concatMap-out (nonMatching c) _ (x .2) in
-            outside (in-right (s .fired) (map-in (λ i. (q, i)) (x .1))) (y .1) (y .2))
+          let y = concatMap-out (nonMatching c) _ (x .2) in
+          outside (in-right (s .fired) (map-in (λ i. (q, i)) (x .1))) (y .1) (y .2))
           (in-either (candidates c (goalAt c q)) m)
 
       old : {due : List ℕ} (p : ℕ) → Noticed [] (s .several) (s .named) (s .tracked) p → Noticed due (s .several) (s .named) (s .tracked) p
@@ -77,7 +77,7 @@ module _ (c : Catalogue) where
       each p (outside {q = r} {i = i} m k n) =
           ⊎-elim (λ l. old p (h .each p (outside l k n)))
           (λ l. let x = entries-out q is l in
-            is-due (in-right (candidates c (goalAt c q)) (concatMap-in _ is (x .1) (concatMap-in (nonMatching c) _ (rw (x .0) at k) n))))
+          is-due (in-right (candidates c (goalAt c q)) (concatMap-in _ is (x .1) (concatMap-in (nonMatching c) _ (rw (x .0) at k) n))))
           (in-either (s .fired) m)
 
   -- the first part that is due is named
@@ -126,7 +126,7 @@ module _ (c : Catalogue) where
     only-tracked = h .only-tracked;
     only-due = h .only-due;
     each = λ p a. elim (h .each p a) [
-      is-named m ↦ is-named m
+      | is-named m ↦ is-named m
       | is-tracked m ↦ is-tracked m
       | with-several m ↦ with-several (in-left _ m)
       | is-due m ↦ is-due m
@@ -164,7 +164,7 @@ module _ (c : Catalogue) where
     only-tracked = λ p m. ⊎-elim (h .only-tracked p) (h .only-named p) (joined-out c s p m);
     only-due = h .only-due;
     each = λ p a. elim (h .each p a) [
-      is-named m ↦ is-tracked (joined-in c s p (inr m))
+      | is-named m ↦ is-tracked (joined-in c s p (inr m))
       | is-tracked m ↦ is-tracked (joined-in c s p (inl m))
       | with-several m ↦ with-several m
       | is-due m ↦ is-due m
@@ -179,7 +179,7 @@ module _ (c : Catalogue) where
   pub asked-tracked : (s : Opening) → TracksAll s → s .named ≡ []
       → (p : ℕ) → Asked (s .handled) (s .fired) p → (p ∈ s .tracked) ⊎ (nameOf c p ∈ s .several)
   asked-tracked s h e p a = elim (h .each p a) [
-    is-named m ↦ absurd (List·Memᴰ·not-nil (rw e at m))
+    | is-named m ↦ absurd (List·Memᴰ·not-nil (rw e at m))
     | is-tracked m ↦ inl m
     | with-several m ↦ inr m
     | is-due m ↦ absurd (List·Memᴰ·not-nil m)
