@@ -9,6 +9,7 @@ use native.Mathlib.Omega.{arith}
 use lib.ListN.{length, getD, drop}
 use Rattle.rules.specs.Lists.{filter, listIf, concatMap, upTo}
 use Rattle.rules.specs.Called.{_∈_}
+use Rattle.rules.proofs.Ends.{All, all-append}
 
 module _ {A : Type 0} where
   -- ---- a test
@@ -97,6 +98,27 @@ module _ {A B : Type 0} where
   map-place f [] d e i l = absurd (not-suc-le-zero l)
   map-place f (x ∷ xs) d e zero l = refl
   map-place f (x ∷ xs) d e (suc i) l = map-place f xs d e i (le-of-suc-le-suc l)
+
+-- ---- a property of all members
+
+module _ {A : Type 0} (P : A → Type 0) where
+  pub all-in : {x : A} (xs : List A) → All P xs → x ∈ xs → P x
+  all-in (y ∷ xs) h (List·Memᴰ·head q) = rw q (h .0)
+  all-in (y ∷ xs) h (List·Memᴰ·tail m) = all-in xs (h .1) m
+
+  pub all-listIf : (b : Bool) (xs : List A) → (b ≡ true → All P xs) → All P (listIf b xs)
+  unfolding listIf
+  all-listIf true xs h = h refl
+  all-listIf false xs h = tt
+
+  pub all-map : {B : Type 0} (f : B → A) (xs : List B) → ((x : B) → x ∈ xs → P (f x)) → All P (map f xs)
+  all-map f [] h = tt
+  all-map f (x ∷ xs) h = (h x (List·Memᴰ·head refl), all-map f xs (λ y m. h y (List·Memᴰ·tail m)))
+
+  pub all-concatMap : {B : Type 0} (f : B → List A) (xs : List B) → ((x : B) → x ∈ xs → All P (f x)) → All P (concatMap f xs)
+  unfolding concatMap
+  all-concatMap f [] h = tt
+  all-concatMap f (x ∷ xs) h = all-append P (f x) (concatMap f xs) (h x (List·Memᴰ·head refl)) (all-concatMap f xs (λ y m. h y (List·Memᴰ·tail m)))
 
 -- ---- the numbers from i on
 
