@@ -46,7 +46,7 @@ module _ {P : Origin → Type 0} where
 
 -- ---- the same variables, the same clauses
 
-module _ (c : Catalogue) (old vs ws : List Origin) where
+module _ (c : Catalogue) (vs ws : List Origin) where
   -- these origins have the same variables in both lists
   abbrev Agree : List Origin → Type 0
   Agree os = Each (λ x. variableOf ws x ≡ variableOf vs x) os
@@ -55,27 +55,28 @@ module _ (c : Catalogue) (old vs ws : List Origin) where
       → map (λ p. f (partVariable ws p) p) ps ≡ map (λ p. f (partVariable vs p) p) ps
   parts-same f ps h = map-same _ _ ps (λ p m. ap (λ x. f x p) (h p m))
 
-  range-same : (n : ℕ) (ps : List ℕ) → Agree (rangeOrigins n ps) → rangeLiterals c old ws n ps ≡ rangeLiterals c old vs n ps
+  -- the variables before the event don't matter here
+  range-same : (a b : List Origin) (n : ℕ) (ps : List ℕ) → Agree (rangeOrigins n ps) → rangeLiterals c a ws n ps ≡ rangeLiterals c b vs n ps
   unfolding rangeOrigins rangeLiterals
-  range-same n [] h = rw (first h)
-  range-same n (p ∷ ps) h = parts-same (λ x m. pos x) (p ∷ ps) (of-parts (p ∷ ps) h)
+  range-same a b n [] h = rw (first h)
+  range-same a b n (p ∷ ps) h = parts-same (λ x m. pos x) (p ∷ ps) (of-parts (p ∷ ps) h)
 
-  disjunct-same : (d : List ℕ) → Agree (disjunctOrigins c d) → disjunctLiterals c old ws d ≡ disjunctLiterals c old vs d
+  pub disjunct-same : (a b : List Origin) (d : List ℕ) → Agree (disjunctOrigins c d) → disjunctLiterals c a ws d ≡ disjunctLiterals c b vs d
   unfolding disjunctOrigins disjunctLiterals
-  disjunct-same d h = concatMap-same _ _ d (λ r m. range-same (rangeName c r) (nonMatching c r) (λ x i. h x (in-concatMap _ d m i)))
+  disjunct-same a b d h = concatMap-same _ _ d (λ r m. range-same a b (rangeName c r) (nonMatching c r) (of-part _ d h m))
 
-  requirement-same : (f : Shape) (q : ℕ) (is : List ℕ) → variableOf ws (chosen (ownerAt c q)) ≡ variableOf vs (chosen (ownerAt c q))
+  requirement-same : (old : List Origin) (f : Shape) (q : ℕ) (is : List ℕ) → variableOf ws (chosen (ownerAt c q)) ≡ variableOf vs (chosen (ownerAt c q))
       → map (partVariable ws) (candidates c (goalAt c q)) ≡ map (partVariable vs) (candidates c (goalAt c q)) → Agree (shapeOrigins c f q is)
       → requirementClauses c old ws f (ownerAt c q) (goalAt c q) q is ≡ requirementClauses c old vs f (ownerAt c q) (goalAt c q) q is
   unfolding shapeOrigins requirementClauses
-  requirement-same direct q is o ps h = rw (o, ps)
-  requirement-same throughGate q is o ps h = rw (first h, o, ps)
-  requirement-same onFiring q is o ps h = map-same _ _ is (λ i m. rw (o, ps, disjunct-same (disjunctAt c q i) (λ x n. h x (in-concatMap _ is m n))))
+  requirement-same old direct q is o ps h = rw (o, ps)
+  requirement-same old throughGate q is o ps h = rw (first h, o, ps)
+  requirement-same old onFiring q is o ps h = map-same _ _ is (λ i m. rw (o, ps, disjunct-same old old (disjunctAt c q i) (of-part _ is h m)))
 
-  constraint-same : (b : Bool) (o : Owner) (r : ℕ) → Agree (chosen o ∷ constraintOrigins c b r) → constraintClauses c old ws b o r ≡ constraintClauses c old vs b o r
+  constraint-same : (old : List Origin) (b : Bool) (o : Owner) (r : ℕ) → Agree (chosen o ∷ constraintOrigins c b r) → constraintClauses c old ws b o r ≡ constraintClauses c old vs b o r
   unfolding constraintOrigins constraintClauses
-  constraint-same true o r h = rw (first h) (parts-same (λ x p. constrains (variableOf vs (chosen o)) x) (nonMatching c r) (of-parts (nonMatching c r) (rest h)))
-  constraint-same false o r h =
+  constraint-same old true o r h = rw (first h) (parts-same (λ x p. constrains (variableOf vs (chosen o)) x) (nonMatching c r) (of-parts (nonMatching c r) (rest h)))
+  constraint-same old false o r h =
       rw (first h, first (rest h), parts-same (λ x p. auxOut x (variableOf vs (violation r))) (nonMatching c r) (of-parts (nonMatching c r) (rest (rest h))))
 
   unknown-same : (b : Bool) (p : ℕ) → Agree (listIf b (partOrigin p ∷ []))
@@ -84,26 +85,26 @@ module _ (c : Catalogue) (old vs ws : List Origin) where
   unknown-same true p h = rw (first h)
   unknown-same false p h = refl
 
-  pub same-clauses : (t : Task) → Agree (taskOrigins c t) → taskClauses c old ws t ≡ taskClauses c old vs t
+  pub same-clauses : (old : List Origin) (t : Task) → Agree (taskOrigins c t) → taskClauses c old ws t ≡ taskClauses c old vs t
   unfolding taskOrigins taskClauses
-  same-clauses (owner root) h = refl
-  same-clauses (owner (part p)) h = unknown-same ((partAt c p) .unknown) p h
-  same-clauses (name n) h =
+  same-clauses old (owner root) h = refl
+  same-clauses old (owner (part p)) h = unknown-same ((partAt c p) .unknown) p h
+  same-clauses old (name n) h =
       let outs = lockedOut c n in
       let k : (p : ℕ) → p ∈ (outs ++ excludedParts c n) → _ = λ p m. of-parts _ h p (Memᴰ·append-right (lockedPart c n) m) in
       rw (
         parts-same (λ x p. lock x) outs (λ p m. k p (Memᴰ·append-left (excludedParts c n) m)),
         parts-same (λ x p. excluded x p exclusion) (excludedParts c n) (λ p m. k p (Memᴰ·append-right outs m)),
       )
-  same-clauses (condition q) h = refl
-  same-clauses (requirement q is) h =
+  same-clauses old (condition q) h = refl
+  same-clauses old (requirement q is) h =
       let ps = candidates c (goalAt c q) in
-      requirement-same (shapeOf c q) q is (first h) (parts-same (λ x p. x) ps (of-parts ps (left (map partOrigin ps) _ (rest h)))) (right (map partOrigin ps) _ (rest h))
-  same-clauses (constraint k) h = constraint-same (few (nonMatching c (constraintRange c k))) _ (constraintRange c k) h
+      requirement-same old (shapeOf c q) q is (first h) (parts-same (λ x p. x) ps (of-parts ps (left (map partOrigin ps) _ (rest h)))) (right (map partOrigin ps) _ (rest h))
+  same-clauses old (constraint k) h = constraint-same old (few (nonMatching c (constraintRange c k))) _ (constraintRange c k) h
 
 pub stable : (c : Catalogue) (old : List Origin) {vs ws : List Origin} → Prefix vs ws → (t : Task) → ((x : Origin) → x ∈ taskOrigins c t → known vs x ≡ true)
     → taskClauses c old ws t ≡ taskClauses c old vs t
-stable c old {vs} {ws} p t h = same-clauses c old vs ws t (λ x m. keeps-variable p x (h x m) .1)
+stable c old {vs} {ws} p t h = same-clauses c vs ws old t (λ x m. keeps-variable p x (h x m) .1)
 
 -- ---- variables below a bound, literals below it
 
