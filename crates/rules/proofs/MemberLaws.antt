@@ -2,7 +2,7 @@
 use mathlib.Core.Path.{_≡_, refl, sym, _∙_, ap}
 use mathlib.Core.Logic.{_⊎_, inl, inr, ⊎-elim}
 use mathlib.Core.Bool.{Bool, true, false, true≢false, false≢true}
-use mathlib.Core.List.{List, [], _∷_, _++_, map, List·Memᴰ·head, List·Memᴰ·tail, Memᴰ·append-left, Memᴰ·append-right, List·Memᴰ·append-cases, append-assoc}
+use mathlib.Core.List.{List, [], _∷_, _++_, map, List·Memᴰ·head, List·Memᴰ·tail, Memᴰ·append-left, Memᴰ·append-right, List·Memᴰ·append-cases, List·Memᴰ·eq-of-singleton}
 use Prim.Native.Nat.{ℕ, zero, suc, _+_, _<_, _≤_, zero-le, suc-le-suc}
 use native.Mathlib.Nat.{add-zero, add-suc, suc-add, le-of-suc-le-suc, not-suc-le-zero}
 use native.Mathlib.Omega.{arith}
@@ -12,6 +12,14 @@ use Rattle.rules.specs.Called.{_∈_}
 use Rattle.rules.proofs.Ends.{All, all-append}
 
 module _ {A : Type 0} where
+  -- ---- one more at the end
+
+  pub of-snoc : {x y : A} (xs : List A) → x ∈ (xs ++ (y ∷ [])) → (x ∈ xs) ⊎ (x ≡ y)
+  of-snoc xs m = ⊎-elim inl (λ m. inr (List·Memᴰ·eq-of-singleton m)) (List·Memᴰ·append-cases xs m)
+
+  pub last-in : {x : A} (xs : List A) → x ∈ (xs ++ (x ∷ []))
+  last-in xs = Memᴰ·append-right xs (List·Memᴰ·head refl)
+
   -- ---- a test
 
   pub of-listIf : {x : A} (b : Bool) (xs : List A) → x ∈ listIf b xs → (b ≡ true) × (x ∈ xs)
@@ -54,6 +62,14 @@ module _ {A : Type 0} where
           → elim b [ true ↦ x ∷ filter f (xs ++ ys) | false ↦ filter f (xs ++ ys) ] ≡ elim b [ true ↦ x ∷ filter f xs | false ↦ filter f xs ] ++ filter f ys
       go true e = ap (λ l. x ∷ l) e
       go false e = e
+
+  pub filter-one : (f : A → Bool) (x : A) → ((f x ≡ true) × (filter f (x ∷ []) ≡ x ∷ [])) ⊎ (filter f (x ∷ []) ≡ [])
+  unfolding filter
+  filter-one f x = go (f x) refl
+    where
+      go : (b : Bool) → f x ≡ b → ((f x ≡ true) × (filter f (x ∷ []) ≡ x ∷ [])) ⊎ (filter f (x ∷ []) ≡ [])
+      go true e = inl (e, rw (e, filter))
+      go false e = inr (rw (e, filter))
 
   -- ---- places
 
