@@ -22,6 +22,7 @@ use Rattle.rules.proofs.Grows.{Prefix, withVariables-prefix}
 use Rattle.rules.proofs.Places.{stands, keeps-variable, withVariables-known}
 use Rattle.rules.proofs.Known.{prefix-self, prefix-length, known-or-named, below-known, in-known, of-known}
 use Rattle.rules.proofs.MemberLaws.{of-snoc, last-in, all-in}
+use Rattle.rules.proofs.Ends.{All}
 use Rattle.rules.proofs.Tracked.{of-trackedOf, tracked-place}
 use Rattle.rules.proofs.Stable.{same-clauses, Below, ClauseBelow, task-below}
 use Rattle.rules.proofs.Asked.{Asks, asks, Shared, of-gate, of-violation, task-whole, task-once, gate-own, violation-own}
@@ -234,3 +235,28 @@ module _ (c : Catalogue) (log : List Task) (before : ℕ) (tracked : List ℕ) (
             stored-step (stored-moved c log before tracked p (e .numbered) (e .within) (e .stored)) served-source (λ k i. of-task (last-in log) (task-whole c vs _ t i))
             (source-served (e .numbered));
       }
+
+pub serveTask-encoded : (c : Catalogue) (r : Run) (t : Task) (s : State) {log : List Task} {tracked : List ℕ} → Encoded c log (r .before) tracked (s .variables) (s .clauses)
+    → Encoded c (log ++ (t ∷ [])) (r .before) tracked ((serveTask c r t s) .variables) ((serveTask c r t s) .clauses)
+serveTask-encoded c r t s e = rw (serveTask-variables c r t s, serveTask-clauses c r t s) (serve-encoded c _ (r .before) _ t e)
+
+-- ---- every literal has a variable
+
+module _ {c : Catalogue} {log : List Task} {tracked : List ℕ} {vs : List Origin} (n : Numbered c log tracked vs) where
+  named-below : {x : Origin} → Named c log tracked x → variableOf vs x < length vs
+  named-below {x} m = stands vs x (chosen root) (n .named-known m) .0
+
+  -- "Variable 0 is the root"
+  pub root-stands : (d : Origin) → (0 < length vs) × (getD vs 0 d ≡ chosen root)
+  root-stands d = rw (n .root-first) at (stands vs (chosen root) d (n .named-known by-start))
+
+  source-below : {before : ℕ} {k : Clause} → Source c log before tracked vs k → All (Below (length vs)) (literals k)
+  unfolding literals
+  source-below of-start = (root-stands (chosen root) .0, tt)
+  source-below (of-task {t} m i) = all-in _ _ (task-below c [] vs (length vs) (root-stands (chosen root) .0) t (λ x o. named-below (by-task m o))) i
+  source-below (of-bit m i j l h) = (named-below (by-joining (tracked-place c m tracked i l)), (named-below (as-helper m h), tt))
+  source-below (of-one {n = m} r i) = (stands vs (one m) (chosen root) (r .is-known) .0, (named-below (by-joining (of-trackedOf c m tracked i .0)), tt))
+
+pub every-literal-below : {c : Catalogue} {log : List Task} {before : ℕ} {tracked : List ℕ} {vs : List Origin} {ks : List Clause} → Encoded c log before tracked vs ks
+    → {k : Clause} → k ∈ ks → {l : Literal} → l ∈ literals k → l .variable < length vs
+every-literal-below {vs = vs} e {k} m i = all-in (Below (length vs)) (literals k) (source-below (e .numbered) (e .stored .only m)) i
