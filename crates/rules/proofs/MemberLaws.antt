@@ -63,13 +63,13 @@ module _ {A : Type 0} where
       go true e = ap (λ l. x ∷ l) e
       go false e = e
 
-  pub filter-one : (f : A → Bool) (x : A) → ((f x ≡ true) × (filter f (x ∷ []) ≡ x ∷ [])) ⊎ (filter f (x ∷ []) ≡ [])
+  pub filter-pass : (f : A → Bool) (x : A) → f x ≡ true → filter f (x ∷ []) ≡ x ∷ []
   unfolding filter
-  filter-one f x = go (f x) refl
-    where
-      go : (b : Bool) → f x ≡ b → ((f x ≡ true) × (filter f (x ∷ []) ≡ x ∷ [])) ⊎ (filter f (x ∷ []) ≡ [])
-      go true e = inl (e, rw (e, filter))
-      go false e = inr (rw (e, filter))
+  filter-pass f x e = rw (e, filter)
+
+  pub filter-stop : (f : A → Bool) (x : A) → f x ≡ false → filter f (x ∷ []) ≡ []
+  unfolding filter
+  filter-stop f x e = rw (e, filter)
 
   -- ---- places
 

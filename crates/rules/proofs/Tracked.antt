@@ -1,17 +1,18 @@
 -- The tracked parts of a name: they keep their places when a part joins, and a part joins the list of its own name only.
 use mathlib.Core.Path.{_≡_, refl, _∙_, ap}
-use mathlib.Core.Logic.{_⊎_, inl, inr, ⊎-elim}
+use mathlib.Core.Logic.{_⊎_, inl, inr}
 use mathlib.Core.Bool.{Bool, true, false}
 use mathlib.Core.List.{List, [], _∷_, _++_, append-nil}
-use Prim.Native.Nat.{ℕ, _<_}
+use Prim.Native.Nat.{ℕ, _<_, _≤_}
+use native.Mathlib.Omega.{arith}
 use lib.Dec.{eqb}
-use lib.ListN.{length, getD}
+use lib.ListN.{length, getD, length-append, List·getD-append}
 use borrow.Author.Tests.{eqb-true, eq-eqb}
 use Rattle.rules.specs.Lists.{filter}
 use Rattle.rules.specs.Catalogue.{Catalogue, nameOf}
 use Rattle.rules.specs.Opening.{trackedOf}
 use Rattle.rules.specs.Called.{_∈_}
-use Rattle.rules.proofs.MemberLaws.{in-filter, of-filter, filter-append, filter-one, at-place}
+use Rattle.rules.proofs.MemberLaws.{in-filter, of-filter, filter-append, filter-pass, filter-stop, at-place}
 
 module _ (c : Catalogue) where
   pub of-trackedOf : {p : ℕ} (n : ℕ) (ps : List ℕ) → p ∈ trackedOf c n ps → (p ∈ ps) × (nameOf c p ≡ n)
@@ -26,15 +27,26 @@ module _ (c : Catalogue) where
   pub tracked-place : (n : ℕ) (ps : List ℕ) (i : ℕ) → i < length (trackedOf c n ps) → getD (trackedOf c n ps) i 0 ∈ ps
   tracked-place n ps i l = of-trackedOf n ps (at-place (trackedOf c n ps) 0 i l) .0
 
-  pub trackedOf-append : (n : ℕ) (ps qs : List ℕ) → trackedOf c n (ps ++ qs) ≡ trackedOf c n ps ++ trackedOf c n qs
+  trackedOf-append : (n : ℕ) (ps qs : List ℕ) → trackedOf c n (ps ++ qs) ≡ trackedOf c n ps ++ trackedOf c n qs
   unfolding trackedOf
   trackedOf-append n ps qs = filter-append _ ps qs
 
-  -- a part joins: at the end of its name's list, and no other name's list changes
-  pub joined-name : (n : ℕ) (ps : List ℕ) (p : ℕ)
-      → ((nameOf c p ≡ n) × (trackedOf c n (ps ++ (p ∷ [])) ≡ trackedOf c n ps ++ (p ∷ []))) ⊎ (trackedOf c n (ps ++ (p ∷ [])) ≡ trackedOf c n ps)
+  pub more-tracked : (n : ℕ) (ps qs : List ℕ) → length (trackedOf c n ps) ≤ length (trackedOf c n (ps ++ qs))
+  more-tracked n ps qs = rw (trackedOf-append n ps qs, length-append (trackedOf c n ps) (trackedOf c n qs)) (omega arith)
+
+  -- "part i" stays part i
+  pub same-place : (n : ℕ) (ps qs : List ℕ) (i : ℕ) → i < length (trackedOf c n ps) → getD (trackedOf c n (ps ++ qs)) i 0 ≡ getD (trackedOf c n ps) i 0
+  same-place n ps qs i l = rw (trackedOf-append n ps qs) (List·getD-append (trackedOf c n ps) (trackedOf c n qs) 0 i l)
+
+  pub own-name : (ps : List ℕ) (p : ℕ) → trackedOf c (nameOf c p) (ps ++ (p ∷ [])) ≡ trackedOf c (nameOf c p) ps ++ (p ∷ [])
   unfolding trackedOf
-  joined-name n ps p =
-      ⊎-elim (λ r. inl (eqb-true (nameOf c p) n (r .0), trackedOf-append n ps (p ∷ []) ∙ ap (λ l. trackedOf c n ps ++ l) (r .1)))
-      (λ r. inr (trackedOf-append n ps (p ∷ []) ∙ (ap (λ l. trackedOf c n ps ++ l) r ∙ append-nil (trackedOf c n ps))))
-      (filter-one (λ q. eqb (nameOf c q) n) p)
+  own-name ps p = filter-append _ ps (p ∷ []) ∙ ap (λ l. trackedOf c (nameOf c p) ps ++ l) (filter-pass _ p (eq-eqb (nameOf c p) (nameOf c p) refl))
+
+  -- the parts of any other name stay as they are
+  pub other-name : (n : ℕ) (ps : List ℕ) (p : ℕ) → (nameOf c p ≡ n) ⊎ (trackedOf c n (ps ++ (p ∷ [])) ≡ trackedOf c n ps)
+  unfolding trackedOf
+  other-name n ps p = go (eqb (nameOf c p) n) refl
+    where
+      go : (b : Bool) → eqb (nameOf c p) n ≡ b → (nameOf c p ≡ n) ⊎ (trackedOf c n (ps ++ (p ∷ [])) ≡ trackedOf c n ps)
+      go true e = inl (eqb-true (nameOf c p) n e)
+      go false e = inr (filter-append _ ps (p ∷ []) ∙ (ap (λ l. trackedOf c n ps ++ l) (filter-stop _ p e) ∙ append-nil (trackedOf c n ps)))
