@@ -117,7 +117,7 @@ module _ (c : Catalogue) (log : List Task) (before : ℕ) (tracked : List ℕ) w
       let q = ones n r in
       rw (← (q .1), ← (same _ (by-joining (of-trackedOf c n tracked m .0)))) (of-one (q .0) m)
 
-  stored-moved : {vs ws : List Origin} {ks : List Clause} → Prefix vs ws → Numbered c log tracked vs → before ≤ length vs
+  pub stored-moved : {vs ws : List Origin} {ks : List Clause} → Prefix vs ws → Numbered c log tracked vs → before ≤ length vs
       → Stored c log before tracked vs ks → Stored c log before tracked ws ks
   stored-moved {vs} {ws} p n w s = record { only = λ m. source-moved forth forth-one (s .only m); every = λ k. s .every (source-moved back back-one k) }
     where

@@ -20,6 +20,10 @@ module _ {A : Type 0} where
   pub last-in : {x : A} (xs : List A) → x ∈ (xs ++ (x ∷ []))
   last-in xs = Memᴰ·append-right xs (List·Memᴰ·head refl)
 
+  pub length-snoc : (xs : List A) (x : A) → length (xs ++ (x ∷ [])) ≡ suc (length xs)
+  length-snoc [] x = refl
+  length-snoc (y ∷ xs) x = ap suc (length-snoc xs x)
+
   -- ---- a test
 
   pub of-listIf : {x : A} (b : Bool) (xs : List A) → x ∈ listIf b xs → (b ≡ true) × (x ∈ xs)
