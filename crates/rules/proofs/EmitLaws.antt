@@ -1,7 +1,7 @@
 -- What an event makes: `emit` adds the event's variables and clauses and no others. Forced values and conflicts touch neither.
 use mathlib.Core.Path.{_≡_, refl, sym, _∙_, ap}
 use mathlib.Core.Bool.{Bool, true, false}
-use mathlib.Core.List.{List, [], _∷_, _++_, append-nil, append-assoc}
+use mathlib.Core.List.{List, [], _∷_, _++_, append-nil, append-assoc, List·Memᴰ·head, List·Memᴰ·tail}
 use Prim.Native.Nat.{ℕ, suc}
 use lib.ListN.{length}
 use Rattle.rules.specs.Lists.{concatMap, fold, when}
@@ -9,12 +9,14 @@ use Rattle.rules.specs.Literal.{Literal, pos, neg}
 use Rattle.rules.specs.Clause.{Clause, install, requires, gated, excluded, constrains, forbid, auxOut, auxOwner, lock, anyGate, anyOne}
 use Rattle.rules.specs.Catalogue.{Catalogue}
 use Rattle.rules.specs.Decisions.{Evaluation, undecided, satisfied, falsified, evaluate, isUndecided}
-use Rattle.rules.specs.Variables.{Origin, withVariables}
+use Rattle.rules.specs.Variables.{Origin, known, withVariables}
 use Rattle.rules.specs.Opening.{Task, Opening}
 use Rattle.rules.specs.Encoding.{Event, served, taskOrigins, taskClauses, origins, clauses}
 use Rattle.rules.specs.State.{State, Run, report, force, propagateBy, propagate, effect, effects, emit, emitAll}
 use Rattle.rules.specs.Run.{serveTask}
+use Rattle.rules.specs.Called.{_∈_}
 use Rattle.rules.proofs.Ends.{emit-opening}
+use Rattle.rules.proofs.Known.{unchanged}
 
 -- ---- forced values and conflicts
 
@@ -123,3 +125,13 @@ module _ (c : Catalogue) (r : Run) where
   unfolding emitAll fold
   emitAll-opening [] s = refl
   emitAll-opening (e ∷ es) s = emitAll-opening es (emit c r e s) ∙ emit-opening c r e s
+
+-- events that name no new variable
+pub settled : (c : Catalogue) (before : ℕ) (vs : List Origin) (es : List Event) → ((e : Event) → e ∈ es → (x : Origin) → x ∈ origins c e → known vs x ≡ true)
+    → (variablesAfterAll c es vs ≡ vs) × (clausesOfAll c before vs es ≡ concatMap (clauses c vs vs before) es)
+unfolding variablesAfterAll clausesOfAll concatMap
+settled c before vs [] h = (refl, refl)
+settled c before vs (e ∷ es) h =
+    let same = unchanged (origins c e) vs (h e (List·Memᴰ·head refl)) in
+    let r = settled c before vs es (λ d m. h d (List·Memᴰ·tail m)) in
+    rw same (r .0, ap (λ l. clauses c vs vs before e ++ l) (r .1))

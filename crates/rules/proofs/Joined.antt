@@ -3,7 +3,7 @@
 use mathlib.Core.Path.{_≡_, refl, sym, _∙_, ap}
 use mathlib.Core.Logic.{_⊎_, inl, inr, ⊎-elim}
 use mathlib.Core.Bool.{Bool, true, false}
-use mathlib.Core.List.{List, [], _∷_, _++_, map, map-append, append-assoc, List·Memᴰ·head, List·Memᴰ·tail, List·Memᴰ·cases-cons, List·Memᴰ·append-cases, List·Memᴰ·eq-of-singleton, Memᴰ·append-left, Memᴰ·append-right, Memᴰ·map, Memᴰ·of-map}
+use mathlib.Core.List.{List, [], _∷_, _++_, map, map-append, append-nil, append-assoc, List·Memᴰ·head, List·Memᴰ·tail, List·Memᴰ·cases-cons, List·Memᴰ·append-cases, List·Memᴰ·eq-of-singleton, Memᴰ·append-left, Memᴰ·append-right, Memᴰ·map, Memᴰ·of-map}
 use Prim.Native.Nat.{ℕ, zero, suc, _<_, _≤_}
 use native.Mathlib.Nat.{zero-add, le-refl, le-trans}
 use native.Mathlib.Omega.{arith}
@@ -14,8 +14,8 @@ use Rattle.rules.specs.Lists.{snoc, concatMap, upTo}
 use Rattle.rules.specs.Clause.{Clause}
 use Rattle.rules.specs.AtMostOne.{bit, helpersFor, agrees, joinClauses}
 use Rattle.rules.specs.Catalogue.{Catalogue, root, nameOf}
-use Rattle.rules.specs.Variables.{Origin, chosen, forbid, one, known, variableOf, withVariables, partOrigin, partVariable}
-use Rattle.rules.specs.Opening.{Task, trackedOf, joining, endRun}
+use Rattle.rules.specs.Variables.{Origin, chosen, forbid, one, violation, gate, known, variableOf, withVariables, partOrigin, partVariable}
+use Rattle.rules.specs.Opening.{Task, Opening, trackedOf, joining, endRun}
 use Rattle.rules.specs.Encoding.{Event, joins, links, helpersOf, origins, clauses}
 use Rattle.rules.specs.State.{State, setOpening, Run, emit, emitAll}
 use Rattle.rules.specs.Run.{nameIfOne, joinsFrom, linksFor, joinAll, linkAll}
@@ -26,7 +26,7 @@ use Rattle.rules.proofs.Known.{prefix-self, prefix-length, in-known, un
 use Rattle.rules.proofs.MemberLaws.{of-snoc, last-in, length-snoc, of-listIf, in-listIf, behind, of-drop, in-concatMap, of-concatMap, map-place, length-upTo, upTo-place, in-upTo, of-upTo}
 use Rattle.rules.proofs.Tracked.{of-trackedOf, in-trackedOf, more-tracked, same-place, own-name, other-name}
 use Rattle.rules.proofs.JoinClauses.{more-helpers, Bit, join-only, join-every}
-use Rattle.rules.proofs.EmitLaws.{variablesAfter, clausesOf, variablesAfterAll, clausesOfAll, emitAll-variables, emitAll-clauses, emitAll-opening}
+use Rattle.rules.proofs.EmitLaws.{variablesAfter, clausesOf, variablesAfterAll, clausesOfAll, emitAll-variables, emitAll-clauses, emitAll-opening, settled}
 use Rattle.rules.proofs.Encoded.{helperCount, Named, by-start, by-task, by-joining, as-helper, Numbered, bitClause, oneClause, Linked, Source, of-start, of-task, of-bit, of-one, Stored, Encoded, stored-moved, numbered-step, stored-step}
 
 -- ---- helper j of a name with k tracked parts
@@ -200,3 +200,129 @@ module _ (c : Catalogue) (log : List Task) (before : ℕ) (tracked : List ℕ) (
         within = w;
         stored = stored-step (stored-moved c log before tracked g (e .numbered) (e .within) (e .stored)) joined-source (join-source vs ws w) (source-joined vs ws);
       }
+
+-- ---- all joining parts
+
+pub joins-encoded : (c : Catalogue) (log : List Task) (before : ℕ) (ps tracked : List ℕ) {vs : List Origin} {ks : List Clause} → Encoded c log before tracked vs ks
+    → Encoded c log before (tracked ++ ps) (variablesAfterAll c (joinsFrom c tracked ps) vs) (ks ++ clausesOfAll c before vs (joinsFrom c tracked ps))
+unfolding joinsFrom snoc variablesAfterAll clausesOfAll
+joins-encoded c log before [] tracked {ks = ks} e = rw (append-nil tracked, append-nil ks) e
+joins-encoded c log before (p ∷ ps) tracked {ks = ks} e =
+    rw (← (append-assoc tracked (p ∷ []) ps), ← (append-assoc ks _ _)) (joins-encoded c log before ps (tracked ++ (p ∷ [])) (join-encoded c log before tracked p e))
+
+-- ---- the new one-of-name variables
+
+of-nameIfOne : {n : ℕ} (x : Origin) → n ∈ nameIfOne x → x ≡ one n
+unfolding nameIfOne
+of-nameIfOne (one n) m = ap one (sym (List·Memᴰ·eq-of-singleton m))
+
+module _ (c : Catalogue) where
+  data Link (new : List Origin) (tracked : List ℕ) : Event → Type 0 where
+    link : (n : ℕ) → one n ∈ new → Link new tracked (links n (trackedOf c n tracked))
+
+  of-links : (new : List Origin) (tracked : List ℕ) {e : Event} → e ∈ linksFor c new tracked → Link new tracked e
+  unfolding linksFor
+  of-links new tracked m =
+      let n = Memᴰ·of-map _ (concatMap nameIfOne new) m in
+      let x = of-concatMap nameIfOne new (n .1) in
+      let l : Link new tracked (links (n .0) (trackedOf c (n .0) tracked)) = link (n .0) (rw (of-nameIfOne (x .0) (x .2)) at (x .1)) in
+      rw (n .2) at l
+
+  in-links : (new : List Origin) (tracked : List ℕ) (n : ℕ) → one n ∈ new → links n (trackedOf c n tracked) ∈ linksFor c new tracked
+  unfolding linksFor nameIfOne
+  in-links new tracked n m = Memᴰ·map (λ n. links n (trackedOf c n tracked)) (in-concatMap nameIfOne new m (List·Memᴰ·head refl))
+
+  module _ (log : List Task) (before : ℕ) (tracked : List ℕ) (vs : List Origin) where
+    abbrev events : List Event
+    events = linksFor c (drop before vs) tracked
+
+    abbrev linking : List Clause
+    linking = concatMap (clauses c vs vs before) events
+
+    link-known : Numbered c log tracked vs → {e : Event} → Link (drop before vs) tracked e → (x : Origin) → x ∈ origins c e → known vs x ≡ true
+    unfolding origins
+    link-known v (link n m) x i =
+        ⊎-elim (λ q. rw q (in-known vs (of-drop before vs m)))
+        (λ j. let p = Memᴰ·of-map partOrigin (trackedOf c n tracked) j in rw (← (p .2)) (v .named-known (by-joining (of-trackedOf c n tracked (p .1) .0))))
+        (List·Memᴰ·cases-cons i)
+
+    linked-source : before ≤ length vs → (k : Clause) → Source c log before tracked vs k → Source c log (length vs) tracked vs k
+    linked-source w k of-start = of-start
+    linked-source w k (of-task m i) = of-task m i
+    linked-source w k (of-bit n i j l h) = of-bit n i j l h
+    linked-source w k (of-one r m) = of-one (record { is-known = r .is-known; older = le-trans (r .older) w }) m
+
+    link-clause : {e : Event} → Link (drop before vs) tracked e → (k : Clause) → k ∈ clauses c vs vs before e → Source c log (length vs) tracked vs k
+    unfolding clauses
+    link-clause (link n m) k i =
+        let p = Memᴰ·of-map (oneClause vs n) (trackedOf c n tracked) i in
+        let e = in-known vs (of-drop before vs m) in
+        rw (← (p .2)) (of-one (record { is-known = e; older = stands vs (one n) (chosen root) e .0 }) (p .1))
+
+    links-source : (k : Clause) → k ∈ linking → Source c log (length vs) tracked vs k
+    links-source k m = let e = of-concatMap (clauses c vs vs before) events m in link-clause (of-links (drop before vs) tracked (e .1)) k (e .2)
+
+    one-linked : (n : ℕ) {p : ℕ} → known vs (one n) ≡ true → before ≤ variableOf vs (one n) → p ∈ trackedOf c n tracked → oneClause vs n p ∈ linking
+    unfolding clauses
+    one-linked n e l m =
+        let s = stands vs (one n) (chosen root) e in
+        let here : one n ∈ drop before vs = rw (s .1) at (behind vs (chosen root) before (variableOf vs (one n)) l (s .0)) in
+        in-concatMap (clauses c vs vs before) events (in-links (drop before vs) tracked n here) (Memᴰ·map (oneClause vs n) m)
+
+    one-sourced : (b : Bool) (n : ℕ) {p : ℕ} → ltb (variableOf vs (one n)) before ≡ b → known vs (one n) ≡ true → p ∈ trackedOf c n tracked
+        → Source c log before tracked vs (oneClause vs n p) ⊎ (oneClause vs n p ∈ linking)
+    one-sourced true n l e m = inl (of-one (record { is-known = e; older = ltb-true _ before l }) m)
+    one-sourced false n l e m = inr (one-linked n e (ltb-false _ before l) m)
+
+    source-linked : (k : Clause) → Source c log (length vs) tracked vs k → Source c log before tracked vs k ⊎ (k ∈ linking)
+    source-linked k of-start = inl of-start
+    source-linked k (of-task m i) = inl (of-task m i)
+    source-linked k (of-bit n i j l h) = inl (of-bit n i j l h)
+    source-linked k (of-one {n} r m) = one-sourced _ n refl (r .is-known) m
+
+    pub links-encoded : {ks : List Clause} → Encoded c log before tracked vs ks → Encoded c log (length vs) tracked vs (ks ++ linking)
+    links-encoded e = record {
+      numbered = e .numbered;
+      within = le-refl (length vs);
+      stored = stored-step (e .stored) (linked-source (e .within)) links-source source-linked;
+    }
+
+-- ---- a run's end
+
+same-tracked : {c : Catalogue} {log : List Task} {before : ℕ} {ps qs : List ℕ} {vs : List Origin} {ks : List Clause} → ps ≡ qs
+    → Encoded c log before ps vs ks → Encoded c log before qs vs ks
+same-tracked q e = rw q at e
+
+module _ (c : Catalogue) (r : Run) (s : State) where
+  abbrev joined : List ℕ
+  joined = s .opening .tracked ++ joining c (s .opening)
+
+  joinAll-opening : (joinAll c r s) .opening ≡ endRun c (s .opening)
+  unfolding joinAll
+  joinAll-opening = emitAll-opening c r _ _
+
+  joinAll-tracked : (joinAll c r s) .opening .tracked ≡ joined
+  unfolding endRun
+  joinAll-tracked = ap (λ (o : Opening). o .tracked) joinAll-opening
+
+  joinAll-encoded : {log : List Task} → Encoded c log (r .before) (s .opening .tracked) (s .variables) (s .clauses)
+      → Encoded c log (r .before) joined ((joinAll c r s) .variables) ((joinAll c r s) .clauses)
+  unfolding joinAll
+  joinAll-encoded e = rw (emitAll-variables c r _ _, emitAll-clauses c r _ _) (joins-encoded c _ (r .before) (joining c (s .opening)) (s .opening .tracked) e)
+
+  linkAll-encoded : {log : List Task} → Encoded c log (r .before) (s .opening .tracked) (s .variables) (s .clauses)
+      → Encoded c log (length ((linkAll c r s) .variables)) (s .opening .tracked) ((linkAll c r s) .variables) ((linkAll c r s) .clauses)
+  unfolding linkAll
+  linkAll-encoded {log} e =
+      let es = linksFor c (drop (r .before) (s .variables)) (s .opening .tracked) in
+      let same = settled c (r .before) (s .variables) es (λ d m. link-known c log (r .before) (s .opening .tracked) (s .variables) (e .numbered) (of-links c _ _ m)) in
+      rw (emitAll-variables c r es s, same .0, emitAll-clauses c r es s, same .1) (links-encoded c log (r .before) (s .opening .tracked) (s .variables) e)
+
+pub run-end-opening : (c : Catalogue) (r : Run) (s : State) → (linkAll c r (joinAll c r s)) .opening ≡ endRun c (s .opening)
+unfolding linkAll
+run-end-opening c r s = emitAll-opening c r _ (joinAll c r s) ∙ joinAll-opening c r s
+
+pub run-end : (c : Catalogue) (r : Run) (s : State) {log : List Task} → Encoded c log (r .before) (s .opening .tracked) (s .variables) (s .clauses)
+    → Encoded c log (length ((linkAll c r (joinAll c r s)) .variables)) (s .opening .tracked ++ joining c (s .opening))
+    ((linkAll c r (joinAll c r s)) .variables) ((linkAll c r (joinAll c r s)) .clauses)
+run-end c r s e = same-tracked (joinAll-tracked c r s) (linkAll-encoded c r (joinAll c r s) (same-tracked (sym (joinAll-tracked c r s)) (joinAll-encoded c r s e)))
