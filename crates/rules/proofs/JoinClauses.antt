@@ -74,51 +74,48 @@ unfolding partClauses
 part-only x i j (y ∷ ys) (List·Memᴰ·head q) = (zero, suc-le-suc zero-le, rw add-zero q)
 part-only x i j (y ∷ ys) (List·Memᴰ·tail m) = let r = part-only x i (suc j) ys m in (suc (r .0), suc-le-suc (r .1), rw (add-suc, ← suc-add) (r .2))
 
--- ---- the join
+-- ---- the join: the parts xs, and x behind them
+
+new-helpers : (g : ℕ) (xs : List ℕ) (x : ℕ) (ys : List ℕ) {k : Clause} → k ∈ helpersClauses g (drop g ys) xs → Bit (xs ++ (x ∷ [])) ys k
+new-helpers g xs x ys m =
+    let r = helpers-only g (drop g ys) xs m in
+    record {
+      place = r .1;
+      helper = g + r .0;
+      place-below = rw (length-append xs (x ∷ [])) (omega (arith, r .3));
+      helper-below = omega (arith, length-drop g ys, r .2);
+      is = rw (List·getD-append xs (x ∷ []) 0 (r .1) (r .3), ← (getD-drop g ys (r .0) 0)) (r .4);
+    }
+
+new-part : (xs : List ℕ) (x : ℕ) (ys : List ℕ) {k : Clause} → k ∈ partClauses x (length xs) 0 ys → Bit (xs ++ (x ∷ [])) ys k
+new-part xs x ys m =
+    let r = part-only x (length xs) 0 ys m in
+    record {
+      place = length xs;
+      helper = r .0;
+      place-below = rw (length-append xs (x ∷ [])) (omega arith);
+      helper-below = r .1;
+      is = rw (getD-append-seam xs x [] 0) (rw (zero-add (r .0)) at (r .2));
+    }
 
 pub join-only : (xs : List ℕ) (x : ℕ) (ys : List ℕ) {k : Clause} → k ∈ joinClauses xs x ys → Bit (xs ++ (x ∷ [])) ys k
 unfolding joinClauses
-join-only xs x ys {k} m = ⊎-elim of-helpers of-part (List·Memᴰ·append-cases (helpersClauses h (drop h ys) xs) m)
+join-only xs x ys m = ⊎-elim (new-helpers _ xs x ys) (new-part xs x ys) (List·Memᴰ·append-cases (helpersClauses _ _ xs) m)
+
+from-helper : (g : ℕ) (xs ys : List ℕ) (i j : ℕ) → i < length xs → g ≤ j → j < length ys → agrees (getD xs i 0) (getD ys j 0) (bit j i) ∈ helpersClauses g (drop g ys) xs
+from-helper g xs ys i j l h b = go (j - g) (omega arith)
   where
-    h : ℕ
-    h = helpersFor (length xs)
+    go : (m : ℕ) → g + m ≡ j → agrees (getD xs i 0) (getD ys j 0) (bit j i) ∈ helpersClauses g (drop g ys) xs
+    go m e = rw (← e, ← (getD-drop g ys m 0)) (helpers-every g (drop g ys) xs m i (omega (arith, length-drop g ys)) l)
 
-    of-helpers : k ∈ helpersClauses h (drop h ys) xs → Bit (xs ++ (x ∷ [])) ys k
-    of-helpers m =
-        let r = helpers-only h (drop h ys) xs m in
-        record {
-          place = r .1;
-          helper = h + r .0;
-          place-below = rw (length-append xs (x ∷ [])) (omega (arith, r .3));
-          helper-below = omega (arith, length-drop h ys, r .2);
-          is = rw (List·getD-append xs (x ∷ []) 0 (r .1) (r .3), ← (getD-drop h ys (r .0) 0)) (r .4);
-        }
-
-    of-part : k ∈ partClauses x (length xs) 0 ys → Bit (xs ++ (x ∷ [])) ys k
-    of-part m =
-        let r = part-only x (length xs) 0 ys m in
-        record {
-          place = length xs;
-          helper = r .0;
-          place-below = rw (length-append xs (x ∷ [])) (omega arith);
-          helper-below = r .1;
-          is = rw (getD-append-seam xs x [] 0) (rw (zero-add (r .0)) at (r .2));
-        }
-
--- a clause for part i and helper j, if it is not older
+-- every clause for a part and a helper is among them, but for those of the older parts and helpers
 pub join-every : (xs : List ℕ) (x : ℕ) (ys : List ℕ) (i j : ℕ) → i < length (xs ++ (x ∷ [])) → j < length ys
     → ((i < length xs) × (j < helpersFor (length xs))) ⊎ (agrees (getD (xs ++ (x ∷ [])) i 0) (getD ys j 0) (bit j i) ∈ joinClauses xs x ys)
 unfolding joinClauses
-join-every xs x ys i j l lj = ⊎-elim (λ p. rw (p .1) (older (p .0))) (λ p. inr (rw (p .1, p .0) newest)) (at-snoc xs x i l)
+join-every xs x ys i j l b = ⊎-elim (λ p. rw (p .1) (older (p .0))) (λ p. inr (rw (p .1, p .0) newest)) (at-snoc xs x i l)
   where
-    h : ℕ
-    h = helpersFor (length xs)
-
-    older : i < length xs → ((i < length xs) × (j < h)) ⊎ (agrees (getD xs i 0) (getD ys j 0) (bit j i) ∈ joinClauses xs x ys)
-    older li = elim (decLt j h) [ yes q ↦ inl (li, q) | no q ↦ inr (Memᴰ·append-left _ (from-h (j - h) (omega arith))) ]
-      where
-        from-h : (m : ℕ) → h + m ≡ j → agrees (getD xs i 0) (getD ys j 0) (bit j i) ∈ helpersClauses h (drop h ys) xs
-        from-h m e = rw (← e, ← (getD-drop h ys m 0)) (helpers-every h (drop h ys) xs m i (omega (arith, length-drop h ys)) li)
+    older : i < length xs → ((i < length xs) × (j < helpersFor (length xs))) ⊎ (agrees (getD xs i 0) (getD ys j 0) (bit j i) ∈ joinClauses xs x ys)
+    older li = elim (decLt j (helpersFor (length xs))) [ yes q ↦ inl (li, q) | no q ↦ inr (Memᴰ·append-left _ (from-helper _ xs ys i j li (omega arith) b)) ]
 
     newest : agrees x (getD ys j 0) (bit j (length xs)) ∈ joinClauses xs x ys
-    newest = Memᴰ·append-right (helpersClauses h (drop h ys) xs) (rw (zero-add j) at (part-every x (length xs) 0 ys j lj))
+    newest = Memᴰ·append-right (helpersClauses _ _ xs) (rw (zero-add j) at (part-every x (length xs) 0 ys j b))
