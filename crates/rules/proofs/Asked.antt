@@ -1,19 +1,19 @@
 -- Which helper variables a task asks for, and the clauses that a gate or a violation variable gets only from the first task that asks for it.
-use mathlib.Core.Path.{_≡_, refl, sym, _∙_, ap}
+use mathlib.Core.Path.{_≡_, refl}
 use mathlib.Core.Logic.{_⊎_, inl, inr, ⊎-elim}
 use mathlib.Core.Bool.{Bool, true, false, not}
-use mathlib.Core.List.{List, [], _∷_, _++_, map, List·Memᴰ·head, List·Memᴰ·tail, List·Memᴰ·cases-cons, List·Memᴰ·append-cases, List·Memᴰ·eq-of-singleton, Memᴰ·append-left, Memᴰ·append-right, Memᴰ·map, Memᴰ·of-map}
+use mathlib.Core.List.{List, [], _∷_, _++_, map, List·Memᴰ·head, List·Memᴰ·cases-cons, List·Memᴰ·append-cases, List·Memᴰ·eq-of-singleton, Memᴰ·append-left, Memᴰ·append-right, Memᴰ·map, Memᴰ·of-map}
 use Prim.Native.Nat.{ℕ}
-use Rattle.rules.specs.Lists.{any, listIf, concatMap}
+use Rattle.rules.specs.Lists.{any, listIf}
 use Rattle.rules.specs.Clause.{Clause, gated, auxOut}
-use Rattle.rules.specs.Catalogue.{Owner, root, part, Goal, Catalogue, partAt, constraintAt, rangeName, ownerAt, goalAt}
+use Rattle.rules.specs.Catalogue.{Owner, part, Goal, Catalogue, partAt, rangeName, ownerAt, goalAt}
 use Rattle.rules.specs.Candidates.{nonMatching, candidates, lockedPart, lockedOut, excludedParts}
 use Rattle.rules.specs.Conditions.{disjunctAt}
 use Rattle.rules.specs.Variables.{Origin, chosen, one, violation, gate, known, variableOf, partOrigin, partVariable}
-use Rattle.rules.specs.Opening.{Task, owner, name, condition, requirement, constraint}
+use Rattle.rules.specs.Opening.{Task, owner, name, requirement, constraint}
 use Rattle.rules.specs.Encoding.{Shape, direct, throughGate, onFiring, shapeOf, few, rangeOrigins, disjunctOrigins, shapeOrigins, constraintOrigins, taskOrigins, requirementClauses, constraintClauses, taskClauses}
 use Rattle.rules.specs.Called.{_∈_, constraintRange}
-use Rattle.rules.proofs.MemberLaws.{of-listIf, in-listIf, of-concatMap, map-same}
+use Rattle.rules.proofs.MemberLaws.{of-listIf, of-concatMap, map-same}
 use Rattle.rules.proofs.Stable.{disjunct-same}
 
 -- ---- what a task asks for
@@ -23,7 +23,8 @@ pub data Asks (c : Catalogue) : Task → Origin → Type 0 where
   for-gate : {q : ℕ} {is : List ℕ} → shapeOf c q ≡ throughGate → Asks c (requirement q is) (gate (goalAt c q))
   for-violation : {k : ℕ} → few (nonMatching c (constraintRange c k)) ≡ false → Asks c (constraint k) (violation (constraintRange c k))
   -- a fired range with no non-matching part
-  for-one : {q i r : ℕ} {is : List ℕ} → shapeOf c q ≡ onFiring → i ∈ is → r ∈ disjunctAt c q i → nonMatching c r ≡ [] → Asks c (requirement q is) (one (rangeName c r))
+  for-one : {q i r : ℕ} {is : List ℕ} → shapeOf c q ≡ onFiring → i ∈ is → r ∈ disjunctAt c q i → nonMatching c r ≡ []
+      → Asks c (requirement q is) (one (rangeName c r))
 
 module _ (c : Catalogue) where
   for-part : {t : Task} {x : Origin} (ps : List ℕ) → x ∈ map partOrigin ps → Asks c t x
@@ -43,7 +44,8 @@ module _ (c : Catalogue) where
       let r = of-concatMap _ (disjunctAt c q (i .0)) (i .2) in
       range-asks (nonMatching c (r .0)) refl e (i .1) (r .1) (r .2)
 
-  constraint-asks : (b : Bool) (k : ℕ) {x : Origin} → few (nonMatching c (constraintRange c k)) ≡ b → x ∈ constraintOrigins c b (constraintRange c k) → Asks c (constraint k) x
+  constraint-asks : (b : Bool) (k : ℕ) {x : Origin} → few (nonMatching c (constraintRange c k)) ≡ b → x ∈ constraintOrigins c b (constraintRange c k)
+      → Asks c (constraint k) x
   unfolding constraintOrigins
   constraint-asks true k e m = for-part (nonMatching c (constraintRange c k)) m
   constraint-asks false k e m = ⊎-elim (λ q. rw q (for-violation e)) (for-part (nonMatching c (constraintRange c k))) (List·Memᴰ·cases-cons m)
@@ -81,7 +83,8 @@ module _ (c : Catalogue) (vs ws : List Origin) where
   unfolding requirementClauses
   fired-whole o g q is = map-same _ _ is (λ i n. rw (disjunct-same c ws ws vs [] (disjunctAt c q i) (λ x l. refl)))
 
-  requirement-whole : (f : Shape) (o : Owner) (g : Goal) (q : ℕ) (is : List ℕ) {k : Clause} → k ∈ requirementClauses c vs ws f o g q is → k ∈ requirementClauses c [] ws f o g q is
+  requirement-whole : (f : Shape) (o : Owner) (g : Goal) (q : ℕ) (is : List ℕ) {k : Clause} → k ∈ requirementClauses c vs ws f o g q is
+      → k ∈ requirementClauses c [] ws f o g q is
   unfolding requirementClauses known any
   requirement-whole direct o g q is m = m
   requirement-whole throughGate o g q is m = whole _ (_ ∷ []) (_ ∷ []) m
@@ -103,7 +106,8 @@ module _ (c : Catalogue) (vs ws : List Origin) where
       → (k ∈ requirementClauses c vs ws f o g q is) ⊎ Shared c vs ws k
   unfolding requirementClauses known any
   requirement-once direct o g q is m = inl m
-  requirement-once throughGate o g q is m = ⊎-elim inl (λ s. inr (rw (List·Memᴰ·eq-of-singleton (s .1)) (of-gate g (s .0)))) (made-or-not (known vs (gate g)) (_ ∷ []) (_ ∷ []) m)
+  requirement-once throughGate o g q is m =
+      ⊎-elim inl (λ s. inr (rw (List·Memᴰ·eq-of-singleton (s .1)) (of-gate g (s .0)))) (made-or-not (known vs (gate g)) (_ ∷ []) (_ ∷ []) m)
   requirement-once onFiring o g q is m = inl (rw (fired-whole o g q is) m)
 
   constraint-once : (b : Bool) (o : Owner) (r : ℕ) {k : Clause} → k ∈ constraintClauses c [] ws b o r → (k ∈ constraintClauses c vs ws b o r) ⊎ Shared c vs ws k
@@ -127,6 +131,7 @@ module _ (c : Catalogue) (vs : List Origin) where
   unfolding taskClauses
   gate-own (for-gate {q} {is} e) = rw e (unfold requirementClauses known any listIf in List·Memᴰ·head refl)
 
-  pub violation-own : {t : Task} {r p : ℕ} → Asks c t (violation r) → p ∈ nonMatching c r → auxOut (partVariable vs p) (variableOf vs (violation r)) ∈ taskClauses c [] vs t
+  pub violation-own : {t : Task} {r p : ℕ} → Asks c t (violation r) → p ∈ nonMatching c r
+      → auxOut (partVariable vs p) (variableOf vs (violation r)) ∈ taskClauses c [] vs t
   unfolding taskClauses
   violation-own (for-violation e) m = rw e (unfold constraintClauses known any listIf in Memᴰ·append-left _ (Memᴰ·map (λ p. auxOut (partVariable vs p) _) m))

@@ -3,14 +3,13 @@ use mathlib.Core.Path.{_≡_, refl, sym, _∙_, ap}
 use mathlib.Core.Bool.{Bool, true, false}
 use mathlib.Core.List.{List, [], _∷_, _++_, append-nil, append-assoc, List·Memᴰ·head, List·Memᴰ·tail}
 use Prim.Native.Nat.{ℕ, suc}
-use lib.ListN.{length}
 use Rattle.rules.specs.Lists.{concatMap, fold, when}
 use Rattle.rules.specs.Literal.{Literal, pos, neg}
 use Rattle.rules.specs.Clause.{Clause, install, requires, gated, excluded, constrains, forbid, auxOut, auxOwner, lock, anyGate, anyOne}
 use Rattle.rules.specs.Catalogue.{Catalogue}
 use Rattle.rules.specs.Decisions.{Evaluation, undecided, satisfied, falsified, evaluate, isUndecided}
 use Rattle.rules.specs.Variables.{Origin, known, withVariables}
-use Rattle.rules.specs.Opening.{Task, Opening}
+use Rattle.rules.specs.Opening.{Task}
 use Rattle.rules.specs.Encoding.{Event, served, taskOrigins, taskClauses, origins, clauses}
 use Rattle.rules.specs.State.{State, Run, report, force, propagateBy, propagate, effect, effects, emit, emitAll}
 use Rattle.rules.specs.Run.{serveTask}

@@ -1,17 +1,17 @@
 -- The stored clauses are exactly those of the tasks served so far and of the tracked parts, and the variables exactly those that they name:
 -- so at the start, and kept by serving a task. Every literal of a stored clause has a variable.
-use mathlib.Core.Path.{_≡_, refl, sym, _∙_, ap}
+use mathlib.Core.Path.{_≡_, refl, sym, _∙_}
 use mathlib.Core.Logic.{_⊎_, inl, inr, ⊎-elim}
-use mathlib.Core.Bool.{true, false}
-use mathlib.Core.List.{List, [], _∷_, _++_, List·Memᴰ·head, List·Memᴰ·tail, List·Memᴰ·not-nil, List·Memᴰ·append-cases, List·Memᴰ·eq-of-singleton, Memᴰ·append-left, Memᴰ·append-right}
-use Prim.Native.Nat.{ℕ, suc, _<_, _≤_}
+use mathlib.Core.Bool.{true}
+use mathlib.Core.List.{List, [], _∷_, _++_, List·Memᴰ·head, List·Memᴰ·not-nil, List·Memᴰ·append-cases, List·Memᴰ·eq-of-singleton, Memᴰ·append-left, Memᴰ·append-right}
+use Prim.Native.Nat.{ℕ, _<_, _≤_}
 use native.Mathlib.Nat.{le-refl, le-trans, not-suc-le-zero}
 use lib.ListN.{length, getD}
 use Rattle.rules.specs.Lists.{filter, indexOf}
 use Rattle.rules.specs.Literal.{Literal}
 use Rattle.rules.specs.Clause.{Clause, install, anyOne, literals}
 use Rattle.rules.specs.AtMostOne.{bit, helpersFor, agrees}
-use Rattle.rules.specs.Catalogue.{Owner, root, part, Goal, Catalogue}
+use Rattle.rules.specs.Catalogue.{root, part, Goal, Catalogue}
 use Rattle.rules.specs.Variables.{Origin, chosen, forbid, one, violation, gate, key, sameKey, known, variableOf, withVariables, partOrigin, partVariable}
 use Rattle.rules.specs.Opening.{Task, trackedOf}
 use Rattle.rules.specs.Encoding.{taskOrigins, taskClauses}
@@ -20,11 +20,11 @@ use Rattle.rules.specs.Run.{serveTask}
 use Rattle.rules.specs.Called.{_∈_}
 use Rattle.rules.proofs.Grows.{Prefix, withVariables-prefix}
 use Rattle.rules.proofs.Places.{stands, keeps-variable, withVariables-known}
-use Rattle.rules.proofs.Known.{prefix-self, prefix-length, known-or-named, below-known, in-known, of-known}
+use Rattle.rules.proofs.Known.{prefix-length, known-or-named, below-known, in-known, of-known}
 use Rattle.rules.proofs.MemberLaws.{of-snoc, last-in, all-in}
 use Rattle.rules.proofs.Ends.{All}
 use Rattle.rules.proofs.Tracked.{of-trackedOf, tracked-place}
-use Rattle.rules.proofs.Stable.{same-clauses, Below, ClauseBelow, task-below}
+use Rattle.rules.proofs.Stable.{same-clauses, Below, task-below}
 use Rattle.rules.proofs.Asked.{Asks, asks, Shared, of-gate, of-violation, task-whole, task-once, gate-own, violation-own}
 use Rattle.rules.proofs.EmitLaws.{serveTask-variables, serveTask-clauses}
 
@@ -39,6 +39,7 @@ pub data Named (c : Catalogue) (log : List Task) (tracked : List ℕ) : Origin �
   by-joining : {p : ℕ} → p ∈ tracked → Named c log tracked (partOrigin p)
   as-helper : (n : ℕ) {j : ℕ} → j < helperCount c tracked n → Named c log tracked (forbid n j)
 
+-- the named origins have variables, and no other has one
 pub record Numbered (c : Catalogue) (log : List Task) (tracked : List ℕ) (vs : List Origin) : Type 0 where
   pub root-first : variableOf vs (chosen root) ≡ 0
   pub named-known : {x : Origin} → Named c log tracked x → known vs x ≡ true
@@ -171,24 +172,28 @@ pub record AskedFor (c : Catalogue) (log : List Task) (x : Origin) : Type 0 wher
   pub in-log : task ∈ log
   pub asked : Asks c task x
 
-module _ {c : Catalogue} {log : List Task} {tracked : List ℕ} {vs : List Origin} (n : Numbered c log tracked vs) where
+asked-for : {c : Catalogue} {log : List Task} {t : Task} {x : Origin} → t ∈ log → x ∈ taskOrigins c t → AskedFor c log x
+asked-for {c} {t = t} m i = record { task = t; in-log = m; asked = asks c t i }
+
+module _ {c : Catalogue} {log : List Task} {tracked : List ℕ} where
+  named-gate : {g : Goal} → Named c log tracked (gate g) → AskedFor c log (gate g)
+  named-gate (by-task m i) = asked-for m i
+
+  named-violation : {r : ℕ} → Named c log tracked (violation r) → AskedFor c log (violation r)
+  named-violation (by-task m i) = asked-for m i
+
+  named-one : {n : ℕ} → Named c log tracked (one n) → AskedFor c log (one n)
+  named-one (by-task m i) = asked-for m i
+
+module _ {c : Catalogue} {log : List Task} {tracked : List ℕ} {vs : List Origin} (v : Numbered c log tracked vs) where
   pub gate-from : (g : Goal) → known vs (gate g) ≡ true → AskedFor c log (gate g)
-  gate-from g e = go (n .known-named (gate g) e)
-    where
-      go : Named c log tracked (gate g) → AskedFor c log (gate g)
-      go (by-task {t} m i) = record { task = t; in-log = m; asked = asks c t i }
+  gate-from g e = named-gate (v .known-named (gate g) e)
 
   pub violation-from : (r : ℕ) → known vs (violation r) ≡ true → AskedFor c log (violation r)
-  violation-from r e = go (n .known-named (violation r) e)
-    where
-      go : Named c log tracked (violation r) → AskedFor c log (violation r)
-      go (by-task {t} m i) = record { task = t; in-log = m; asked = asks c t i }
+  violation-from r e = named-violation (v .known-named (violation r) e)
 
-  pub one-from : (m : ℕ) → known vs (one m) ≡ true → AskedFor c log (one m)
-  one-from m e = go (n .known-named (one m) e)
-    where
-      go : Named c log tracked (one m) → AskedFor c log (one m)
-      go (by-task {t} m i) = record { task = t; in-log = m; asked = asks c t i }
+  pub one-from : (n : ℕ) → known vs (one n) ≡ true → AskedFor c log (one n)
+  one-from n e = named-one (v .known-named (one n) e)
 
   -- so its own clauses are those of that task
   shared : {before : ℕ} {ws : List Origin} {k : Clause} → Shared c vs ws k → Source c log before tracked ws k
@@ -236,27 +241,34 @@ module _ (c : Catalogue) (log : List Task) (before : ℕ) (tracked : List ℕ) (
             (source-served (e .numbered));
       }
 
-pub serveTask-encoded : (c : Catalogue) (r : Run) (t : Task) (s : State) {log : List Task} {tracked : List ℕ} → Encoded c log (r .before) tracked (s .variables) (s .clauses)
+pub serveTask-encoded : (c : Catalogue) (r : Run) (t : Task) (s : State) {log : List Task} {tracked : List ℕ}
+    → Encoded c log (r .before) tracked (s .variables) (s .clauses)
     → Encoded c (log ++ (t ∷ [])) (r .before) tracked ((serveTask c r t s) .variables) ((serveTask c r t s) .clauses)
 serveTask-encoded c r t s e = rw (serveTask-variables c r t s, serveTask-clauses c r t s) (serve-encoded c _ (r .before) _ t e)
 
+-- ---- between two runs every one-of-name variable has its clauses
+
+pub one-stored : {c : Catalogue} {log : List Task} {tracked : List ℕ} {vs : List Origin} {ks : List Clause} → Encoded c log (length vs) tracked vs ks
+    → (n : ℕ) {p : ℕ} → known vs (one n) ≡ true → p ∈ trackedOf c n tracked → oneClause vs n p ∈ ks
+one-stored {vs = vs} e n k m = e .stored .every (of-one (record { is-known = k; older = stands vs (one n) (chosen root) k .0 }) m)
+
 -- ---- every literal has a variable
 
-module _ {c : Catalogue} {log : List Task} {tracked : List ℕ} {vs : List Origin} (n : Numbered c log tracked vs) where
+module _ {c : Catalogue} {log : List Task} {tracked : List ℕ} {vs : List Origin} (v : Numbered c log tracked vs) where
   named-below : {x : Origin} → Named c log tracked x → variableOf vs x < length vs
-  named-below {x} m = stands vs x (chosen root) (n .named-known m) .0
+  named-below {x} m = stands vs x (chosen root) (v .named-known m) .0
 
   -- "Variable 0 is the root"
   pub root-stands : (d : Origin) → (0 < length vs) × (getD vs 0 d ≡ chosen root)
-  root-stands d = rw (n .root-first) at (stands vs (chosen root) d (n .named-known by-start))
+  root-stands d = rw (v .root-first) at (stands vs (chosen root) d (v .named-known by-start))
 
   source-below : {before : ℕ} {k : Clause} → Source c log before tracked vs k → All (Below (length vs)) (literals k)
   unfolding literals
   source-below of-start = (root-stands (chosen root) .0, tt)
   source-below (of-task {t} m i) = all-in _ _ (task-below c [] vs (length vs) (root-stands (chosen root) .0) t (λ x o. named-below (by-task m o))) i
-  source-below (of-bit m i j l h) = (named-below (by-joining (tracked-place c m tracked i l)), (named-below (as-helper m h), tt))
-  source-below (of-one {n = m} r i) = (stands vs (one m) (chosen root) (r .is-known) .0, (named-below (by-joining (of-trackedOf c m tracked i .0)), tt))
+  source-below (of-bit n i j l h) = (named-below (by-joining (tracked-place c n tracked i l)), (named-below (as-helper n h), tt))
+  source-below (of-one {n} r i) = (stands vs (one n) (chosen root) (r .is-known) .0, (named-below (by-joining (of-trackedOf c n tracked i .0)), tt))
 
-pub every-literal-below : {c : Catalogue} {log : List Task} {before : ℕ} {tracked : List ℕ} {vs : List Origin} {ks : List Clause} → Encoded c log before tracked vs ks
-    → {k : Clause} → k ∈ ks → {l : Literal} → l ∈ literals k → l .variable < length vs
+pub every-literal-below : {c : Catalogue} {log : List Task} {before : ℕ} {tracked : List ℕ} {vs : List Origin} {ks : List Clause}
+    → Encoded c log before tracked vs ks → {k : Clause} → k ∈ ks → {l : Literal} → l ∈ literals k → l .variable < length vs
 every-literal-below {vs = vs} e {k} m i = all-in (Below (length vs)) (literals k) (source-below (e .numbered) (e .stored .only m)) i

@@ -1,8 +1,8 @@
 -- The clauses of a join: with those stored before, one for each part i and each helper j, which says that the helper agrees with bit j of i.
-use mathlib.Core.Path.{_≡_, refl, sym, _∙_, ap}
+use mathlib.Core.Path.{_≡_, refl}
 use mathlib.Core.Logic.{_⊎_, inl, inr, ⊎-elim}
 use mathlib.Core.Bool.{Bool, true, false, cond}
-use mathlib.Core.List.{List, [], _∷_, _++_, List·Memᴰ·head, List·Memᴰ·tail, List·Memᴰ·cases-cons, List·Memᴰ·append-cases, Memᴰ·append-left, Memᴰ·append-right}
+use mathlib.Core.List.{List, [], _∷_, _++_, List·Memᴰ·head, List·Memᴰ·tail, List·Memᴰ·append-cases, Memᴰ·append-left, Memᴰ·append-right}
 use Prim.Native.Nat.{ℕ, zero, suc, _+_, _-_, _<_, _≤_, _^_, zero-le, suc-le-suc}
 use native.Mathlib.Nat.{add-zero, add-suc, suc-add, zero-add, le-refl, le-trans, le-of-suc-le-suc, not-suc-le-zero}
 use native.Mathlib.Decide.{decLt}

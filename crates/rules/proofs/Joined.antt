@@ -12,9 +12,9 @@ use Rattle.rules.specs.Lists.{snoc, upTo}
 use Rattle.rules.specs.Clause.{Clause}
 use Rattle.rules.specs.AtMostOne.{bit, helpersFor, agrees, joinClauses}
 use Rattle.rules.specs.Catalogue.{Catalogue, nameOf}
-use Rattle.rules.specs.Variables.{Origin, forbid, one, variableOf, withVariables, partOrigin, partVariable}
+use Rattle.rules.specs.Variables.{Origin, forbid, one, variableOf, partOrigin, partVariable}
 use Rattle.rules.specs.Opening.{Task, trackedOf}
-use Rattle.rules.specs.Encoding.{Event, joins, helpersOf, origins, clauses}
+use Rattle.rules.specs.Encoding.{joins, helpersOf, origins, clauses}
 use Rattle.rules.specs.Run.{joinsFrom}
 use Rattle.rules.specs.Called.{_∈_}
 use Rattle.rules.proofs.Grows.{withVariables-prefix}
@@ -97,7 +97,8 @@ module _ (c : Catalogue) (log : List Task) (before : ℕ) (tracked : List ℕ) (
   joined-source : {vs : List Origin} (k : Clause) → Source c log before tracked vs k → Source c log before after vs k
   joined-source k of-start = of-start
   joined-source k (of-task m i) = of-task m i
-  joined-source k (of-bit n i j l h) = rw (← (same-place c n tracked (p ∷ []) i l)) (of-bit n i j (le-trans l (more-tracked c n tracked (p ∷ []))) (le-trans h (more-count n)))
+  joined-source k (of-bit n i j l h) =
+      rw (← (same-place c n tracked (p ∷ []) i l)) (of-bit n i j (le-trans l (more-tracked c n tracked (p ∷ []))) (le-trans h (more-count n)))
   joined-source k (of-one {n} r m) = let q = of-trackedOf c n tracked m in of-one r (in-trackedOf c n after (Memᴰ·append-left (p ∷ []) (q .0)) (q .1))
 
   -- the bits, with helpers for k parts

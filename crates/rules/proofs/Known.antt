@@ -1,9 +1,9 @@
--- Which origins have a variable: those of the list, and after naming some, those and the named ones. An older variable is below a newer one.
-use mathlib.Core.Path.{_≡_, refl, sym, _∙_, ap}
+-- Which origins have a variable: those of the list, and after some are named, these too. A number below the older list's length is an older variable.
+use mathlib.Core.Path.{_≡_, refl, sym}
 use mathlib.Core.Logic.{_⊎_, inl, inr, ⊎-elim}
 use mathlib.Core.Bool.{Bool, true, false, _||_, false≢true}
 use mathlib.Core.List.{List, [], _∷_, _++_, List·Memᴰ·head, List·Memᴰ·tail, List·Memᴰ·append-cases, List·Memᴰ·eq-of-singleton, append-nil}
-use Prim.Native.Nat.{ℕ, suc, _<_, _≤_}
+use Prim.Native.Nat.{suc, _<_, _≤_}
 use native.Mathlib.Nat.{le-of-suc-le-suc, not-suc-le-zero}
 use native.Mathlib.Omega.{arith}
 use lib.ListN.{length, length-append}
@@ -17,9 +17,6 @@ use Rattle.rules.proofs.Places.{origin-same, origin-self}
 
 pub prefix-self : {A : Type 0} {xs : List A} → Prefix xs xs
 prefix-self {A} {xs} = record { more = []; is = sym (append-nil xs) }
-
-pub prefix-append : {A : Type 0} (xs ys : List A) → Prefix xs (xs ++ ys)
-prefix-append xs ys = record { more = ys; is = refl }
 
 pub prefix-length : {A : Type 0} {xs ys : List A} → Prefix xs ys → length xs ≤ length ys
 prefix-length {A} {xs} p = rw (p .is, length-append xs (p .more)) (omega arith)
@@ -72,14 +69,15 @@ of-withVariables (o ∷ os) vs m =
 pub known-or-named : (os vs : List Origin) (x : Origin) → known (withVariables os vs) x ≡ true → (known vs x ≡ true) ⊎ (x ∈ os)
 known-or-named os vs x e = ⊎-elim (λ m. inl (in-known vs m)) inr (of-withVariables os vs (of-known (withVariables os vs) e))
 
--- ---- a number below the length of the older list is an older variable's
+-- ---- older variables
 
 among : (f : Origin → Bool) (vs ws : List Origin) → indexOf f (vs ++ ws) < length vs → any f vs ≡ true
 unfolding any indexOf
 among f [] ws l = absurd (not-suc-le-zero l)
 among f (v ∷ vs) ws l = go (f v) l (among f vs ws)
   where
-    go : (b : Bool) → elim b [ true ↦ 0 | false ↦ suc (indexOf f (vs ++ ws)) ] < suc (length vs) → (indexOf f (vs ++ ws) < length vs → any f vs ≡ true) → (b || any f vs) ≡ true
+    go : (b : Bool) → elim b [ true ↦ 0 | false ↦ suc (indexOf f (vs ++ ws)) ] < suc (length vs) → (indexOf f (vs ++ ws) < length vs → any f vs ≡ true)
+        → (b || any f vs) ≡ true
     go true l h = refl
     go false l h = h (le-of-suc-le-suc l)
 

@@ -2,7 +2,7 @@
 use mathlib.Core.Path.{_≡_, refl, sym, ap}
 use mathlib.Core.Logic.{_⊎_, inl, inr, ⊎-elim}
 use mathlib.Core.Bool.{Bool, true, false}
-use mathlib.Core.List.{List, [], _∷_, _++_, map, List·Memᴰ·head, List·Memᴰ·cases-cons, List·Memᴰ·eq-of-singleton, Memᴰ·map, Memᴰ·of-map}
+use mathlib.Core.List.{List, _++_, List·Memᴰ·head, List·Memᴰ·cases-cons, List·Memᴰ·eq-of-singleton, Memᴰ·map, Memᴰ·of-map}
 use Prim.Native.Nat.{ℕ, _≤_}
 use native.Mathlib.Nat.{le-refl, le-trans}
 use lib.Dec.{ltb}
@@ -11,7 +11,7 @@ use borrow.Author.Tests.{ltb-true, ltb-false}
 use Rattle.rules.specs.Lists.{concatMap}
 use Rattle.rules.specs.Clause.{Clause}
 use Rattle.rules.specs.Catalogue.{Catalogue, root}
-use Rattle.rules.specs.Variables.{Origin, chosen, forbid, one, violation, gate, known, variableOf, partOrigin}
+use Rattle.rules.specs.Variables.{Origin, chosen, one, known, variableOf, partOrigin}
 use Rattle.rules.specs.Opening.{Task, trackedOf}
 use Rattle.rules.specs.Encoding.{Event, links, origins, clauses}
 use Rattle.rules.specs.Run.{nameIfOne, linksFor}
@@ -20,7 +20,7 @@ use Rattle.rules.proofs.Places.{stands}
 use Rattle.rules.proofs.Known.{in-known}
 use Rattle.rules.proofs.MemberLaws.{in-concatMap, of-concatMap}
 use Rattle.rules.proofs.Tracked.{of-trackedOf}
-use Rattle.rules.proofs.Encoded.{Named, by-joining, Numbered, oneClause, Source, of-start, of-task, of-bit, of-one, Encoded, stored-step}
+use Rattle.rules.proofs.Encoded.{by-joining, Numbered, oneClause, Source, of-start, of-task, of-bit, of-one, Encoded, stored-step}
 
 of-nameIfOne : {n : ℕ} (x : Origin) → n ∈ nameIfOne x → x ≡ one n
 unfolding nameIfOne

@@ -1,9 +1,9 @@
 -- Membership in the lists that specs/Lists.antt makes, and lists made by functions that agree on the members.
 use mathlib.Core.Path.{_≡_, refl, sym, _∙_, ap}
 use mathlib.Core.Logic.{_⊎_, inl, inr, ⊎-elim}
-use mathlib.Core.Bool.{Bool, true, false, true≢false, false≢true}
+use mathlib.Core.Bool.{Bool, true, false, false≢true}
 use mathlib.Core.List.{List, [], _∷_, _++_, map, List·Memᴰ·head, List·Memᴰ·tail, Memᴰ·append-left, Memᴰ·append-right, List·Memᴰ·append-cases, List·Memᴰ·eq-of-singleton}
-use Prim.Native.Nat.{ℕ, zero, suc, _+_, _<_, _≤_, zero-le, suc-le-suc}
+use Prim.Native.Nat.{ℕ, zero, suc, _+_, _<_, _≤_}
 use native.Mathlib.Nat.{add-zero, add-suc, suc-add, le-of-suc-le-suc, not-suc-le-zero}
 use native.Mathlib.Omega.{arith}
 use lib.ListN.{length, getD, drop}
@@ -52,7 +52,8 @@ module _ {A : Type 0} where
   unfolding filter
   of-filter {x} f (y ∷ xs) m = go (f y) refl m (of-filter f xs)
     where
-      go : (b : Bool) → f y ≡ b → x ∈ elim b [ true ↦ y ∷ filter f xs | false ↦ filter f xs ] → (x ∈ filter f xs → (x ∈ xs) × (f x ≡ true)) → (x ∈ (y ∷ xs)) × (f x ≡ true)
+      go : (b : Bool) → f y ≡ b → x ∈ elim b [ true ↦ y ∷ filter f xs | false ↦ filter f xs ] → (x ∈ filter f xs → (x ∈ xs) × (f x ≡ true))
+          → (x ∈ (y ∷ xs)) × (f x ≡ true)
       go true e (List·Memᴰ·head q) h = (List·Memᴰ·head q, ap f q ∙ e)
       go true e (List·Memᴰ·tail m) h = let r = h m in (List·Memᴰ·tail (r .0), r .1)
       go false e m h = let r = h m in (List·Memᴰ·tail (r .0), r .1)

@@ -1,5 +1,5 @@
 -- A run keeps the stored clauses exact: each task of its line, and at its end the joining parts and the new one-of-name variables.
-use mathlib.Core.Path.{_≡_, refl, sym, _∙_, ap}
+use mathlib.Core.Path.{_≡_, sym, _∙_, ap}
 use mathlib.Core.Bool.{true}
 use mathlib.Core.List.{List, [], _∷_, _++_, append-nil, append-assoc}
 use Prim.Native.Nat.{ℕ, _≤_}
@@ -55,7 +55,8 @@ module _ (c : Catalogue) (r : Run) (s : State) where
   linked-encoded : {log : List Task} {tracked : List ℕ} (new : List Origin) → ((n : ℕ) → one n ∈ new → one n ∈ s .variables)
       → ((n : ℕ) → known (s .variables) (one n) ≡ true → r .before ≤ variableOf (s .variables) (one n) → one n ∈ new)
       → Encoded c log (r .before) tracked (s .variables) (s .clauses)
-      → Encoded c log (length ((emitAll c r (linksFor c new tracked) s) .variables)) tracked ((emitAll c r (linksFor c new tracked) s) .variables) ((emitAll c r (linksFor c new tracked) s) .clauses)
+      → Encoded c log (length ((emitAll c r (linksFor c new tracked) s) .variables)) tracked
+      ((emitAll c r (linksFor c new tracked) s) .variables) ((emitAll c r (linksFor c new tracked) s) .clauses)
   linked-encoded {log} {tracked} new there since e =
       let es = linksFor c new tracked in
       let same = settled c (r .before) (s .variables) es (links-known c log (r .before) tracked (s .variables) new there since (e .numbered)) in

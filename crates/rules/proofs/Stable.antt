@@ -1,17 +1,16 @@
 -- A task's clauses speak of the variables that it names and of no others (but the root's, 0): they stay the same as long as those do,
 -- and their literals are below any bound on those.
-use mathlib.Core.Path.{_≡_, refl, sym, _∙_, ap}
-use mathlib.Core.Bool.{Bool, true, false, not}
+use mathlib.Core.Path.{_≡_, refl, ap}
+use mathlib.Core.Bool.{Bool, true, false}
 use mathlib.Core.List.{List, [], _∷_, _++_, map, List·Memᴰ·head, List·Memᴰ·tail, Memᴰ·append-left, Memᴰ·append-right, Memᴰ·map}
-use Prim.Native.Nat.{ℕ, suc, _<_}
-use lib.ListN.{length}
+use Prim.Native.Nat.{ℕ, _<_}
 use Rattle.rules.specs.Lists.{listIf, concatMap}
-use Rattle.rules.specs.Literal.{Literal, pos, neg}
-use Rattle.rules.specs.Clause.{Clause, requires, gated, excluded, constrains, auxOut, auxOwner, lock, anyGate, exclusion, unknownDependencies, literals}
+use Rattle.rules.specs.Literal.{Literal, pos}
+use Rattle.rules.specs.Clause.{Clause, gated, excluded, constrains, auxOut, auxOwner, lock, anyGate, exclusion, unknownDependencies, literals}
 use Rattle.rules.specs.Catalogue.{Owner, root, part, Catalogue, partAt, rangeName, ownerAt, goalAt}
 use Rattle.rules.specs.Candidates.{nonMatching, candidates, lockedPart, lockedOut, excludedParts}
 use Rattle.rules.specs.Conditions.{disjunctAt}
-use Rattle.rules.specs.Variables.{Origin, chosen, one, violation, gate, known, variableOf, partOrigin, partVariable}
+use Rattle.rules.specs.Variables.{Origin, chosen, violation, known, variableOf, partOrigin, partVariable}
 use Rattle.rules.specs.Opening.{Task, owner, name, condition, requirement, constraint}
 use Rattle.rules.specs.Encoding.{Shape, direct, throughGate, onFiring, shapeOf, few, rangeOrigins, disjunctOrigins, shapeOrigins, constraintOrigins, taskOrigins, rangeLiterals, disjunctLiterals, requirementClauses, constraintClauses, taskClauses}
 use Rattle.rules.specs.Called.{_∈_, constraintRange}
@@ -20,7 +19,7 @@ use Rattle.rules.proofs.Places.{keeps-variable}
 use Rattle.rules.proofs.MemberLaws.{in-concatMap, map-same, concatMap-same, all-listIf, all-map, all-concatMap}
 use Rattle.rules.proofs.Ends.{All, all-append}
 
--- ---- a property of every origin that is named, so of these and those
+-- ---- a property of every origin of a list
 
 abbrev Each : (Origin → Type 0) → List Origin → Type 0
 Each P os = (x : Origin) → x ∈ os → P x
@@ -73,7 +72,8 @@ module _ (c : Catalogue) (vs ws : List Origin) where
   requirement-same old throughGate q is o ps h = rw (first h, o, ps)
   requirement-same old onFiring q is o ps h = map-same _ _ is (λ i m. rw (o, ps, disjunct-same old old (disjunctAt c q i) (of-part _ is h m)))
 
-  constraint-same : (old : List Origin) (b : Bool) (o : Owner) (r : ℕ) → Agree (chosen o ∷ constraintOrigins c b r) → constraintClauses c old ws b o r ≡ constraintClauses c old vs b o r
+  constraint-same : (old : List Origin) (b : Bool) (o : Owner) (r : ℕ) → Agree (chosen o ∷ constraintOrigins c b r)
+      → constraintClauses c old ws b o r ≡ constraintClauses c old vs b o r
   unfolding constraintOrigins constraintClauses
   constraint-same old true o r h = rw (first h) (parts-same (λ x p. constrains (variableOf vs (chosen o)) x) (nonMatching c r) (of-parts (nonMatching c r) (rest h)))
   constraint-same old false o r h =
@@ -99,7 +99,8 @@ module _ (c : Catalogue) (vs ws : List Origin) where
   same-clauses old (condition q) h = refl
   same-clauses old (requirement q is) h =
       let ps = candidates c (goalAt c q) in
-      requirement-same old (shapeOf c q) q is (first h) (parts-same (λ x p. x) ps (of-parts ps (left (map partOrigin ps) _ (rest h)))) (right (map partOrigin ps) _ (rest h))
+      let k = left (map partOrigin ps) _ (rest h) in
+      requirement-same old (shapeOf c q) q is (first h) (parts-same (λ x p. x) ps (of-parts ps k)) (right (map partOrigin ps) _ (rest h))
   same-clauses old (constraint k) h = constraint-same old (few (nonMatching c (constraintRange c k))) _ (constraintRange c k) h
 
 pub stable : (c : Catalogue) (old : List Origin) {vs ws : List Origin} → Prefix vs ws → (t : Task) → ((x : Origin) → x ∈ taskOrigins c t → known vs x ≡ true)
@@ -111,12 +112,12 @@ stable c old {vs} {ws} p t h = same-clauses c vs ws old t (λ x m. keeps-variabl
 abbrev pub Below : ℕ → Literal → Type 0
 Below n l = l .variable < n
 
-module _ (c : Catalogue) (old vs : List Origin) (n : ℕ) where
-  abbrev pub ClauseBelow : Clause → Type 0
-  ClauseBelow k = All (Below n) (literals k)
+abbrev pub ClauseBelow : ℕ → Clause → Type 0
+ClauseBelow n k = All (Below n) (literals k)
 
+module _ (c : Catalogue) (old vs : List Origin) (n : ℕ) where
   abbrev Low : List Origin → Type 0
-  Low os = (x : Origin) → x ∈ os → variableOf vs x < n
+  Low os = Each (λ x. variableOf vs x < n) os
 
   candidates-below : (ps : List ℕ) → Low (map partOrigin ps) → All (Below n) (map pos (map (partVariable vs) ps))
   candidates-below [] h = tt
@@ -133,40 +134,40 @@ module _ (c : Catalogue) (old vs : List Origin) (n : ℕ) where
 
   requirement-below : (f : Shape) (q : ℕ) (is : List ℕ) → variableOf vs (chosen (ownerAt c q)) < n
       → All (Below n) (map pos (map (partVariable vs) (candidates c (goalAt c q)))) → Low (shapeOrigins c f q is)
-      → All ClauseBelow (requirementClauses c old vs f (ownerAt c q) (goalAt c q) q is)
+      → All (ClauseBelow n) (requirementClauses c old vs f (ownerAt c q) (goalAt c q) q is)
   unfolding shapeOrigins requirementClauses literals
   requirement-below direct q is o ps h = ((o, ps), tt)
   requirement-below throughGate q is o ps h =
-      all-append ClauseBelow (listIf _ (gated _ _ ∷ [])) (anyGate _ _ ∷ []) (all-listIf ClauseBelow _ _ (λ e. ((first h, ps), tt))) ((first h, (o, tt)), tt)
+      all-append (ClauseBelow n) (listIf _ (gated _ _ ∷ [])) (anyGate _ _ ∷ []) (all-listIf (ClauseBelow n) _ _ (λ e. ((first h, ps), tt))) ((first h, (o, tt)), tt)
   requirement-below onFiring q is o ps h =
-      all-map ClauseBelow _ is (λ i m. (o, all-append (Below n) (disjunctLiterals c old vs (disjunctAt c q i)) _ (disjunct-below (disjunctAt c q i) (of-part _ is h m)) ps))
+      all-map (ClauseBelow n) _ is (λ i m. (o, all-append (Below n) (disjunctLiterals c old vs _) _ (disjunct-below (disjunctAt c q i) (of-part _ is h m)) ps))
 
-  outs-below : (ps : List ℕ) (v : ℕ) → v < n → Low (map partOrigin ps) → All ClauseBelow (map (λ p. auxOut (partVariable vs p) v) ps)
+  outs-below : (ps : List ℕ) (v : ℕ) → v < n → Low (map partOrigin ps) → All (ClauseBelow n) (map (λ p. auxOut (partVariable vs p) v) ps)
   unfolding literals
-  outs-below ps v l h = all-map ClauseBelow _ ps (λ p m. (of-parts ps h p m, (l, tt)))
+  outs-below ps v l h = all-map (ClauseBelow n) _ ps (λ p m. (of-parts ps h p m, (l, tt)))
 
-  constraint-below : (b : Bool) (o : Owner) (r : ℕ) → Low (chosen o ∷ constraintOrigins c b r) → All ClauseBelow (constraintClauses c old vs b o r)
+  constraint-below : (b : Bool) (o : Owner) (r : ℕ) → Low (chosen o ∷ constraintOrigins c b r) → All (ClauseBelow n) (constraintClauses c old vs b o r)
   unfolding constraintOrigins constraintClauses literals
-  constraint-below true o r h = all-map ClauseBelow _ (nonMatching c r) (λ p m. (first h, (of-parts (nonMatching c r) (rest h) p m, tt)))
+  constraint-below true o r h = all-map (ClauseBelow n) _ (nonMatching c r) (λ p m. (first h, (of-parts (nonMatching c r) (rest h) p m, tt)))
   constraint-below false o r h =
-      all-append ClauseBelow (listIf _ _) (auxOwner _ _ ∷ [])
-      (all-listIf ClauseBelow _ _ (λ e. outs-below (nonMatching c r) (variableOf vs (violation r)) (first (rest h)) (rest (rest h))))
+      all-append (ClauseBelow n) (listIf _ _) (auxOwner _ _ ∷ [])
+      (all-listIf (ClauseBelow n) _ _ (λ e. outs-below (nonMatching c r) (variableOf vs (violation r)) (first (rest h)) (rest (rest h))))
       ((first h, (first (rest h), tt)), tt)
 
-  unknown-below : (b : Bool) (p : ℕ) → Low (listIf b (partOrigin p ∷ [])) → All ClauseBelow (listIf b (excluded (partVariable vs p) p unknownDependencies ∷ []))
+  unknown-below : (b : Bool) (p : ℕ) → Low (listIf b (partOrigin p ∷ [])) → All (ClauseBelow n) (listIf b (excluded (partVariable vs p) p unknownDependencies ∷ []))
   unfolding listIf literals
   unknown-below true p h = ((first h, tt), tt)
   unknown-below false p h = tt
 
-  pub task-below : 0 < n → (t : Task) → Low (taskOrigins c t) → All ClauseBelow (taskClauses c old vs t)
+  pub task-below : 0 < n → (t : Task) → Low (taskOrigins c t) → All (ClauseBelow n) (taskClauses c old vs t)
   unfolding taskOrigins taskClauses literals
   task-below z (owner root) h = tt
   task-below z (owner (part p)) h = unknown-below ((partAt c p) .unknown) p h
   task-below z (name m) h =
       let k : (p : ℕ) → p ∈ (lockedOut c m ++ excludedParts c m) → _ = λ p i. of-parts _ h p (Memᴰ·append-right (lockedPart c m) i) in
-      all-append ClauseBelow (map _ (lockedOut c m)) _
-      (all-map ClauseBelow _ (lockedOut c m) (λ p i. (z, (k p (Memᴰ·append-left (excludedParts c m) i), tt))))
-      (all-map ClauseBelow _ (excludedParts c m) (λ p i. (k p (Memᴰ·append-right (lockedOut c m) i), tt)))
+      all-append (ClauseBelow n) (map _ (lockedOut c m)) _
+      (all-map (ClauseBelow n) _ (lockedOut c m) (λ p i. (z, (k p (Memᴰ·append-left (excludedParts c m) i), tt))))
+      (all-map (ClauseBelow n) _ (excludedParts c m) (λ p i. (k p (Memᴰ·append-right (lockedOut c m) i), tt)))
   task-below z (condition q) h = tt
   task-below z (requirement q is) h =
       let ps = candidates c (goalAt c q) in

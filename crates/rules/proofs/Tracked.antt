@@ -8,7 +8,6 @@ use native.Mathlib.Omega.{arith}
 use lib.Dec.{eqb}
 use lib.ListN.{length, getD, length-append, List·getD-append}
 use borrow.Author.Tests.{eqb-true, eq-eqb}
-use Rattle.rules.specs.Lists.{filter}
 use Rattle.rules.specs.Catalogue.{Catalogue, nameOf}
 use Rattle.rules.specs.Opening.{trackedOf}
 use Rattle.rules.specs.Called.{_∈_}
