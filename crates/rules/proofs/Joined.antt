@@ -118,13 +118,12 @@ module _ (c : Catalogue) (log : List Task) (before : ℕ) (tracked : List ℕ) (
     ys-length : length ys ≡ helperCount c after own
     ys-length = helpers-length own k (variableOf vs) ∙ ap helpersFor all
 
+    part-is : (i : ℕ) → i < length (trackedOf c own after) → getD (xs ++ (partVariable vs p ∷ [])) i 0 ≡ partVariable vs (getD (trackedOf c own after) i 0)
+    part-is i l = ap (λ l. getD l i 0) parts-are ∙ map-place (partVariable vs) (trackedOf c own after) 0 0 i l
+
     clause-is : (i j : ℕ) → i < length (trackedOf c own after) → j < helperCount c after own
         → agrees (getD (xs ++ (partVariable vs p ∷ [])) i 0) (getD ys j 0) (bit j i) ≡ bitClause c after vs own i j
-    clause-is i j l h =
-        let part : getD (xs ++ (partVariable vs p ∷ [])) i 0 ≡ partVariable vs (getD (trackedOf c own after) i 0)
-              = ap (λ l. getD l i 0) parts-are ∙ map-place (partVariable vs) (trackedOf c own after) 0 0 i l in
-        let helper : getD ys j 0 ≡ variableOf vs (forbid own j) = helpers-place own k (variableOf vs) j (rw all h) in
-        rw (part, helper)
+    clause-is i j l h = rw (part-is i l, helpers-place own k (variableOf vs) j (rw all h))
 
     bits-source : {k : Clause} → k ∈ joinClauses xs (partVariable vs p) ys → Source c log before after vs k
     bits-source m =
@@ -133,14 +132,13 @@ module _ (c : Catalogue) (log : List Task) (before : ℕ) (tracked : List ℕ) (
         let h : b .helper < helperCount c after own = rw ys-length at (b .helper-below) in
         rw (b .is ∙ clause-is (b .place) (b .helper) l h) (of-bit own (b .place) (b .helper) l h)
 
+    older-bit : (i j : ℕ) → i < length xs → j < helpersFor (length xs) → Source c log before tracked vs (bitClause c after vs own i j)
+    older-bit i j l h = let l′ : i < length earlier = rw length-map at l in rw (same-place c own tracked (p ∷ []) i l′) (of-bit own i j l′ (rw length-map at h))
+
     source-bits : (i j : ℕ) → i < length (trackedOf c own after) → j < helperCount c after own
         → Source c log before tracked vs (bitClause c after vs own i j) ⊎ (bitClause c after vs own i j ∈ joinClauses xs (partVariable vs p) ys)
     source-bits i j l h =
-        ⊎-elim
-        (λ o.
-            let li : i < length earlier = rw length-map at (o .0) in
-            inl (rw (same-place c own tracked (p ∷ []) i li) (of-bit own i j li (rw length-map at (o .1)))))
-        (λ m. inr (rw (clause-is i j l h) at m))
+        ⊎-elim (λ o. inl (older-bit i j (o .0) (o .1))) (λ m. inr (rw (clause-is i j l h) at m))
         (join-every xs (partVariable vs p) ys i j (rw parts-length l) (rw ys-length h))
 
   module _ (old vs : List Origin) where
