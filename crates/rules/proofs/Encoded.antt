@@ -23,7 +23,7 @@ use Rattle.rules.proofs.Places.{stands, keeps-variable, withVariables-k
 use Rattle.rules.proofs.Known.{prefix-length, known-or-named, below-known, in-known, of-known}
 use Rattle.rules.proofs.MemberLaws.{of-snoc, last-in, all-in}
 use Rattle.rules.proofs.Ends.{All}
-use Rattle.rules.proofs.Tracked.{of-trackedOf, tracked-place}
+use Rattle.rules.proofs.TrackedOf.{of-trackedOf, tracked-place}
 use Rattle.rules.proofs.Stable.{same-clauses, Below, task-below}
 use Rattle.rules.proofs.Asked.{Asks, asks, Shared, of-gate, of-violation, task-whole, task-once, gate-own, violation-own}
 use Rattle.rules.proofs.EmitLaws.{serveTask-variables, serveTask-clauses}

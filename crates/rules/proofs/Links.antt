@@ -19,7 +19,7 @@ use Rattle.rules.specs.Called.{_∈_}
 use Rattle.rules.proofs.Places.{stands}
 use Rattle.rules.proofs.Known.{in-known}
 use Rattle.rules.proofs.MemberLaws.{in-concatMap, of-concatMap}
-use Rattle.rules.proofs.Tracked.{of-trackedOf}
+use Rattle.rules.proofs.TrackedOf.{of-trackedOf}
 use Rattle.rules.proofs.Encoded.{by-joining, Numbered, oneClause, Source, of-start, of-task, of-bit, of-one, Encoded, stored-step}
 
 of-nameIfOne : {n : ℕ} (x : Origin) → n ∈ nameIfOne x → x ≡ one n
