@@ -14,7 +14,6 @@ use Rattle.rules.specs.Opening.{Task, owner, name, requirement, constrai
 use Rattle.rules.specs.Encoding.{Shape, direct, throughGate, onFiring, shapeOf, few, rangeOrigins, disjunctOrigins, shapeOrigins, constraintOrigins, taskOrigins, requirementClauses, constraintClauses, taskClauses}
 use Rattle.rules.specs.Called.{_∈_, constraintRange}
 use Rattle.rules.proofs.MemberLaws.{of-listIf, of-concatMap, map-same}
-use Rattle.rules.proofs.Stable.{disjunct-same}
 
 -- ---- what a task asks for
 
@@ -81,7 +80,7 @@ whole false xs ys m = Memᴰ·append-right xs m
 module _ (c : Catalogue) (vs ws : List Origin) where
   fired-whole : (o : Owner) (g : Goal) (q : ℕ) (is : List ℕ) → requirementClauses c vs ws onFiring o g q is ≡ requirementClauses c [] ws onFiring o g q is
   unfolding requirementClauses
-  fired-whole o g q is = map-same _ _ is (λ i n. rw (disjunct-same c ws ws vs [] (disjunctAt c q i) (λ x l. refl)))
+  fired-whole o g q is = refl
 
   requirement-whole : (f : Shape) (o : Owner) (g : Goal) (q : ℕ) (is : List ℕ) {k : Clause} → k ∈ requirementClauses c vs ws f o g q is
       → k ∈ requirementClauses c [] ws f o g q is

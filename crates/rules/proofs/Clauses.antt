@@ -165,13 +165,13 @@ module _ (c : Catalogue) (old new : List Origin) where
   parts-have : (ps : List ℕ) → Known new ps → Each (λ x. x < length new) (map (partVariable new) ps)
   parts-have ps k = each-map _ ps (each-imp (λ p e. has new (partOrigin p) e) k)
 
-  range-exists : (n : ℕ) (ps : List ℕ) → Named new (rangeOrigins n ps) → Each (Exists new) (rangeLiterals c old new n ps)
+  range-exists : (n : ℕ) (ps : List ℕ) → Named new (rangeOrigins n ps) → Each (Exists new) (rangeLiterals new n ps)
   unfolding rangeOrigins rangeLiterals
   range-exists n [] k = Each.cons (has new (one n) (k _ (List·Memᴰ·head refl))) Each.nil
   range-exists n (p ∷ ps) k =
       each-map (λ q. pos (partVariable new q)) (p ∷ ps) (each-imp (λ q e. has new (partOrigin q) e) (named-parts (p ∷ ps) k))
 
-  disjunct-exists : (d : List ℕ) → Named new (disjunctOrigins c d) → Each (Exists new) (disjunctLiterals c old new d)
+  disjunct-exists : (d : List ℕ) → Named new (disjunctOrigins c d) → Each (Exists new) (disjunctLiterals c new d)
   unfolding disjunctOrigins disjunctLiterals concatMap
   disjunct-exists [] k = Each.nil
   disjunct-exists (r ∷ d) k =

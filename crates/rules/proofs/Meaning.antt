@@ -162,7 +162,7 @@ unfolding any
 parts-are f [] low = refl
 parts-are f (p ∷ ps) low = rw (f .owner-is (part p) (low .below _ (List·Memᴰ·head refl)), parts-are f ps (low-tail low))
 
-range-parts : (c : Catalogue) (vs : List Origin) (n p : ℕ) (ps : List ℕ) → rangeLiterals c vs vs n (p ∷ ps) ≡ map pos (map (partVariable vs) (p ∷ ps))
+range-parts : (c : Catalogue) (vs : List Origin) (n p : ℕ) (ps : List ℕ) → rangeLiterals vs n (p ∷ ps) ≡ map pos (map (partVariable vs) (p ∷ ps))
 unfolding rangeLiterals
 range-parts c vs n p ps = sym (map-map pos (partVariable vs) (p ∷ ps))
 
@@ -265,10 +265,10 @@ module _ {c : Catalogue} {o : Opening} {vs : List Origin} {ks : List Clause} (e 
   unfolding literals
   one-out n needs h p m = contrary (P p) _ (cause-out f (part p) (variableOf vs (one n)) (stated (partIsOne needs m))) h
 
-  range-out : (q i r : ℕ) → (q, i) ∈ o .fired → r ∈ disjunctAt c q i → Holds vs v (rangeLiterals c vs vs (rangeName c r) (nonMatching c r)) → Unmet c o P r
+  range-out : (q i r : ℕ) → (q, i) ∈ o .fired → r ∈ disjunctAt c q i → Holds vs v (rangeLiterals vs (rangeName c r) (nonMatching c r)) → Unmet c o P r
   range-out q i r fired m h = go (nonMatching c r) refl h
     where
-      go : (ps : List ℕ) → nonMatching c r ≡ ps → Holds vs v (rangeLiterals c vs vs (rangeName c r) ps) → Unmet c o P r
+      go : (ps : List ℕ) → nonMatching c r ≡ ps → Holds vs v (rangeLiterals vs (rangeName c r) ps) → Unmet c o P r
       go [] e h =
           noneOfName e (one-out (rangeName c r)
           (record { requirement = q; index = i; range = r; fired = fired; in-disjunct = m; of-name = refl; none-else = e })
@@ -280,9 +280,9 @@ module _ {c : Catalogue} {o : Opening} {vs : List Origin} {ks : List Clause} (e 
   unfolding literals disjunctLiterals
   conditional-out w m hw q hq k condition i fired =
       ⊎-elim (λ h. inr (unmet h)) (λ h. inl (parts-out f _ h))
-      (holds-append (disjunctLiterals c vs vs (disjunctAt c q i)) _ (owner-out f w _ (stated (firedRequires m hq (fires-conditional c q k condition) fired)) hw))
+      (holds-append (disjunctLiterals c vs (disjunctAt c q i)) _ (owner-out f w _ (stated (firedRequires m hq (fires-conditional c q k condition) fired)) hw))
     where
-      unmet : Holds vs v (disjunctLiterals c vs vs (disjunctAt c q i)) → (r : ℕ) × (r ∈ disjunctAt c q i) × Unmet c o P r
+      unmet : Holds vs v (disjunctLiterals c vs (disjunctAt c q i)) → (r : ℕ) × (r ∈ disjunctAt c q i) × Unmet c o P r
       unmet h = let r = holds-concat _ (disjunctAt c q i) h in (r .0, r .1, range-out q i (r .0) fired (r .1) (r .2))
 
   kept : Keeps c o P
@@ -359,26 +359,26 @@ module _ (c : Catalogue) (o : Opening) (P : Parts) where
     parts-in : (ps : List ℕ) → Has P ps → Low vs (map pos (map (partVariable vs) ps)) → clauseTrue v (map pos (map (partVariable vs) ps)) ≡ true
     parts-in ps h low = parts-are (fits vs P v (values-agree vs)) ps low ∙ has-in h
 
-    range-in : (r : ℕ) → Unmet c o P r → Low vs (rangeLiterals c vs vs (rangeName c r) (nonMatching c r))
-        → clauseTrue v (rangeLiterals c vs vs (rangeName c r) (nonMatching c r)) ≡ true
+    range-in : (r : ℕ) → Unmet c o P r → Low vs (rangeLiterals vs (rangeName c r) (nonMatching c r))
+        → clauseTrue v (rangeLiterals vs (rangeName c r) (nonMatching c r)) ≡ true
     unfolding value
     range-in r u low = go (nonMatching c r) refl u low
       where
-        go : (ps : List ℕ) → nonMatching c r ≡ ps → Unmet c o P r → Low vs (rangeLiterals c vs vs (rangeName c r) ps)
-            → clauseTrue v (rangeLiterals c vs vs (rangeName c r) ps) ≡ true
+        go : (ps : List ℕ) → nonMatching c r ≡ ps → Unmet c o P r → Low vs (rangeLiterals vs (rangeName c r) ps)
+            → clauseTrue v (rangeLiterals vs (rangeName c r) ps) ≡ true
         go [] e (another h) low = absurd (List·Memᴰ·not-nil (rw e at (h .1)))
         go [] e (noneOfName _ h) low = unfold rangeLiterals in unit-in (one (rangeName c r)) low (none-in P _ h)
         go (p ∷ ps) e (another h) low = rw range-parts (parts-in (p ∷ ps) (rw e at h) (rw range-parts at low))
         go (p ∷ ps) e (noneOfName e′ _) low = absurd (not-one (cc (e, e′)))
 
-    disjunct-in : (d : List ℕ) (r : ℕ) → r ∈ d → Unmet c o P r → Low vs (disjunctLiterals c vs vs d) → clauseTrue v (disjunctLiterals c vs vs d) ≡ true
+    disjunct-in : (d : List ℕ) (r : ℕ) → r ∈ d → Unmet c o P r → Low vs (disjunctLiterals c vs d) → clauseTrue v (disjunctLiterals c vs d) ≡ true
     unfolding disjunctLiterals
     disjunct-in d r m u low = clause-concat v _ d ∙ any-in _ d r m (range-in r u (low-concat _ d r low m))
 
-    requires-in : (ps d : List ℕ) → Has P ps ⊎ ((r : ℕ) × (r ∈ d) × Unmet c o P r) → Low vs (disjunctLiterals c vs vs d ++ map pos (map (partVariable vs) ps))
-        → clauseTrue v (disjunctLiterals c vs vs d ++ map pos (map (partVariable vs) ps)) ≡ true
+    requires-in : (ps d : List ℕ) → Has P ps ⊎ ((r : ℕ) × (r ∈ d) × Unmet c o P r) → Low vs (disjunctLiterals c vs d ++ map pos (map (partVariable vs) ps))
+        → clauseTrue v (disjunctLiterals c vs d ++ map pos (map (partVariable vs) ps)) ≡ true
     requires-in ps d h low =
-        let ks = disjunctLiterals c vs vs d in
+        let ks = disjunctLiterals c vs d in
         let ls = map pos (map (partVariable vs) ps) in
         clause-append v ks ls ∙ ⊎-elim
         (λ a. ap (λ b. clauseTrue v ks || b) (parts-in ps a (low-right ks ls low)) ∙ or-true (clauseTrue v ks))

@@ -55,14 +55,14 @@ module _ (c : Catalogue) (vs ws : List Origin) where
   parts-same f ps h = map-same _ _ ps (λ p m. ap (λ x. f x p) (h p m))
 
   -- the variables before the event don't matter here
-  range-same : (a b : List Origin) (n : ℕ) (ps : List ℕ) → Agree (rangeOrigins n ps) → rangeLiterals c a ws n ps ≡ rangeLiterals c b vs n ps
+  range-same : (n : ℕ) (ps : List ℕ) → Agree (rangeOrigins n ps) → rangeLiterals ws n ps ≡ rangeLiterals vs n ps
   unfolding rangeOrigins rangeLiterals
-  range-same a b n [] h = rw (first h)
-  range-same a b n (p ∷ ps) h = parts-same (λ x m. pos x) (p ∷ ps) (of-parts (p ∷ ps) h)
+  range-same n [] h = rw (first h)
+  range-same n (p ∷ ps) h = parts-same (λ x m. pos x) (p ∷ ps) (of-parts (p ∷ ps) h)
 
-  pub disjunct-same : (a b : List Origin) (d : List ℕ) → Agree (disjunctOrigins c d) → disjunctLiterals c a ws d ≡ disjunctLiterals c b vs d
+  pub disjunct-same : (d : List ℕ) → Agree (disjunctOrigins c d) → disjunctLiterals c ws d ≡ disjunctLiterals c vs d
   unfolding disjunctOrigins disjunctLiterals
-  disjunct-same a b d h = concatMap-same _ _ d (λ r m. range-same a b (rangeName c r) (nonMatching c r) (of-part _ d h m))
+  disjunct-same d h = concatMap-same _ _ d (λ r m. range-same (rangeName c r) (nonMatching c r) (of-part _ d h m))
 
   requirement-same : (old : List Origin) (f : Shape) (q : ℕ) (is : List ℕ) → variableOf ws (chosen (ownerAt c q)) ≡ variableOf vs (chosen (ownerAt c q))
       → map (partVariable ws) (candidates c (goalAt c q)) ≡ map (partVariable vs) (candidates c (goalAt c q)) → Agree (shapeOrigins c f q is)
@@ -70,7 +70,7 @@ module _ (c : Catalogue) (vs ws : List Origin) where
   unfolding shapeOrigins requirementClauses
   requirement-same old direct q is o ps h = rw (o, ps)
   requirement-same old throughGate q is o ps h = rw (first h, o, ps)
-  requirement-same old onFiring q is o ps h = map-same _ _ is (λ i m. rw (o, ps, disjunct-same old old (disjunctAt c q i) (of-part _ is h m)))
+  requirement-same old onFiring q is o ps h = map-same _ _ is (λ i m. rw (o, ps, disjunct-same (disjunctAt c q i) (of-part _ is h m)))
 
   constraint-same : (old : List Origin) (b : Bool) (o : Owner) (r : ℕ) → Agree (chosen o ∷ constraintOrigins c b r)
       → constraintClauses c old ws b o r ≡ constraintClauses c old vs b o r
@@ -123,12 +123,12 @@ module _ (c : Catalogue) (old vs : List Origin) (n : ℕ) where
   candidates-below [] h = tt
   candidates-below (p ∷ ps) h = (first h, candidates-below ps (rest h))
 
-  range-below : (m : ℕ) (ps : List ℕ) → Low (rangeOrigins m ps) → All (Below n) (rangeLiterals c old vs m ps)
+  range-below : (m : ℕ) (ps : List ℕ) → Low (rangeOrigins m ps) → All (Below n) (rangeLiterals vs m ps)
   unfolding rangeOrigins rangeLiterals
   range-below m [] h = (first h, tt)
   range-below m (p ∷ ps) h = all-map (Below n) (λ m. pos (partVariable vs m)) (p ∷ ps) (of-parts (p ∷ ps) h)
 
-  disjunct-below : (d : List ℕ) → Low (disjunctOrigins c d) → All (Below n) (disjunctLiterals c old vs d)
+  disjunct-below : (d : List ℕ) → Low (disjunctOrigins c d) → All (Below n) (disjunctLiterals c vs d)
   unfolding disjunctOrigins disjunctLiterals
   disjunct-below d h = all-concatMap (Below n) _ d (λ r m. range-below (rangeName c r) (nonMatching c r) (of-part _ d h m))
 
@@ -140,7 +140,7 @@ module _ (c : Catalogue) (old vs : List Origin) (n : ℕ) where
   requirement-below throughGate q is o ps h =
       all-append (ClauseBelow n) (listIf _ (gated _ _ ∷ [])) (anyGate _ _ ∷ []) (all-listIf (ClauseBelow n) _ _ (λ e. ((first h, ps), tt))) ((first h, (o, tt)), tt)
   requirement-below onFiring q is o ps h =
-      all-map (ClauseBelow n) _ is (λ i m. (o, all-append (Below n) (disjunctLiterals c old vs _) _ (disjunct-below (disjunctAt c q i) (of-part _ is h m)) ps))
+      all-map (ClauseBelow n) _ is (λ i m. (o, all-append (Below n) (disjunctLiterals c vs _) _ (disjunct-below (disjunctAt c q i) (of-part _ is h m)) ps))
 
   outs-below : (ps : List ℕ) (v : ℕ) → v < n → Low (map partOrigin ps) → All (ClauseBelow n) (map (λ p. auxOut (partVariable vs p) v) ps)
   unfolding literals

@@ -64,7 +64,7 @@ pub data Called (c : Catalogue) (o : Opening) (vs : List Origin) : Clause → Ty
       → Called c o vs (anyGate (variableOf vs (gate (goalAt c q))) (variableOf vs (chosen w)))
   -- ¬owner ∨ condition literals ∨ candidates
   firedRequires : {w : Owner} {q i : ℕ} → w ∈ o .owners → q ∈ requirementsOf c w → shapeOf c q ≡ onFiring → (q, i) ∈ o .fired
-      → Called c o vs (requires (variableOf vs (chosen w)) (disjunctLiterals c vs vs (disjunctAt c q i)) (candidateVariables c vs q))
+      → Called c o vs (requires (variableOf vs (chosen w)) (disjunctLiterals c vs (disjunctAt c q i)) (candidateVariables c vs q))
   -- ¬(tracked part i) ∨ helper j agrees with bit j of i
   bitAgrees : (n i j : ℕ) → i < length (trackedOf c n (o .tracked)) → j < helpersFor (length (trackedOf c n (o .tracked)))
       → Called c o vs (agrees (partVariable vs (getD (trackedOf c n (o .tracked)) i 0)) (variableOf vs (Origin.forbid n j)) (bit j i))

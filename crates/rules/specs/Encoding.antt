@@ -40,6 +40,10 @@ unfoldable pub rangeOrigins : ℕ → List ℕ → List Origin
 rangeOrigins n [] = one n ∷ []
 rangeOrigins n (p ∷ ps) = map partOrigin (p ∷ ps)
 
+unfoldable pub rangeLiterals : List Origin → ℕ → List ℕ → List Literal
+rangeLiterals vs n [] = neg (variableOf vs (one n)) ∷ []
+rangeLiterals vs n (p ∷ ps) = map (λ m. pos (partVariable vs m)) (p ∷ ps)
+
 module _ (c : Catalogue) where
   abbrev pub shapeOf : ℕ → Shape
   shapeOf q = shape (conditionAt c q) (ownerAt c q) (length (candidates c (goalAt c q)))
@@ -73,6 +77,9 @@ module _ (c : Catalogue) where
   origins (joins p earlier) = partOrigin p ∷ helpersOf (nameOf c p) (suc (length earlier))
   origins (links n ps) = one n ∷ map partOrigin ps
 
+  unfoldable pub disjunctLiterals : List Origin → List ℕ → List Literal
+  disjunctLiterals vs d = concatMap (λ r. rangeLiterals vs (rangeName c r) (nonMatching c r)) d
+
   -- ---- the clauses; `old` are the variables before the event, `new` after it
 
   module _ (old new : List Origin) where
@@ -82,20 +89,13 @@ module _ (c : Catalogue) where
     abbrev partVar : ℕ → ℕ
     partVar = partVariable new
 
-    unfoldable pub rangeLiterals : ℕ → List ℕ → List Literal
-    rangeLiterals n [] = neg (var (one n)) ∷ []
-    rangeLiterals n (p ∷ ps) = map (λ m. pos (partVar m)) (p ∷ ps)
-
-    unfoldable pub disjunctLiterals : List ℕ → List Literal
-    disjunctLiterals d = concatMap (λ r. rangeLiterals (rangeName c r) (nonMatching c r)) d
-
     -- "Requires: not owner, or a condition literal, or a candidate"; a gate's own clause once
     unfoldable pub requirementClauses : Shape → Owner → Goal → ℕ → List ℕ → List Clause
     requirementClauses direct o g q is = requires (var (chosen o)) [] (map partVar (candidates c g)) ∷ []
     requirementClauses throughGate o g q is =
         listIf (not (known old (gate g))) (gated (var (gate g)) (map partVar (candidates c g)) ∷ [])
         ++ (anyGate (var (gate g)) (var (chosen o)) ∷ [])
-    requirementClauses onFiring o g q is = map (λ i. requires (var (chosen o)) (disjunctLiterals (disjunctAt c q i)) (map partVar (candidates c g))) is
+    requirementClauses onFiring o g q is = map (λ i. requires (var (chosen o)) (disjunctLiterals new (disjunctAt c q i)) (map partVar (candidates c g))) is
 
     unfoldable pub constraintClauses : (few : Bool) → Owner → ℕ → List Clause
     constraintClauses true o r = map (λ p. constrains (var (chosen o)) (partVar p)) (nonMatching c r)
