@@ -106,7 +106,7 @@ module _ (c : Catalogue) (vs ws : List Origin) where
   unfolding requirementClauses known any
   requirement-once direct o g q is m = inl m
   requirement-once throughGate o g q is m =
-      ⊎-elim inl (λ s. inr (rw (List·Memᴰ·eq-of-singleton (s .1)) (of-gate g (s .0)))) (made-or-not (known vs (gate g)) (_ ∷ []) (_ ∷ []) m)
+      ⊎-elim inl (λ s. inr (rw (List·Memᴰ·eq-of-singleton (s .1)) (of-gate g (s .0)))) (made-or-not _ (_ ∷ []) (_ ∷ []) m)
   requirement-once onFiring o g q is m = inl (rw (fired-whole o g q is) m)
 
   constraint-once : (b : Bool) (o : Owner) (r : ℕ) {k : Clause} → k ∈ constraintClauses c [] ws b o r → (k ∈ constraintClauses c vs ws b o r) ⊎ Shared c vs ws k
@@ -114,7 +114,7 @@ module _ (c : Catalogue) (vs ws : List Origin) where
   constraint-once true o r m = inl m
   constraint-once false o r m =
       ⊎-elim inl (λ s. let p = Memᴰ·of-map _ (nonMatching c r) (s .1) in inr (rw (← (p .2)) (of-violation r (s .0) (p .1))))
-      (made-or-not (known vs (violation r)) _ (_ ∷ []) m)
+      (made-or-not _ _ (_ ∷ []) m)
 
   pub task-once : (t : Task) {k : Clause} → k ∈ taskClauses c [] ws t → (k ∈ taskClauses c vs ws t) ⊎ Shared c vs ws k
   unfolding taskClauses

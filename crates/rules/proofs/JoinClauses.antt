@@ -3,11 +3,10 @@ use mathlib.Core.Path.{_≡_, refl}
 use mathlib.Core.Logic.{_⊎_, inl, inr, ⊎-elim}
 use mathlib.Core.Bool.{Bool, true, false, cond}
 use mathlib.Core.List.{List, [], _∷_, _++_, List·Memᴰ·head, List·Memᴰ·tail, List·Memᴰ·append-cases, Memᴰ·append-left, Memᴰ·append-right}
-use Prim.Native.Nat.{ℕ, zero, suc, _+_, _-_, _<_, _≤_, _^_, zero-le, suc-le-suc}
+use Prim.Native.Nat.{ℕ, zero, suc, _+_, _-_, _<_, _≤_, zero-le, suc-le-suc}
 use native.Mathlib.Nat.{add-zero, add-suc, suc-add, zero-add, le-refl, le-trans, le-of-suc-le-suc, not-suc-le-zero}
 use native.Mathlib.Decide.{decLt}
 use native.Mathlib.Omega.{arith}
-use lib.Dec.{ltb}
 use lib.ListN.{length, getD, drop, length-append, length-drop, List·getD-append}
 use lib.Seq.{getD-append-seam, getD-drop}
 use Rattle.rules.specs.Clause.{Clause}
@@ -21,10 +20,14 @@ one-more : (b : Bool) (h : ℕ) → h ≤ cond b (suc h) h
 one-more true h = omega arith
 one-more false h = le-refl h
 
+after-more : (h k : ℕ) → h ≤ helpersAfter h k
+unfolding helpersAfter
+after-more h k = search one-more
+
 helpers-grow : (k d : ℕ) → helpersFor k ≤ helpersFor (d + k)
-unfolding helpersFor helpersAfter
+unfolding helpersFor
 helpers-grow k zero = rw zero-add (le-refl (helpersFor k))
-helpers-grow k (suc d) = rw suc-add (le-trans (helpers-grow k d) (one-more (ltb (2 ^ helpersFor (d + k)) (suc (d + k))) (helpersFor (d + k))))
+helpers-grow k (suc d) = rw suc-add (le-trans (helpers-grow k d) (after-more (helpersFor (d + k)) (suc (d + k))))
 
 pub more-helpers : (k m : ℕ) → k ≤ m → helpersFor k ≤ helpersFor m
 more-helpers k m h = let e : m - k + k ≡ m = omega arith in rw e at (helpers-grow k (m - k))

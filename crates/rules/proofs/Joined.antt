@@ -1,11 +1,9 @@
 -- A joining part keeps the stored clauses exact: it gets its clauses, its name's new helper those of the older parts, and no other name changes.
 use mathlib.Core.Path.{_≡_, refl, sym, _∙_, ap}
 use mathlib.Core.Logic.{_⊎_, inl, inr, ⊎-elim}
-use mathlib.Core.Bool.{true}
 use mathlib.Core.List.{List, [], _∷_, _++_, map, map-append, append-nil, append-assoc, List·Memᴰ·head, List·Memᴰ·tail, List·Memᴰ·cases-cons, List·Memᴰ·append-cases, List·Memᴰ·eq-of-singleton, Memᴰ·append-left, Memᴰ·append-right, Memᴰ·map, Memᴰ·of-map}
 use Prim.Native.Nat.{ℕ, suc, _<_, _≤_}
 use native.Mathlib.Nat.{zero-add, le-trans}
-use lib.Dec.{ltb}
 use lib.ListN.{length, getD, length-map}
 use borrow.Author.Tests.{ltb-true, lt-ltb}
 use Rattle.rules.specs.Lists.{snoc, upTo}
@@ -146,15 +144,13 @@ module _ (c : Catalogue) (log : List Task) (before : ℕ) (tracked : List ℕ) (
     added = clauses c old vs before (joins p earlier)
 
     -- a one-of-name variable older than the run
-    link-source : before ≤ length vs → ltb (variableOf vs (one own)) before ≡ true → Source c log before after vs (oneClause vs own p)
-    link-source w e =
-        let l = ltb-true (variableOf vs (one own)) before e in
-        of-one (record { is-known = below-known prefix-self (one own) (le-trans l w); older = l }) (in-trackedOf c own after (last-in tracked) refl)
+    link-source : before ≤ length vs → variableOf vs (one own) < before → Source c log before after vs (oneClause vs own p)
+    link-source w l = of-one (record { is-known = below-known prefix-self (one own) (le-trans l w); older = l }) (in-trackedOf c own after (last-in tracked) refl)
 
     join-source : before ≤ length vs → (k : Clause) → k ∈ added → Source c log before after vs k
     unfolding clauses
     join-source w k m =
-        ⊎-elim (bits-source vs _ own-length) (λ m. let r = of-listIf _ (_ ∷ []) m in rw (List·Memᴰ·eq-of-singleton (r .1)) (link-source w (r .0)))
+        ⊎-elim (bits-source vs _ own-length) (λ m. let r = of-listIf _ (_ ∷ []) m in rw (List·Memᴰ·eq-of-singleton (r .1)) (link-source w (ltb-true _ _ (r .0))))
         (List·Memᴰ·append-cases (joinClauses _ _ _) m)
 
     own-bit : (i j : ℕ) → i < length (trackedOf c own after) → j < helperCount c after own
