@@ -1,0 +1,39 @@
+-- Rows of union members, and the ranges of one union: in order of arrival, repeats kept.
+use mathlib.Core.Path.{_≡_}
+use mathlib.Core.Bool.{Bool, true, false}
+use mathlib.Core.List.{List, [], _∷_, map}
+use Prim.Native.Nat.{ℕ, suc, _+_, _*_, _<_, _≤_}
+use lib.Dec.{eqb}
+use lib.ListN.{length, getD, drop}
+use Rattle.rules.specs.Lists.{filter, snoc, upTo}
+use Rattle.words.specs.Words.{words}
+use Rattle.unions.specs.declared.Member.{Member}
+
+pub record Row : Type 0 where
+  pub union : ℕ
+  pub range : ℕ
+
+abbrev pub noRow : Row
+noRow = record { union = 0; range = 0 }
+
+unfoldable pub rowIn : List ℕ → ℕ → Row
+rowIn w i = record { union = getD w (2 * i) 0; range = getD w (2 * i + 1) 0 }
+
+unfoldable pub rows : ℕ → List ℕ → List Row
+rows n bytes = map (rowIn (words bytes)) (upTo 0 n)
+
+unfoldable pub rowOf : Member → Row
+rowOf m = record { union = m .union; range = m .range }
+
+unfoldable pub pushed : List Row → Row → List Row
+pushed rs r = snoc rs r
+
+-- the ranges of a union
+unfoldable pub rangesOf : ℕ → List Row → List ℕ
+rangesOf u rs = map (λ (r : Row). r .range) (filter (λ (r : Row). eqb (r .union) u) rs)
+
+-- what is left of a union from a place on: nothing, or the row at `r` and what is left behind it
+pub record Next (rs : List Row) (u from r : ℕ) : Type 0 where
+  pub most : r ≤ length rs
+  pub here : r < length rs → rangesOf u (drop from rs) ≡ (getD rs r noRow) .range ∷ rangesOf u (drop (suc r) rs)
+  pub none-left : r ≡ length rs → rangesOf u (drop from rs) ≡ []
