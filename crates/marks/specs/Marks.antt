@@ -10,6 +10,10 @@ use Rattle.rules.specs.AtMostOne.{bit}
 unfoldable pub isMarked : List ℕ → ℕ → ℕ → Bool
 isMarked m r p = ltb p 1024 && bit (p % 8) (getD m (r * 128 + p / 8) 0)
 
+-- a byte with bit j set, and every other bit as it was
+pub record WithBit (j x y : ℕ) : Type 0 where
+  pub is : (k : ℕ) → bit k y ≡ (eqb k j || bit k x)
+
 -- one member more, and nothing else changed
 pub record Marked (m m′ : List ℕ) (r p : ℕ) : Type 0 where
   pub is : (s q : ℕ) → isMarked m′ s q ≡ ((eqb s r && eqb q p) || isMarked m s q)
