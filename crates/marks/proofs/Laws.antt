@@ -1,18 +1,17 @@
 -- Marks against their code: a law for each way out of each function.
 use mathlib.Core.Path.{_≡_, refl, sym, _∙_, ap}
-use mathlib.Core.Bool.{Bool, true, false, not, _&&_, _||_, cond, false≢true}
+use mathlib.Core.Bool.{Bool, true, false, not, _&&_, _||_}
 use mathlib.Core.List.{List, [], _∷_, _++_}
-use Prim.Native.Nat.{ℕ, zero, suc, _+_, _*_, _-_, _/_, _%_, _^_, _<_, _≤_, zero-le}
+use Prim.Native.Nat.{ℕ, _+_, _*_, _-_, _/_, _%_, _^_, _<_, _≤_, zero-le}
 use native.Mathlib.Omega.{arith}
 use native.Mathlib.Decide.{decLt}
-use lib.Dec.{eqb, ltb}
-use lib.ListN.{length, getD, set, take, drop, replicate, length-take, length-drop, length-replicate, getD-replicate, List·getD-append}
+use lib.Dec.{eqb}
+use lib.ListN.{length, getD, set, take, drop, replicate, length-drop, length-replicate, getD-replicate, List·getD-append}
 use lib.Seq.{getD-set-same, getD-set-other, getD-take, getD-drop, getD-append-add, length-take-le}
 use lib.Pow.{pow-pos}
-use borrow.Author.Tests.{eqb-true, eqb-false, eq-eqb, ne-eqb, lt-ltb, le-ltb, ltb-true, ltb-false}
+use borrow.Author.Tests.{eqb-true, eqb-false, eq-eqb, ne-eqb, lt-ltb, le-ltb}
 use Rattle.rules.specs.AtMostOne.{bit}
 use Rattle.rules.specs.Lists.{all, upTo}
-use Rattle.rules.specs.Compute.{computing}
 use Rattle.rules.proofs.Bools.{and-left, and-right, and-both}
 use Rattle.rules.proofs.Member.{all-out, upTo-in}
 use Rattle.marks.specs.Marks.{isMarked, WithBit, Marked, Cleared}
@@ -159,8 +158,8 @@ module _ (m : List ℕ) (r : ℕ) (h : r * 128 + 128 ≤ length m) where
       yes f ↦ rw (lt-ltb q 1024 f) (row-zeroed s (q / 8) (q % 8) (omega arith))
     | no f ↦ rw (le-ltb q 1024 (omega arith), and-false (not (eqb s r))) ]
 
-pub clear-is : (m ys : List ℕ) (r a k : ℕ) → r < 512 → 65536 ≤ length m → a ≡ r * 128 → k ≡ a + 128 - a → ys ≡ replicate (length (take k (drop a m))) 0
-    → Cleared m (take a m ++ (ys ++ drop k (drop a m))) r
+pub clear-is : (m ys : List ℕ) (r a k : ℕ) → r < 512 → 65536 ≤ length m → a ≡ r * 128 → k ≡ a + 128 - a
+    → ys ≡ replicate (length (take k (drop a m))) 0 → Cleared m (take a m ++ (ys ++ drop k (drop a m))) r
 unfolding zeroed
 clear-is m ys r a k h l d e f =
     let g : r * 128 + 128 ≤ length m = omega arith in

@@ -1,10 +1,9 @@
 -- Rows of union members, and the ranges of one union: in order of arrival, repeats kept.
 use mathlib.Core.Path.{_≡_}
-use mathlib.Core.Bool.{Bool, true, false}
 use mathlib.Core.List.{List, [], _∷_, map}
-use Prim.Native.Nat.{ℕ, suc, _+_, _*_, _<_, _≤_}
+use Prim.Native.Nat.{ℕ, _+_, _*_, _<_, _≤_}
 use lib.Dec.{eqb}
-use lib.ListN.{length, getD, drop}
+use lib.ListN.{getD, drop}
 use Rattle.rules.specs.Lists.{filter, snoc, upTo}
 use Rattle.words.specs.Words.{words}
 use Rattle.unions.specs.declared.Member.{Member}
@@ -32,8 +31,9 @@ pushed rs r = snoc rs r
 unfoldable pub rangesOf : ℕ → List Row → List ℕ
 rangesOf u rs = map (λ (r : Row). r .range) (filter (λ (r : Row). eqb (r .union) u) rs)
 
--- what is left of a union from a place on: nothing, or the row at `r` and what is left behind it
-pub record Next (rs : List Row) (u from r : ℕ) : Type 0 where
-  pub most : r ≤ length rs
-  pub here : r < length rs → rangesOf u (drop from rs) ≡ (getD rs r noRow) .range ∷ rangesOf u (drop (suc r) rs)
-  pub none-left : r ≡ length rs → rangesOf u (drop from rs) ≡ []
+-- what is left of a union from a place on among n rows: the row at `r` and what is left behind it, or nothing
+pub record Next (n : ℕ) (rs : List Row) (u from r : ℕ) : Type 0 where
+  pub onward : from ≤ r
+  pub most : r ≤ n
+  pub here : r < n → rangesOf u (drop from rs) ≡ (getD rs r noRow) .range ∷ rangesOf u (drop (r + 1) rs)
+  pub none-left : n ≤ r → rangesOf u (drop from rs) ≡ []

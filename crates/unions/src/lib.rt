@@ -37,7 +37,7 @@ pub fn push(u: &mut [u8], n: usize, m: Member) -> usize
 // The place of the first row from `from` on that is of this union, or n.
 pub fn next_of(u: &[u8], n: usize, union: u16, from: usize) -> usize
     requires { ⌜ (n ≤ 13107) × (52428 ≤ length (now u)) × (from ≤ n) ⌝ }
-    ensures { λ r. ⌜ Next (rows n (now (u .entry))) union from r ⌝ }
+    ensures { λ r. ⌜ Next n (rows n (now (u .entry))) union from r ⌝ }
 {
     let mut i = from;
     while i < n {

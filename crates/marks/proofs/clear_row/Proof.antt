@@ -1,3 +1,4 @@
+-- `marks::clear_row` leaves range r without members, and changes no other range.
 use borrow.Author.Needs.{needs}
 use Rattle.marks.proofs.Laws.{clear-is}
 use Rattle.marks.proofs.clear_row.Statement.{statement}

@@ -1,3 +1,4 @@
+-- `marks::has` gives bit j of a byte.
 use borrow.Author.Needs.{needs}
 use Rattle.marks.proofs.Laws.{power-some, has-is}
 use Rattle.marks.proofs.has.Statement.{statement}

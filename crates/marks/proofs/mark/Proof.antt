@@ -1,3 +1,4 @@
+-- `marks::mark` makes part p a member of range r, and changes no other member.
 use borrow.Author.Needs.{needs}
 use Rattle.marks.proofs.Laws.{mark-is}
 use Rattle.marks.proofs.mark.Statement.{statement}

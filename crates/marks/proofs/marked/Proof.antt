@@ -1,3 +1,4 @@
+-- `marks::marked` says whether part p is a member of range r.
 use borrow.Author.Needs.{needs}
 use Rattle.marks.proofs.Laws.{marked-in, marked-out}
 use Rattle.marks.proofs.marked.Statement.{statement}

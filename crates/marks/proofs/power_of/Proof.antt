@@ -1,3 +1,4 @@
+-- `marks::power_of` gives 2 to the power j.
 use borrow.Author.Needs.{needs}
 use Rattle.marks.proofs.Laws.{power-is}
 use Rattle.marks.proofs.power_of.Statement.{statement}

@@ -1,3 +1,4 @@
+-- `marks::with_bit` gives the byte with bit j set and the others as they were; the sum fits a byte.
 use borrow.Author.Needs.{needs}
 use Rattle.marks.proofs.Laws.{bit-stays, bit-added, bit-fits}
 use Rattle.marks.proofs.with_bit.Statement.{statement}
