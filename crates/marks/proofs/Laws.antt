@@ -1,5 +1,5 @@
 -- Marks against their code: a law for each way out of each function.
-use mathlib.Core.Path.{_≡_, refl, sym, _∙_, ap}
+use mathlib.Core.Path.{_≡_, refl, sym, _∙_, ap, fun-ext}
 use mathlib.Core.Bool.{Bool, true, false, not, _&&_, _||_}
 use mathlib.Core.List.{List, [], _∷_, _++_}
 use Prim.Native.Nat.{ℕ, _+_, _*_, _-_, _/_, _%_, _^_, _<_, _≤_, zero-le}
@@ -65,6 +65,7 @@ place-is r s p q h l = same-test _ _ there here
         let i = eqb-true (s * 128 + q / 8) (r * 128 + p / 8) (and-left _ _ e) in
         let j = eqb-true (q % 8) (p % 8) (and-right (eqb (s * 128 + q / 8) (r * 128 + p / 8)) _ e) in
         and-both _ _ (eq-eqb s r (omega arith)) (eq-eqb q p (omega arith))
+
     here : (eqb s r && eqb q p) ≡ true → (eqb (s * 128 + q / 8) (r * 128 + p / 8) && eqb (q % 8) (p % 8)) ≡ true
     here e =
         let i = eqb-true s r (and-left _ _ e) in
@@ -88,12 +89,13 @@ module _ (m : List ℕ) (r p b : ℕ) (h : r < 512) (l : 65536 ≤ length m) (g 
   mark-at : (s q : ℕ) → isMarked (set m (r * 128 + p / 8) b) s q ≡ ((eqb s r && eqb q p) || isMarked m s q)
   unfolding isMarked
   mark-at s q = elim (decLt q 1024) [
-      yes f ↦
+    | yes f ↦
         let e = byte-set m (r * 128 + p / 8) (p % 8) b (omega arith) w (s * 128 + q / 8) (q % 8) in
         rw (lt-ltb q 1024 f, e, place-is r s p q g f)
     | no f ↦
         let e : eqb q p ≡ false = ne-eqb q p (λ x. omega arith) in
-        rw (le-ltb q 1024 (omega arith), e, and-false (eqb s r)) ]
+        rw (le-ltb q 1024 (omega arith), e, and-false (eqb s r))
+  ]
 
   pub mark-is : Marked m (set m (r * 128 + p / 8) b) r p
   mark-is = record { is = mark-at }
@@ -149,14 +151,16 @@ module _ (m : List ℕ) (r : ℕ) (h : r * 128 + 128 ≤ length m) where
       go false e =
           let f = eqb-false s r e in
           elim (decLt s r) [
-            yes g ↦ rw (zeroed-below m (r * 128) 128 h (s * 128 + b) (omega arith))
-          | no g ↦ rw (zeroed-above m (r * 128) 128 h (s * 128 + b) (omega arith)) ]
+            | yes g ↦ rw (zeroed-below m (r * 128) 128 h (s * 128 + b) (omega arith))
+            | no g ↦ rw (zeroed-above m (r * 128) 128 h (s * 128 + b) (omega arith))
+          ]
 
   no-row : (s q : ℕ) → isMarked (zeroed m (r * 128) 128 h) s q ≡ (not (eqb s r) && isMarked m s q)
   unfolding isMarked
   no-row s q = elim (decLt q 1024) [
-      yes f ↦ rw (lt-ltb q 1024 f) (row-zeroed s (q / 8) (q % 8) (omega arith))
-    | no f ↦ rw (le-ltb q 1024 (omega arith), and-false (not (eqb s r))) ]
+    | yes f ↦ rw (lt-ltb q 1024 f) (row-zeroed s (q / 8) (q % 8) (omega arith))
+    | no f ↦ rw (le-ltb q 1024 (omega arith), and-false (not (eqb s r)))
+  ]
 
 pub clear-is : (m ys : List ℕ) (r a k : ℕ) → r < 512 → 65536 ≤ length m → a ≡ r * 128 → k ≡ a + 128 - a
     → ys ≡ replicate (length (take k (drop a m))) 0 → Cleared m (take a m ++ (ys ++ drop k (drop a m))) r
@@ -166,3 +170,19 @@ clear-is m ys r a k h l d e f =
     let q : k ≡ 128 = omega arith in
     let n : length (take 128 (drop (r * 128) m)) ≡ 128 = length-take-le 128 (drop (r * 128) m) (rw length-drop (omega arith)) in
     record { is = rw (f, q, d, n) (no-row m r g) }
+
+-- ---- for callers: the members of each range, as a test on parts
+
+module _ {m m′ : List ℕ} {r p : ℕ} (x : Marked m m′ r p) where
+  pub marked-row : isMarked m′ r ≡ (λ (q : ℕ). eqb q p || isMarked m r q)
+  marked-row = fun-ext (λ q. x .is r q ∙ rw (eq-eqb r r refl))
+
+  pub marked-other : (s : ℕ) → (s ≡ r → ⊥) → isMarked m′ s ≡ isMarked m s
+  marked-other s h = fun-ext (λ q. x .is s q ∙ rw (ne-eqb s r h))
+
+module _ {m m′ : List ℕ} {r : ℕ} (x : Cleared m m′ r) where
+  pub cleared-row : isMarked m′ r ≡ (λ (q : ℕ). false)
+  cleared-row = fun-ext (λ q. x .is r q ∙ rw (eq-eqb r r refl))
+
+  pub cleared-other : (s : ℕ) → (s ≡ r → ⊥) → isMarked m′ s ≡ isMarked m s
+  cleared-other s h = fun-ext (λ q. x .is s q ∙ rw (ne-eqb s r h))

@@ -4,7 +4,7 @@ use mathlib.Core.List.{List, [], _∷_, _++_, map, append-assoc, append-nil}
 use Prim.Native.Nat.{ℕ, zero, suc, _+_, _*_, _<_, _≤_}
 use native.Mathlib.Nat.{le-refl, le-of-suc-le-suc, not-suc-le-zero, add-zero}
 use native.Mathlib.Numerals.{add-one}
-use native.Mathlib.Decide.{decLt}
+use native.Mathlib.Decide.{decLt, ℕ-discrete}
 use native.Mathlib.Omega.{arith}
 use lib.ListN.{length, getD, set, drop, length-map, length-set, drop-of-length-le, List·getD-eq-default, List·getD-append}
 use lib.Seq.{getD-at, getD-set-same, getD-set-other, drop-cons, ext-getD}
@@ -13,7 +13,7 @@ use Rattle.rules.specs.Lists.{filter, snoc, upTo}
 use Rattle.rules.proofs.ListLaws.{length-upTo, length-snoc}
 use Rattle.words.specs.Words.{words, words-in}
 use Rattle.unions.specs.declared.Member.{Member}
-use Rattle.unions.specs.Unions.{Row, noRow, rowIn, rows, rowOf, pushed, rangesOf, Next}
+use Rattle.unions.specs.Unions.{Row, noRow, rowIn, rows, rowOf, pushed, rangesOf, left, At, Next}
 
 -- ---- rows
 
@@ -76,12 +76,13 @@ module _ (n : ℕ) (b b₁ b₂ : List ℕ) (m : Member) (h : n < 13107) (l : 52
 
   row-after : (i : ℕ) → i < n + 1 → getD (rows (n + 1) b₂) i noRow ≡ getD (rows n b ++ (rowOf m ∷ [])) i noRow
   row-after i g = elim (decLt i n) [
-      yes k ↦
+    | yes k ↦
         let q : i < length (rows n b) = rw length-rows k in
         rw (row-at (n + 1) b₂ i g, row-before i k, List·getD-append (rows n b) (rowOf m ∷ []) noRow i q, row-at n b i k)
     | no k ↦
         let q : i ≡ n = omega arith in
-        row-at (n + 1) b₂ i g ∙ rw (q, row-new) (sym (getD-at (rows n b) (rowOf m) [] noRow n (length-rows n b))) ]
+        row-at (n + 1) b₂ i g ∙ rw (q, row-new) (sym (getD-at (rows n b) (rowOf m) [] noRow n (length-rows n b)))
+  ]
 
   pub push-is : rows (n + 1) b₂ ≡ pushed (rows n b) (rowOf m)
   unfolding pushed snoc
@@ -103,56 +104,83 @@ ranges-none : (u : ℕ) → rangesOf u [] ≡ []
 unfolding rangesOf filter
 ranges-none u = refl
 
+ranges-append : (u : ℕ) (rs qs : List Row) → rangesOf u (rs ++ qs) ≡ rangesOf u rs ++ rangesOf u qs
+ranges-append u [] qs = rw (ranges-none u)
+ranges-append u (x ∷ rs) qs = elim (ℕ-discrete (x .union) u) [
+  | yes e ↦ rw (ranges-here u x (rs ++ qs) e, ranges-here u x rs e, ranges-append u rs qs)
+  | no e ↦ rw (ranges-other u x (rs ++ qs) e, ranges-other u x rs e, ranges-append u rs qs)
+]
+
+-- a row more is a range more of its union, and of no other
+pub ranges-pushed : (u : ℕ) (x : Row) (rs : List Row) → x .union ≡ u → rangesOf u (pushed rs x) ≡ snoc (rangesOf u rs) (x .range)
+unfolding pushed snoc
+ranges-pushed u x rs e = rw (ranges-append u rs (x ∷ []), ranges-here u x [] e, ranges-none u)
+
+pub ranges-pushed-other : (u : ℕ) (x : Row) (rs : List Row) → (x .union ≡ u → ⊥) → rangesOf u (pushed rs x) ≡ rangesOf u rs
+unfolding pushed snoc
+ranges-pushed-other u x rs e = rw (ranges-append u rs (x ∷ []), ranges-other u x [] e, ranges-none u) (append-nil (rangesOf u rs))
+
+left-past : (u i : ℕ) (rs : List Row) → length rs ≤ i → left u i rs ≡ []
+unfolding left
+left-past u i rs h = ap (rangesOf u) (drop-of-length-le rs h) ∙ ranges-none u
+
 -- the loop at place i: no row of the union was passed since `from`
 pub record Passed (n : ℕ) (rs : List Row) (u from i : ℕ) : Type 0 where
-  pub all : length rs ≡ n
+  pub count : length rs ≡ n
   pub onward : from ≤ i
   pub most : i ≤ n
-  pub same : rangesOf u (drop from rs) ≡ rangesOf u (drop i rs)
+  pub same : left u from rs ≡ left u i rs
 
 pub next-start : (n u from : ℕ) (b : List ℕ) → from ≤ n → Passed n (rows n b) u from from
-next-start n u from b h = record { all = length-rows n b; onward = le-refl from; most = h; same = refl }
+next-start n u from b h = record { count = length-rows n b; onward = le-refl from; most = h; same = refl }
 
 module _ {n u from i : ℕ} {rs : List Row} (m : Member) (p : Passed n rs u from i) (e : rowOf m ≡ getD rs i noRow) (h : i < n) where
   opened : drop i rs ≡ rowOf m ∷ drop (i + 1) rs
   opened = rw (e, add-one) (drop-cons rs i noRow (omega arith))
 
   pub next-step : (m .union ≡ u → ⊥) → Passed n rs u from (i + 1)
-  unfolding rowOf
+  unfolding left rowOf
   next-step f =
-      let q : rangesOf u (drop i rs) ≡ rangesOf u (drop (i + 1) rs) = ap (rangesOf u) opened ∙ ranges-other u (rowOf m) (drop (i + 1) rs) f in
-      record { all = p .all; onward = omega arith; most = omega arith; same = p .same ∙ q }
+      let q : left u i rs ≡ left u (i + 1) rs = ap (rangesOf u) opened ∙ ranges-other u (rowOf m) (drop (i + 1) rs) f in
+      record { count = p .count; onward = omega arith; most = omega arith; same = p .same ∙ q }
 
   pub next-found : m .union ≡ u → Next n rs u from i
-  unfolding rowOf
+  unfolding left rowOf
   next-found f =
-      let q : rangesOf u (drop i rs) ≡ (getD rs i noRow) .range ∷ rangesOf u (drop (i + 1) rs) =
-        ap (rangesOf u) opened ∙ ranges-here u (rowOf m) (drop (i + 1) rs) f ∙ rw e in
-      record { onward = p .onward; most = p .most; here = λ _. p .same ∙ q; none-left = λ l. let no-such : ⊥ = omega arith in absurd no-such }
+      let q : left u i rs ≡ (getD rs i noRow) .range ∷ left u (i + 1) rs = ap (rangesOf u) opened ∙ ranges-here u (rowOf m) (drop (i + 1) rs) f ∙ rw e in
+      let a : At n rs u i = record { most = p .most; here = λ _. q; none-left = λ l. let no-such : ⊥ = omega arith in absurd no-such } in
+      record { onward = p .onward; same = p .same; at = a }
 
 pub next-none : {n u from i : ℕ} {rs : List Row} → Passed n rs u from i → n ≤ i → Next n rs u from n
 next-none {n} {u} {from} {i} {rs} p h =
-    let g : length rs ≤ i = omega arith in
-    let q : rangesOf u (drop i rs) ≡ [] = ap (rangesOf u) (drop-of-length-le rs g) ∙ ranges-none u in
-    record { onward = omega arith; most = le-refl n; here = λ l. let no-such : ⊥ = omega arith in absurd no-such; none-left = λ _. p .same ∙ q }
+    let e : i ≡ n = omega arith in
+    let g : length rs ≤ n = omega arith in
+    let a : At n rs u n = record { most = le-refl n; here = λ l. let no-such : ⊥ = omega arith in absurd no-such; none-left = λ _. left-past u n rs g } in
+    record { onward = omega arith; same = rw e at (p .same); at = a }
 
--- ---- a walk along a union: what was seen, with what is left from place i on, is all of it
+-- ---- a caller's walk: from the first place of a union to the next, and on
 
-pub record Walked (rs : List Row) (u i : ℕ) (seen : List ℕ) : Type 0 where
-  pub is : seen ++ rangesOf u (drop i rs) ≡ rangesOf u rs
+pub walk-start : {n u r : ℕ} {rs : List Row} → Next n rs u 0 r → left u r rs ≡ rangesOf u rs
+unfolding left
+walk-start x = sym (x .same)
 
-pub walk-start : {u : ℕ} {rs : List Row} → Walked rs u 0 []
-walk-start = record { is = refl }
+pub walk-step : {n u i r : ℕ} {rs : List Row} (m : Member) → At n rs u i → i < n → rowOf m ≡ getD rs i noRow → Next n rs u (i + 1) r
+    → left u i rs ≡ m .range ∷ left u r rs
+unfolding rowOf
+walk-step m a h e x = a .here h ∙ rw (← e, x .same)
 
-module _ {n u i r : ℕ} {rs : List Row} (x : Next n rs u i r) where
-  -- the range found, as `member_at` gives it, and what is left behind it
-  pub next-range : (m : Member) → rowOf m ≡ getD rs r noRow → r < n → rangesOf u (drop i rs) ≡ m .range ∷ rangesOf u (drop (r + 1) rs)
-  unfolding rowOf
-  next-range m e h = x .here h ∙ rw (← e)
+-- by the list of the ranges seen
+pub record Seen (n : ℕ) (rs : List Row) (u i : ℕ) (seen : List ℕ) : Type 0 where
+  pub at : At n rs u i
+  pub is : seen ++ left u i rs ≡ rangesOf u rs
 
-  pub walk-step : {seen : List ℕ} (m : Member) → Walked rs u i seen → rowOf m ≡ getD rs r noRow → r < n → Walked rs u (r + 1) (snoc seen (m .range))
-  unfolding snoc
-  walk-step {seen} m w e h = record { is = rw append-assoc (rw (next-range m e h) at (w .is)) }
+pub seen-start : {n u r : ℕ} {rs : List Row} → Next n rs u 0 r → Seen n rs u r []
+seen-start x = record { at = x .at; is = walk-start x }
 
-  pub walk-end : {seen : List ℕ} → Walked rs u i seen → n ≤ r → seen ≡ rangesOf u rs
-  walk-end {seen} w h = sym (append-nil seen) ∙ rw (x .none-left h) at (w .is)
+pub seen-step : {n u i r : ℕ} {rs : List Row} {seen : List ℕ} (m : Member) → Seen n rs u i seen → i < n → rowOf m ≡ getD rs i noRow
+    → Next n rs u (i + 1) r → Seen n rs u r (snoc seen (m .range))
+unfolding snoc
+seen-step m s h e x = record { at = x .at; is = rw append-assoc (rw (walk-step m (s .at) h e x) at (s .is)) }
+
+pub seen-end : {n u i : ℕ} {rs : List Row} {seen : List ℕ} → Seen n rs u i seen → n ≤ i → seen ≡ rangesOf u rs
+seen-end {seen = seen} s h = sym (append-nil seen) ∙ rw (s .at .none-left h) at (s .is)

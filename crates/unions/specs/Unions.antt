@@ -31,9 +31,18 @@ pushed rs r = snoc rs r
 unfoldable pub rangesOf : ℕ → List Row → List ℕ
 rangesOf u rs = map (λ (r : Row). r .range) (filter (λ (r : Row). eqb (r .union) u) rs)
 
--- what is left of a union from a place on among n rows: the row at `r` and what is left behind it, or nothing
+-- those that are left from place i on
+unfoldable pub left : ℕ → ℕ → List Row → List ℕ
+left u i rs = rangesOf u (drop i rs)
+
+-- place i of n rows: a row of the union, or their end
+pub record At (n : ℕ) (rs : List Row) (u i : ℕ) : Type 0 where
+  pub most : i ≤ n
+  pub here : i < n → left u i rs ≡ (getD rs i noRow) .range ∷ left u (i + 1) rs
+  pub none-left : n ≤ i → left u i rs ≡ []
+
+-- r is the first such place from `from` on
 pub record Next (n : ℕ) (rs : List Row) (u from r : ℕ) : Type 0 where
   pub onward : from ≤ r
-  pub most : r ≤ n
-  pub here : r < n → rangesOf u (drop from rs) ≡ (getD rs r noRow) .range ∷ rangesOf u (drop (r + 1) rs)
-  pub none-left : n ≤ r → rangesOf u (drop from rs) ≡ []
+  pub same : left u from rs ≡ left u r rs
+  pub at : At n rs u r
