@@ -1,0 +1,85 @@
+-- A store behind the rows in use changes no table, and a count raised by one gives its table the row that stands there.
+use mathlib.Core.Path.{_≡_, refl, ap, sym, _∙_}
+use mathlib.Core.Bool.{Bool}
+use mathlib.Core.List.{List, [], _∷_, _++_}
+use Prim.Native.Nat.{ℕ, zero, suc, _+_, _*_, _<_, _≤_}
+use native.Mathlib.Omega.{arith}
+use native.Mathlib.Nat.{mul-le-mul-left}
+use native.Mathlib.Numerals.{add-one}
+use lib.ListN.{length, getD}
+use Rattle.rules.specs.Catalogue.{Part, Condition, Requirement, Constraint}
+use Rattle.rules.specs.Items.{partOf}
+use Rattle.tables.specs.declared.Counts.{Counts}
+use Rattle.tables.specs.Tables.{Tables, listed, field, nameRow, partRow, rangeRow, conditionRow, requirementRow, constraintRow}
+use Rattle.tables.specs.Tables.{conditionFrom, requirementFrom, constraintFrom, tablesIn, Laid}
+use Rattle.tables.specs.Tables.{withName, withPart, withRange, withUnion, withCondition, withRequirement, withConstraint}
+use Rattle.tables.proofs.Listed.{listed-more, listed-same}
+use Rattle.tables.proofs.Stores.{Stored, stored-outside, stored-inside}
+
+-- ---- one table: where it starts, how wide its rows are, and what a row stands for
+
+-- a row's meaning is a matter of its own numbers
+record Table {A : Type 0} (start width : ℕ) (row : List ℕ → ℕ → A) : Type 0 where
+  same : (w w′ : List ℕ) (i : ℕ) → ((j : ℕ) → j < width → field w′ start width i j ≡ field w start width i j) → row w′ i ≡ row w i
+
+names : Table 0 6 nameRow
+unfolding nameRow
+names = record { same = λ w w′ i e. rw (e 0 (omega arith)) }
+
+parts : Table 384 5 partRow
+unfolding partRow
+parts = record { same = λ w w′ i e. rw (e 0 (omega arith), e 1 (omega arith), e 2 (omega arith), e 3 (omega arith)) }
+
+ranges : Table 9604 4 rangeRow
+unfolding rangeRow
+ranges = record { same = λ w w′ i e. e 0 (omega arith) }
+
+conditions : Table 12036 6 conditionRow
+unfolding conditionRow
+conditions = record { same = λ w w′ i e. rw (e 0 (omega arith), e 1 (omega arith), e 2 (omega arith)) }
+
+requirements : Table 13572 6 requirementRow
+unfolding requirementRow
+requirements = record { same = λ w w′ i e. rw (e 0 (omega arith), e 1 (omega arith), e 2 (omega arith), e 3 (omega arith)) }
+
+constraints : Table 19716 3 constraintRow
+unfolding constraintRow
+constraints = record { same = λ w w′ i e. rw (e 0 (omega arith), e 1 (omega arith)) }
+
+-- n rows from `start` on lie before `at` or not before `to`
+abbrev Apart : (start width n at to : ℕ) → Type 0
+Apart start width n at to = start < to → start + width * n ≤ at
+
+apart-kept : {A : Type 0} {start width : ℕ} {row : List ℕ → ℕ → A} {w : List ℕ} {at : ℕ} {xs w′ : List ℕ}
+    → Table start width row → Stored w at xs w′ → (n : ℕ) → Apart start width n at (at + length xs) → listed n (row w′) ≡ listed n (row w)
+unfolding field
+apart-kept {A} {start} {width} {row} {w} {at} {xs} {w′} t s n apart =
+    listed-same n (row w′) (row w)
+    (λ i h. t .same w w′ i
+    (λ j l. stored-outside s (start + width * i + j)
+    (λ a b.
+      let rows : width * suc i ≤ width * n = mul-le-mul-left width h in
+      let past : start + width * n ≤ at = apart (omega arith) in
+      omega arith)))
+
+-- ---- all of them
+
+-- the numbers from `at` to `to` lie in no row in use
+pub record Free (k : Counts) (at to : ℕ) : Type 0 where
+  pub names : Apart 0 6 (k .names) at to
+  pub parts : Apart 384 5 (k .parts) at to
+  pub ranges : Apart 9604 4 (k .ranges) at to
+  pub conditions : Apart 12036 6 (k .conditions) at to
+  pub requirements : Apart 13572 6 (k .requirements) at to
+  pub constraints : Apart 19716 3 (k .constraints) at to
+
+pub free-kept : {w : List ℕ} {at : ℕ} {xs w′ : List ℕ} (k : Counts) → Stored w at xs w′ → Free k at (at + length xs) → tablesIn k w′ ≡ tablesIn k w
+unfolding tablesIn
+free-kept k s f =
+    rw (
+      apart-kept names s (k .names) (f .names),
+      apart-kept parts s (k .parts) (f .parts),
+      apart-kept ranges s (k .ranges) (f .ranges),
+      apart-kept conditions s (k .conditions) (f .conditions),
+      apart-kept requirements s (k .requirements) (f .requirements),
+      apart-kept constraints s (k .constraints) (f .constraints))
