@@ -8,6 +8,7 @@ use native.Mathlib.Nat.{mul-le-mul-left}
 use native.Mathlib.Numerals.{add-one}
 use lib.ListN.{length, getD}
 use Rattle.rules.specs.Catalogue.{Part, Condition, Requirement, Constraint}
+use Rattle.rules.specs.AtMostOne.{bit}
 use Rattle.rules.specs.Items.{partOf}
 use Rattle.tables.specs.declared.Counts.{Counts}
 use Rattle.tables.specs.Tables.{Tables, listed, field, nameRow, partRow, rangeRow, conditionRow, requirementRow, constraintRow}
@@ -83,3 +84,92 @@ free-kept k s f =
       apart-kept conditions s (k .conditions) (f .conditions),
       apart-kept requirements s (k .requirements) (f .requirements),
       apart-kept constraints s (k .constraints) (f .constraints))
+
+-- ---- one row more
+
+module _ (k : Counts) where
+  abbrev pub moreNames : Counts
+  moreNames = record { names = k .names + 1; parts = k .parts; ranges = k .ranges; unions = k .unions; members = k .members; conditions = k .conditions; requirements = k .requirements; constraints = k .constraints }
+
+  abbrev pub moreParts : Counts
+  moreParts = record { names = k .names; parts = k .parts + 1; ranges = k .ranges; unions = k .unions; members = k .members; conditions = k .conditions; requirements = k .requirements; constraints = k .constraints }
+
+  abbrev pub moreRanges : Counts
+  moreRanges = record { names = k .names; parts = k .parts; ranges = k .ranges + 1; unions = k .unions; members = k .members; conditions = k .conditions; requirements = k .requirements; constraints = k .constraints }
+
+  abbrev pub moreUnions : Counts
+  moreUnions = record { names = k .names; parts = k .parts; ranges = k .ranges; unions = k .unions + 1; members = k .members; conditions = k .conditions; requirements = k .requirements; constraints = k .constraints }
+
+  abbrev pub moreConditions : Counts
+  moreConditions = record { names = k .names; parts = k .parts; ranges = k .ranges; unions = k .unions; members = k .members; conditions = k .conditions + 1; requirements = k .requirements; constraints = k .constraints }
+
+  abbrev pub moreRequirements : Counts
+  moreRequirements = record { names = k .names; parts = k .parts; ranges = k .ranges; unions = k .unions; members = k .members; conditions = k .conditions; requirements = k .requirements + 1; constraints = k .constraints }
+
+  abbrev pub moreConstraints : Counts
+  moreConstraints = record { names = k .names; parts = k .parts; ranges = k .ranges; unions = k .unions; members = k .members; conditions = k .conditions; requirements = k .requirements; constraints = k .constraints + 1 }
+
+  module _ (w : List ℕ) where
+    pub one-name : tablesIn moreNames w ≡ withName (tablesIn k w) (nameRow w (k .names))
+    unfolding tablesIn withName
+    one-name = rw listed-more
+
+    pub one-part : tablesIn moreParts w ≡ withPart (tablesIn k w) (partRow w (k .parts))
+    unfolding tablesIn withPart
+    one-part = rw listed-more
+
+    pub one-range : tablesIn moreRanges w ≡ withRange (tablesIn k w) (rangeRow w (k .ranges))
+    unfolding tablesIn withRange
+    one-range = rw listed-more
+
+    pub one-union : tablesIn moreUnions w ≡ withUnion (tablesIn k w)
+    unfolding tablesIn withUnion
+    one-union = rw add-one
+
+    pub one-condition : tablesIn moreConditions w ≡ withCondition (tablesIn k w) (conditionRow w (k .conditions))
+    unfolding tablesIn withCondition
+    one-condition = rw listed-more
+
+    pub one-requirement : tablesIn moreRequirements w ≡ withRequirement (tablesIn k w) (requirementRow w (k .requirements))
+    unfolding tablesIn withRequirement
+    one-requirement = rw listed-more
+
+    pub one-constraint : tablesIn moreConstraints w ≡ withConstraint (tablesIn k w) (constraintRow w (k .constraints))
+    unfolding tablesIn withConstraint
+    one-constraint = rw listed-more
+
+-- ---- what a row stands for once its numbers are stored
+
+-- row n of a table begins with the numbers xs
+pub record Begins (w : List ℕ) (start width n : ℕ) (xs : List ℕ) : Type 0 where
+  at : (j : ℕ) → j < length xs → field w start width n j ≡ getD xs j 0
+
+pub stored-begins : {w : List ℕ} {at : ℕ} {xs w′ : List ℕ} (start width n : ℕ)
+    → Stored w at xs w′ → at ≡ start + width * n → at + length xs ≤ length w → Begins w′ start width n xs
+unfolding field
+stored-begins start width n s e room = record { at = λ j h. rw (sym e) (stored-inside s j h room) }
+
+module _ {w : List ℕ} {n : ℕ} where
+  pub name-from : {f : ℕ} → Begins w 0 6 n (f ∷ []) → nameRow w n ≡ bit 0 f
+  unfolding nameRow
+  name-from b = rw (b .at 0 (omega arith))
+
+  pub part-from : {m f u e : ℕ} → Begins w 384 5 n (m ∷ f ∷ u ∷ e ∷ []) → partRow w n ≡ partOf m f u e
+  unfolding partRow
+  part-from b = rw (b .at 0 (omega arith), b .at 1 (omega arith), b .at 2 (omega arith), b .at 3 (omega arith))
+
+  pub range-from : {m : ℕ} → Begins w 9604 4 n (m ∷ []) → rangeRow w n ≡ m
+  unfolding rangeRow
+  range-from b = b .at 0 (omega arith)
+
+  pub condition-from : {o l r : ℕ} → Begins w 12036 6 n (o ∷ l ∷ r ∷ []) → conditionRow w n ≡ conditionFrom o l r
+  unfolding conditionRow
+  condition-from b = rw (b .at 0 (omega arith), b .at 1 (omega arith), b .at 2 (omega arith))
+
+  pub requirement-from : {o f m c : ℕ} → Begins w 13572 6 n (o ∷ f ∷ m ∷ c ∷ []) → requirementRow w n ≡ requirementFrom o f m c
+  unfolding requirementRow
+  requirement-from b = rw (b .at 0 (omega arith), b .at 1 (omega arith), b .at 2 (omega arith), b .at 3 (omega arith))
+
+  pub constraint-from : {o r : ℕ} → Begins w 19716 3 n (o ∷ r ∷ []) → constraintRow w n ≡ constraintFrom o r
+  unfolding constraintRow
+  constraint-from b = rw (b .at 0 (omega arith), b .at 1 (omega arith))

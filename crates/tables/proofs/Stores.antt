@@ -33,6 +33,9 @@ sets-more w at (y ∷ xs) x =
     let q : at + suc (length xs) ≡ suc at + length xs = omega arith in
     rw q (sets-more (set w at y) (suc at) xs x)
 
+pub first : {w : List ℕ} {at : ℕ} {u : List ℕ} (x : ℕ) → u ≡ set w at x → Stored w at (x ∷ []) u
+first x e = record { is = e }
+
 -- and one number more, behind those
 pub then : {w : List ℕ} {at : ℕ} {xs u v : List ℕ} → Stored w at xs u → (x : ℕ) → v ≡ set u (at + length xs) x → Stored w at (xs ++ (x ∷ [])) v
 then {w} {at} {xs} s x e = record { is = e ∙ rw (s .is) (sym (sets-more w at xs x)) }

@@ -1,4 +1,5 @@
 -- The tables of the catalogue's area as the things they stand for. A row is some two-byte numbers; docs/LIMITS.md, "Work areas", has their order.
+use mathlib.Core.Path.{_≡_}
 use mathlib.Core.Bool.{Bool, true, false}
 use mathlib.Core.List.{List, [], _∷_, map}
 use Prim.Native.Nat.{ℕ, suc, _+_, _*_, _≤_}
@@ -125,3 +126,9 @@ withConstraint t x = record { names = t .names; parts = t .parts; ranges = t .ra
 
 unfoldable pub withUnion : Tables → Tables
 withUnion t = record { names = t .names; parts = t .parts; ranges = t .ranges; unions = suc (t .unions); conditions = t .conditions; requirements = t .requirements; constraints = t .constraints }
+
+-- what is left when one thing more was put: r counts it, the bytes hold the tables t, and the union members are as many as before
+pub record Added (k r : Counts) (bytes : List ℕ) (t : Tables) : Type 0 where
+  pub laid : Laid r (length bytes)
+  pub members : r .members ≡ k .members
+  pub is : tables r bytes ≡ t

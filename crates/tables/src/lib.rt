@@ -21,6 +21,7 @@ ghost use Rattle.tables.specs.Tables.{
     withRequirement,
     withConstraint,
     Laid,
+    Added,
 };
 
 // How many of each thing a catalogue has given; `members` counts union members.
@@ -185,9 +186,7 @@ pub fn constraint_at(t: &[u8], k: Counts, c: usize) -> Constraint
 pub fn put_name(t: &mut [u8], k: Counts, flags: u8) -> Counts
     requires { ⌜ Laid k (length (now t)) ⌝ }
     requires { ⌜ k .names < 64 ⌝ }
-    ensures { λ r. ⌜ Laid r (length (now (t .exit))) ⌝ }
-    ensures { λ r. ⌜ r .members ≡ k .members ⌝ }
-    ensures { λ r. ⌜ tables r (now (t .exit)) ≡ withName (tables k (now (t .entry))) (bit 0 flags) ⌝ }
+    ensures { λ r. ⌜ Added k r (now (t .exit)) (withName (tables k (now (t .entry))) (bit 0 flags)) ⌝ }
 {
     words::put(t, 6 * k.names, flags as u16);
     let mut more = k;
@@ -198,9 +197,7 @@ pub fn put_name(t: &mut [u8], k: Counts, flags: u8) -> Counts
 pub fn put_part(t: &mut [u8], k: Counts, name: u16, flags: u8, unknown: u16, exclusion: u16) -> Counts
     requires { ⌜ Laid k (length (now t)) ⌝ }
     requires { ⌜ k .parts < 1024 ⌝ }
-    ensures { λ r. ⌜ Laid r (length (now (t .exit))) ⌝ }
-    ensures { λ r. ⌜ r .members ≡ k .members ⌝ }
-    ensures { λ r. ⌜ tables r (now (t .exit)) ≡ withPart (tables k (now (t .entry))) (partOf name flags unknown exclusion) ⌝ }
+    ensures { λ r. ⌜ Added k r (now (t .exit)) (withPart (tables k (now (t .entry))) (partOf name flags unknown exclusion)) ⌝ }
 {
     let at = 384 + 5 * k.parts;
     words::put(t, at, name);
@@ -215,9 +212,7 @@ pub fn put_part(t: &mut [u8], k: Counts, name: u16, flags: u8, unknown: u16, exc
 pub fn put_range(t: &mut [u8], k: Counts, name: u16) -> Counts
     requires { ⌜ Laid k (length (now t)) ⌝ }
     requires { ⌜ k .ranges < 512 ⌝ }
-    ensures { λ r. ⌜ Laid r (length (now (t .exit))) ⌝ }
-    ensures { λ r. ⌜ r .members ≡ k .members ⌝ }
-    ensures { λ r. ⌜ tables r (now (t .exit)) ≡ withRange (tables k (now (t .entry))) name ⌝ }
+    ensures { λ r. ⌜ Added k r (now (t .exit)) (withRange (tables k (now (t .entry))) name) ⌝ }
 {
     words::put(t, 9604 + 4 * k.ranges, name);
     let mut more = k;
@@ -228,9 +223,7 @@ pub fn put_range(t: &mut [u8], k: Counts, name: u16) -> Counts
 pub fn put_union(t: &[u8], k: Counts) -> Counts
     requires { ⌜ Laid k (length (now t)) ⌝ }
     requires { ⌜ k .unions < 128 ⌝ }
-    ensures { λ r. ⌜ Laid r (length (now (t .entry))) ⌝ }
-    ensures { λ r. ⌜ r .members ≡ k .members ⌝ }
-    ensures { λ r. ⌜ tables r (now (t .entry)) ≡ withUnion (tables k (now (t .entry))) ⌝ }
+    ensures { λ r. ⌜ Added k r (now (t .entry)) (withUnion (tables k (now (t .entry)))) ⌝ }
 {
     let mut more = k;
     more.unions = k.unions + 1;
@@ -240,9 +233,7 @@ pub fn put_union(t: &[u8], k: Counts) -> Counts
 pub fn put_condition(t: &mut [u8], k: Counts, c: Condition) -> Counts
     requires { ⌜ Laid k (length (now t)) ⌝ }
     requires { ⌜ k .conditions < 256 ⌝ }
-    ensures { λ r. ⌜ Laid r (length (now (t .exit))) ⌝ }
-    ensures { λ r. ⌜ r .members ≡ k .members ⌝ }
-    ensures { λ r. ⌜ tables r (now (t .exit)) ≡ withCondition (tables k (now (t .entry))) (conditionIs c) ⌝ }
+    ensures { λ r. ⌜ Added k r (now (t .exit)) (withCondition (tables k (now (t .entry))) (conditionIs c)) ⌝ }
 {
     let at = 12036 + 6 * k.conditions;
     words::put(t, at, c.operator);
@@ -256,9 +247,7 @@ pub fn put_condition(t: &mut [u8], k: Counts, c: Condition) -> Counts
 pub fn put_requirement(t: &mut [u8], k: Counts, q: ConditionalRequirement) -> Counts
     requires { ⌜ Laid k (length (now t)) ⌝ }
     requires { ⌜ k .requirements < 1024 ⌝ }
-    ensures { λ r. ⌜ Laid r (length (now (t .exit))) ⌝ }
-    ensures { λ r. ⌜ r .members ≡ k .members ⌝ }
-    ensures { λ r. ⌜ tables r (now (t .exit)) ≡ withRequirement (tables k (now (t .entry))) (requirementIs q) ⌝ }
+    ensures { λ r. ⌜ Added k r (now (t .exit)) (withRequirement (tables k (now (t .entry))) (requirementIs q)) ⌝ }
 {
     let at = 13572 + 6 * k.requirements;
     words::put(t, at, q.owner);
@@ -273,9 +262,7 @@ pub fn put_requirement(t: &mut [u8], k: Counts, q: ConditionalRequirement) -> Co
 pub fn put_constraint(t: &mut [u8], k: Counts, c: Constraint) -> Counts
     requires { ⌜ Laid k (length (now t)) ⌝ }
     requires { ⌜ k .constraints < 512 ⌝ }
-    ensures { λ r. ⌜ Laid r (length (now (t .exit))) ⌝ }
-    ensures { λ r. ⌜ r .members ≡ k .members ⌝ }
-    ensures { λ r. ⌜ tables r (now (t .exit)) ≡ withConstraint (tables k (now (t .entry))) (constraintIs c) ⌝ }
+    ensures { λ r. ⌜ Added k r (now (t .exit)) (withConstraint (tables k (now (t .entry))) (constraintIs c)) ⌝ }
 {
     let at = 19716 + 3 * k.constraints;
     words::put(t, at, c.owner);

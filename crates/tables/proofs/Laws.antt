@@ -1,0 +1,109 @@
+-- The functions of the tables against the definitions: a law for each way out of each.
+use mathlib.Core.Path.{_≡_, refl, ap, sym, _∙_}
+use mathlib.Core.Bool.{Bool, true, false}
+use mathlib.Core.List.{List, [], _∷_}
+use Prim.Native.Nat.{ℕ, zero, suc, _+_, _*_, _/_, _%_, _^_, _<_, _≤_}
+use native.Mathlib.Omega.{arith}
+use native.Mathlib.Nat.{div-one, div-div-eq-div-mul}
+use borrow.Author.Needs.{needs}
+use lib.Dec.{eqb}
+use lib.ListN.{length, getD, set}
+use Rattle.rules.specs.AtMostOne.{bit}
+use Rattle.rules.specs.Catalogue.{Part, Condition, Requirement, Constraint, noPart, noCondition, noRequirement, noConstraint}
+use Rattle.rules.specs.Items.{partOf, ownerOf, conditionOf, goalOf, operatorOf}
+use Rattle.words.specs.Words.{words, length-words}
+use Rattle.tables.specs.declared.Counts.{Counts}
+use Rattle.tables.specs.declared.Condition as C
+use Rattle.tables.specs.declared.ConditionalRequirement.{ConditionalRequirement}
+use Rattle.tables.specs.declared.Constraint as K
+use Rattle.tables.specs.Tables.{Tables, field, nameRow, partRow, rangeRow, conditionRow, requirementRow, constraintRow}
+use Rattle.tables.specs.Tables.{conditionBy, conditionFrom, requirementFrom, constraintFrom, conditionIs, requirementIs, constraintIs}
+use Rattle.tables.specs.Tables.{tablesIn, tables, Laid, Added}
+use Rattle.tables.specs.Tables.{withName, withPart, withRange, withUnion, withCondition, withRequirement, withConstraint}
+use Rattle.tables.proofs.Listed.{listed-at, listed-past}
+use Rattle.tables.proofs.Stores.{Stored, first, then, stored-length}
+use Rattle.tables.proofs.Rows.{Free, free-kept, stored-begins}
+use Rattle.tables.proofs.Rows.{moreNames, moreParts, moreRanges, moreUnions, moreConditions, moreRequirements, moreConstraints}
+use Rattle.tables.proofs.Rows.{one-name, one-part, one-range, one-union, one-condition, one-requirement, one-constraint}
+use Rattle.tables.proofs.Rows.{name-from, part-from, range-from, condition-from, requirement-from, constraint-from}
+
+-- ---- one thing more
+
+fits-stored : (t t′ : List ℕ) {at : ℕ} {xs : List ℕ} → Stored (words t) at xs (words t′) → 50696 ≤ length t → 50696 ≤ length t′
+fits-stored t t′ s h = omega (arith, length-words t, length-words t′, stored-length s)
+
+laid-stored : (r : Counts) (t t′ : List ℕ) {at : ℕ} {xs : List ℕ} → Stored (words t) at xs (words t′) → Laid r (length t) → Laid r (length t′)
+laid-stored r t t′ s l =
+    let fits : 50696 ≤ length t′ = fits-stored t t′ s (l .fits) in
+    search needs
+
+added : {A : Type 0} (with : Tables → A → Tables) (k r : Counts) (t t′ : List ℕ) {at : ℕ} {xs : List ℕ} {y x : A}
+    → Stored (words t) at xs (words t′) → Laid r (length t) → Free k at (at + length xs) → r .members ≡ k .members
+    → tablesIn r (words t′) ≡ with (tablesIn k (words t′)) y → y ≡ x → Added k r t′ (with (tables k t) x)
+unfolding tables
+added with k r t t′ s l f m g e = record { laid = laid-stored r t t′ s l; members = m; is = g ∙ rw (free-kept k s f, e) }
+
+pub name-added : (k : Counts) (t t₁ : List ℕ) (f : ℕ) → Laid k (length t) → k .names < 64
+    → words t₁ ≡ set (words t) (6 * k .names) f
+    → Added k (moreNames k) t₁ (withName (tables k t) (bit 0 f))
+name-added k t t₁ f l h e₁ =
+    let s : Stored (words t) (6 * k .names) (f ∷ []) (words t₁) = first f e₁ in
+    added withName k (moreNames k) t t₁ s (search needs) (search needs) refl (one-name k (words t₁))
+    (name-from (stored-begins 0 6 (k .names) s (omega arith) (omega (arith, length-words t))))
+
+pub part-added : (k : Counts) (t t₁ t₂ t₃ t₄ : List ℕ) (n f u e : ℕ) → Laid k (length t) → k .parts < 1024
+    → words t₁ ≡ set (words t) (384 + 5 * k .parts) n
+    → words t₂ ≡ set (words t₁) (384 + 5 * k .parts + 1) f
+    → words t₃ ≡ set (words t₂) (384 + 5 * k .parts + 2) u
+    → words t₄ ≡ set (words t₃) (384 + 5 * k .parts + 3) e
+    → Added k (moreParts k) t₄ (withPart (tables k t) (partOf n f u e))
+part-added k t t₁ t₂ t₃ t₄ n f u e l h e₁ e₂ e₃ e₄ =
+    let s : Stored (words t) (384 + 5 * k .parts) (n ∷ f ∷ u ∷ e ∷ []) (words t₄) = then (then (then (first n e₁) f e₂) u e₃) e e₄ in
+    added withPart k (moreParts k) t t₄ s (search needs) (search needs) refl (one-part k (words t₄))
+    (part-from (stored-begins 384 5 (k .parts) s refl (omega (arith, length-words t))))
+
+pub range-added : (k : Counts) (t t₁ : List ℕ) (n : ℕ) → Laid k (length t) → k .ranges < 512
+    → words t₁ ≡ set (words t) (9604 + 4 * k .ranges) n
+    → Added k (moreRanges k) t₁ (withRange (tables k t) n)
+range-added k t t₁ n l h e₁ =
+    let s : Stored (words t) (9604 + 4 * k .ranges) (n ∷ []) (words t₁) = first n e₁ in
+    added withRange k (moreRanges k) t t₁ s (search needs) (search needs) refl (one-range k (words t₁))
+    (range-from (stored-begins 9604 4 (k .ranges) s refl (omega (arith, length-words t))))
+
+pub union-added : (k : Counts) (t : List ℕ) → Laid k (length t) → k .unions < 128 → Added k (moreUnions k) t (withUnion (tables k t))
+unfolding tables
+union-added k t l h = record { laid = search needs; members = refl; is = one-union k (words t) }
+
+pub condition-added : (k : Counts) (t t₁ t₂ t₃ : List ℕ) (c : C.Condition) → Laid k (length t) → k .conditions < 256
+    → words t₁ ≡ set (words t) (12036 + 6 * k .conditions) (c .operator)
+    → words t₂ ≡ set (words t₁) (12036 + 6 * k .conditions + 1) (c .left)
+    → words t₃ ≡ set (words t₂) (12036 + 6 * k .conditions + 2) (c .right)
+    → Added k (moreConditions k) t₃ (withCondition (tables k t) (conditionIs c))
+unfolding conditionIs
+condition-added k t t₁ t₂ t₃ c l h e₁ e₂ e₃ =
+    let s : Stored (words t) (12036 + 6 * k .conditions) (c .operator ∷ c .left ∷ c .right ∷ []) (words t₃) = then (then (first _ e₁) _ e₂) _ e₃ in
+    added withCondition k (moreConditions k) t t₃ s (search needs) (search needs) refl (one-condition k (words t₃))
+    (condition-from (stored-begins 12036 6 (k .conditions) s refl (omega (arith, length-words t))))
+
+pub requirement-added : (k : Counts) (t t₁ t₂ t₃ t₄ : List ℕ) (q : ConditionalRequirement) → Laid k (length t) → k .requirements < 1024
+    → words t₁ ≡ set (words t) (13572 + 6 * k .requirements) (q .owner)
+    → words t₂ ≡ set (words t₁) (13572 + 6 * k .requirements + 1) (q .form)
+    → words t₃ ≡ set (words t₂) (13572 + 6 * k .requirements + 2) (q .number)
+    → words t₄ ≡ set (words t₃) (13572 + 6 * k .requirements + 3) (q .condition)
+    → Added k (moreRequirements k) t₄ (withRequirement (tables k t) (requirementIs q))
+unfolding requirementIs
+requirement-added k t t₁ t₂ t₃ t₄ q l h e₁ e₂ e₃ e₄ =
+    let s : Stored (words t) (13572 + 6 * k .requirements) (q .owner ∷ q .form ∷ q .number ∷ q .condition ∷ []) (words t₄) =
+      then (then (then (first _ e₁) _ e₂) _ e₃) _ e₄ in
+    added withRequirement k (moreRequirements k) t t₄ s (search needs) (search needs) refl (one-requirement k (words t₄))
+    (requirement-from (stored-begins 13572 6 (k .requirements) s refl (omega (arith, length-words t))))
+
+pub constraint-added : (k : Counts) (t t₁ t₂ : List ℕ) (c : K.Constraint) → Laid k (length t) → k .constraints < 512
+    → words t₁ ≡ set (words t) (19716 + 3 * k .constraints) (c .owner)
+    → words t₂ ≡ set (words t₁) (19716 + 3 * k .constraints + 1) (c .range)
+    → Added k (moreConstraints k) t₂ (withConstraint (tables k t) (constraintIs c))
+unfolding constraintIs
+constraint-added k t t₁ t₂ c l h e₁ e₂ =
+    let s : Stored (words t) (19716 + 3 * k .constraints) (c .owner ∷ c .range ∷ []) (words t₂) = then (first _ e₁) _ e₂ in
+    added withConstraint k (moreConstraints k) t t₂ s (search needs) (search needs) refl (one-constraint k (words t₂))
+    (constraint-from (stored-begins 19716 3 (k .constraints) s refl (omega (arith, length-words t))))
