@@ -4,7 +4,7 @@ use mathlib.Core.Bool.{Bool, true, false}
 use mathlib.Core.List.{List, [], _∷_}
 use Prim.Native.Nat.{ℕ, zero, suc, _+_, _*_, _/_, _%_, _^_, _<_, _≤_}
 use native.Mathlib.Omega.{arith}
-use native.Mathlib.Nat.{div-one, div-div-eq-div-mul}
+use native.Mathlib.Nat.{add-zero, div-one, div-div-eq-div-mul}
 use borrow.Author.Needs.{needs}
 use lib.Dec.{eqb}
 use lib.ListN.{length, getD, set}
@@ -26,6 +26,98 @@ use Rattle.tables.proofs.Rows.{Free, free-kept, stored-begins}
 use Rattle.tables.proofs.Rows.{moreNames, moreParts, moreRanges, moreUnions, moreConditions, moreRequirements, moreConstraints}
 use Rattle.tables.proofs.Rows.{one-name, one-part, one-range, one-union, one-condition, one-requirement, one-constraint}
 use Rattle.tables.proofs.Rows.{name-from, part-from, range-from, condition-from, requirement-from, constraint-from}
+
+-- ---- what stands at a number, below a table's count and past it
+
+-- bit j of x, as `has_bit` gives it for 2 ^ j
+bit-is : (j x : ℕ) → bit j x ≡ eqb (x / 2 ^ j % 2) 1
+unfolding bit
+bit-is zero x = rw div-one
+bit-is (suc j) x =
+    let q : x / 2 / 2 ^ j ≡ x / 2 ^ suc j = div-div-eq-div-mul x 2 (2 ^ j) ∙ ap (λ (n : ℕ). x / n) (omega arith) in
+    rw (← q) (bit-is j (x / 2))
+
+-- what `has_bit` gives for a number that was read
+pub bit-read : (r : Bool) (x y power : ℕ) → r ≡ eqb (x / power % 2) 1 → x ≡ y → r ≡ eqb (y / power % 2) 1
+bit-read r x y power e h = rw (← h) e
+
+module _ (k : Counts) (t : List ℕ) (i : ℕ) where
+  abbrev number : ℕ → ℕ
+  number at = getD (words t) at 0
+
+  pub name-in : i < k .names → getD (tables k t .names) i false ≡ eqb (number (6 * i) / 1 % 2) 1
+  unfolding tables tablesIn nameRow field
+  name-in h =
+      let q : 0 + 6 * i + 0 ≡ 6 * i = omega arith in
+      listed-at (k .names) (nameRow (words t)) i false h ∙ rw (q, bit-is 0 (number (6 * i)))
+
+  pub name-past : k .names ≤ i → getD (tables k t .names) i false ≡ false
+  unfolding tables tablesIn
+  name-past h = listed-past (k .names) (nameRow (words t)) i false h
+
+  pub part-in : i < k .parts
+      → getD (tables k t .parts) i noPart
+      ≡ record {
+        name = number (384 + 5 * i);
+        ready = eqb (number (384 + 5 * i + 1) / 1 % 2) 1;
+        unknown = eqb (number (384 + 5 * i + 1) / 2 % 2) 1;
+        locked = eqb (number (384 + 5 * i + 1) / 4 % 2) 1;
+        favoured = eqb (number (384 + 5 * i + 1) / 8 % 2) 1;
+        excluded = eqb (number (384 + 5 * i + 1) / 16 % 2) 1;
+        unknownReason = number (384 + 5 * i + 2);
+        exclusionReason = number (384 + 5 * i + 3)
+      }
+  unfolding tables tablesIn partRow partOf field
+  part-in h =
+      let flags = number (384 + 5 * i + 1) in
+      listed-at (k .parts) (partRow (words t)) i noPart h
+      ∙ rw (add-zero (384 + 5 * i), bit-is 0 flags, bit-is 1 flags, bit-is 2 flags, bit-is 3 flags, bit-is 4 flags)
+
+  pub part-past : k .parts ≤ i → getD (tables k t .parts) i noPart ≡ noPart
+  unfolding tables tablesIn
+  part-past h = listed-past (k .parts) (partRow (words t)) i noPart h
+
+  pub range-in : i < k .ranges → getD (tables k t .ranges) i 0 ≡ number (9604 + 4 * i)
+  unfolding tables tablesIn rangeRow field
+  range-in h = listed-at (k .ranges) (rangeRow (words t)) i 0 h ∙ rw (add-zero (9604 + 4 * i))
+
+  pub range-past : k .ranges ≤ i → getD (tables k t .ranges) i 0 ≡ 0
+  unfolding tables tablesIn
+  range-past h = listed-past (k .ranges) (rangeRow (words t)) i 0 h
+
+  pub condition-in : (o l r : ℕ) → i < k .conditions
+      → o ≡ number (12036 + 6 * i) → l ≡ number (12036 + 6 * i + 1) → r ≡ number (12036 + 6 * i + 2)
+      → conditionIs (record { operator = o; left = l; right = r }) ≡ getD (tables k t .conditions) i noCondition
+  unfolding tables tablesIn conditionIs conditionRow field
+  condition-in o l r h e₀ e₁ e₂ =
+      rw (listed-at (k .conditions) (conditionRow (words t)) i noCondition h, add-zero (12036 + 6 * i), e₀, e₁, e₂)
+
+  pub condition-past : k .conditions ≤ i → conditionIs (record { operator = 2; left = 0; right = 0 }) ≡ getD (tables k t .conditions) i noCondition
+  unfolding tables tablesIn conditionIs conditionFrom conditionBy
+  condition-past h = sym (listed-past (k .conditions) (conditionRow (words t)) i noCondition h)
+
+  pub requirement-in : (o f n c : ℕ) → i < k .requirements
+      → o ≡ number (13572 + 6 * i) → f ≡ number (13572 + 6 * i + 1) → n ≡ number (13572 + 6 * i + 2) → c ≡ number (13572 + 6 * i + 3)
+      → requirementIs (record { owner = o; form = f; number = n; condition = c }) ≡ getD (tables k t .requirements) i noRequirement
+  unfolding tables tablesIn requirementIs requirementRow field
+  requirement-in o f n c h e₀ e₁ e₂ e₃ =
+      rw (listed-at (k .requirements) (requirementRow (words t)) i noRequirement h, add-zero (13572 + 6 * i), e₀, e₁, e₂, e₃)
+
+  pub requirement-past : k .requirements ≤ i
+      → requirementIs (record { owner = 65535; form = 0; number = 0; condition = 65535 }) ≡ getD (tables k t .requirements) i noRequirement
+  unfolding tables tablesIn requirementIs requirementFrom ownerOf goalOf conditionOf
+  requirement-past h = sym (listed-past (k .requirements) (requirementRow (words t)) i noRequirement h)
+
+  pub constraint-in : (o r : ℕ) → i < k .constraints
+      → o ≡ number (19716 + 3 * i) → r ≡ number (19716 + 3 * i + 1)
+      → constraintIs (record { owner = o; range = r }) ≡ getD (tables k t .constraints) i noConstraint
+  unfolding tables tablesIn constraintIs constraintRow field
+  constraint-in o r h e₀ e₁ =
+      rw (listed-at (k .constraints) (constraintRow (words t)) i noConstraint h, add-zero (19716 + 3 * i), e₀, e₁)
+
+  pub constraint-past : k .constraints ≤ i → constraintIs (record { owner = 65535; range = 0 }) ≡ getD (tables k t .constraints) i noConstraint
+  unfolding tables tablesIn constraintIs constraintFrom ownerOf
+  constraint-past h = sym (listed-past (k .constraints) (constraintRow (words t)) i noConstraint h)
 
 -- ---- one thing more
 

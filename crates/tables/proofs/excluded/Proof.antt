@@ -1,38 +1,28 @@
 use borrow.Author.Needs.{needs}
+use Rattle.tables.proofs.Laws.{bit-read, part-in, part-past}
 use Rattle.tables.proofs.excluded.Statement.{statement}
 use Rattle.tables.proofs.excluded.Tie as tie
-use Rattle.tables.proofs.excluded.Reads as reads
-use Rattle.tables.proofs.excluded.Lts as lts
-use Rattle.tables.proofs.has_bit.Reads as has-bit-reads
-use Rattle.words.proofs.get.Reads as get-reads
 
--- src/lib.rt:114:50
 mul-get : tie.Need-mul-get
 mul-get c = search needs
 
--- src/lib.rt:114:44
 add-get : tie.Need-add-get
 add-get c = search needs
 
--- src/lib.rt:114:44
 add-get-2 : tie.Need-add-get-2
 add-get-2 c = search needs
 
--- src/lib.rt:114:30
 get-requires : tie.Need-get-requires
 get-requires c κs = search needs
 
--- src/lib.rt:114:22
 has-bit-requires : tie.Need-has-bit-requires
 has-bit-requires c κs = search needs
 
--- src/lib.rt:110:1
 returns : tie.Need-returns
-returns c = ?
+returns c = search (needs, part-in, bit-read)
 
--- src/lib.rt:110:1
 returns-2 : tie.Need-returns-2
-returns-2 c = ?
+returns-2 c = search (needs, part-past)
 
 pub excluded-spec : {M : Type 1} → statement M
 excluded-spec =

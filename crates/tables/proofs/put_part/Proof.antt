@@ -1,57 +1,43 @@
 use borrow.Author.Needs.{needs}
+use Rattle.tables.proofs.Laws.{part-added}
 use Rattle.tables.proofs.put_part.Statement.{statement}
 use Rattle.tables.proofs.put_part.Tie as tie
-use Rattle.tables.proofs.put_part.Reads as reads
-use Rattle.tables.proofs.put_part.Lts as lts
-use Rattle.words.proofs.put.Reads as put-reads
 
--- src/lib.rt:205:20
 mul-at : tie.Need-mul-at
 mul-at c = search needs
 
--- src/lib.rt:205:14
 add-at : tie.Need-add-at
 add-at c = search needs
 
--- src/lib.rt:206:5
 put-requires : tie.Need-put-requires
 put-requires c κs = search needs
 
--- src/lib.rt:207:19
 add-put : tie.Need-add-put
 add-put c = search needs
 
--- src/lib.rt:207:5
 put-requires-2 : tie.Need-put-requires-2
 put-requires-2 c κs = search needs
 
--- src/lib.rt:208:19
 add-put-2 : tie.Need-add-put-2
 add-put-2 c = search needs
 
--- src/lib.rt:208:5
 put-requires-3 : tie.Need-put-requires-3
 put-requires-3 c κs = search needs
 
--- src/lib.rt:209:19
 add-put-3 : tie.Need-add-put-3
 add-put-3 c = search needs
 
--- src/lib.rt:209:5
 put-requires-4 : tie.Need-put-requires-4
 put-requires-4 c κs = search needs
 
--- src/lib.rt:211:18
 add-more : tie.Need-add-more
 add-more c = search needs
 
--- src/lib.rt:198:1
 same-length : tie.Need-same-length
 same-length c = search needs
 
--- src/lib.rt:198:1
 returns : tie.Need-returns
-returns c = ?
+returns c = search (needs, part-added)
 
 pub put-part-spec : {M : Type 1} → statement M
 put-part-spec =

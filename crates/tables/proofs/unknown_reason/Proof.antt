@@ -1,33 +1,25 @@
 use borrow.Author.Needs.{needs}
+use Rattle.tables.proofs.Laws.{part-in, part-past}
 use Rattle.tables.proofs.unknown_reason.Statement.{statement}
 use Rattle.tables.proofs.unknown_reason.Tie as tie
-use Rattle.tables.proofs.unknown_reason.Reads as reads
-use Rattle.tables.proofs.unknown_reason.Lts as lts
-use Rattle.words.proofs.get.Reads as get-reads
 
--- src/lib.rt:121:42
 mul-get : tie.Need-mul-get
 mul-get c = search needs
 
--- src/lib.rt:121:36
 add-get : tie.Need-add-get
 add-get c = search needs
 
--- src/lib.rt:121:36
 add-get-2 : tie.Need-add-get-2
 add-get-2 c = search needs
 
--- src/lib.rt:121:22
 get-requires : tie.Need-get-requires
 get-requires c κs = search needs
 
--- src/lib.rt:117:1
 returns : tie.Need-returns
-returns c = ?
+returns c = search (needs, part-in)
 
--- src/lib.rt:117:1
 returns-2 : tie.Need-returns-2
-returns-2 c = ?
+returns-2 c = search (needs, part-past)
 
 pub unknown-reason-spec : {M : Type 1} → statement M
 unknown-reason-spec = tie.close (tie.spec mul-get add-get add-get-2 get-requires returns returns-2)
