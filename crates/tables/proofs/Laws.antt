@@ -1,6 +1,6 @@
 -- The functions of the tables against the definitions: a law for each way out of each.
 use mathlib.Core.Path.{_≡_, refl, ap, sym, _∙_}
-use mathlib.Core.Bool.{Bool, true, false}
+use mathlib.Core.Bool.{Bool, false}
 use mathlib.Core.List.{List, [], _∷_}
 use Prim.Native.Nat.{ℕ, zero, suc, _+_, _*_, _/_, _%_, _^_, _<_, _≤_}
 use native.Mathlib.Omega.{arith}
@@ -9,8 +9,8 @@ use borrow.Author.Needs.{needs}
 use lib.Dec.{eqb}
 use lib.ListN.{length, getD, set}
 use Rattle.rules.specs.AtMostOne.{bit}
-use Rattle.rules.specs.Catalogue.{Part, Condition, Requirement, Constraint, noPart, noCondition, noRequirement, noConstraint}
-use Rattle.rules.specs.Items.{partOf, ownerOf, conditionOf, goalOf, operatorOf}
+use Rattle.rules.specs.Catalogue.{noPart, noCondition, noRequirement, noConstraint}
+use Rattle.rules.specs.Items.{partOf, ownerOf, conditionOf, goalOf}
 use Rattle.words.specs.Words.{words, length-words}
 use Rattle.tables.specs.declared.Counts.{Counts}
 use Rattle.tables.specs.declared.Condition as C
@@ -65,7 +65,7 @@ module _ (k : Counts) (t : List ℕ) (i : ℕ) where
         favoured = eqb (number (384 + 5 * i + 1) / 8 % 2) 1;
         excluded = eqb (number (384 + 5 * i + 1) / 16 % 2) 1;
         unknownReason = number (384 + 5 * i + 2);
-        exclusionReason = number (384 + 5 * i + 3)
+        exclusionReason = number (384 + 5 * i + 3);
       }
   unfolding tables tablesIn partRow partOf field
   part-in h =
@@ -186,7 +186,7 @@ pub requirement-added : (k : Counts) (t t₁ t₂ t₃ t₄ : List ℕ) (q : Con
 unfolding requirementIs
 requirement-added k t t₁ t₂ t₃ t₄ q l h e₁ e₂ e₃ e₄ =
     let s : Stored (words t) (13572 + 6 * k .requirements) (q .owner ∷ q .form ∷ q .number ∷ q .condition ∷ []) (words t₄) =
-      then (then (then (first _ e₁) _ e₂) _ e₃) _ e₄ in
+    then (then (then (first _ e₁) _ e₂) _ e₃) _ e₄ in
     added withRequirement k (moreRequirements k) t t₄ s (search needs) (search needs) refl (one-requirement k (words t₄))
     (requirement-from (stored-begins 13572 6 (k .requirements) s refl (omega (arith, length-words t))))
 

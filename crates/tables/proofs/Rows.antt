@@ -1,18 +1,16 @@
 -- A store behind the rows in use changes no table, and a count raised by one gives its table the row that stands there.
-use mathlib.Core.Path.{_≡_, refl, ap, sym, _∙_}
-use mathlib.Core.Bool.{Bool}
-use mathlib.Core.List.{List, [], _∷_, _++_}
-use Prim.Native.Nat.{ℕ, zero, suc, _+_, _*_, _<_, _≤_}
+use mathlib.Core.Path.{_≡_, sym}
+use mathlib.Core.List.{List, [], _∷_}
+use Prim.Native.Nat.{ℕ, suc, _+_, _*_, _<_, _≤_}
 use native.Mathlib.Omega.{arith}
 use native.Mathlib.Nat.{mul-le-mul-left}
 use native.Mathlib.Numerals.{add-one}
 use lib.ListN.{length, getD}
-use Rattle.rules.specs.Catalogue.{Part, Condition, Requirement, Constraint}
 use Rattle.rules.specs.AtMostOne.{bit}
 use Rattle.rules.specs.Items.{partOf}
 use Rattle.tables.specs.declared.Counts.{Counts}
-use Rattle.tables.specs.Tables.{Tables, listed, field, nameRow, partRow, rangeRow, conditionRow, requirementRow, constraintRow}
-use Rattle.tables.specs.Tables.{conditionFrom, requirementFrom, constraintFrom, tablesIn, Laid}
+use Rattle.tables.specs.Tables.{listed, field, nameRow, partRow, rangeRow, conditionRow, requirementRow, constraintRow}
+use Rattle.tables.specs.Tables.{conditionFrom, requirementFrom, constraintFrom, tablesIn}
 use Rattle.tables.specs.Tables.{withName, withPart, withRange, withUnion, withCondition, withRequirement, withConstraint}
 use Rattle.tables.proofs.Listed.{listed-more, listed-same}
 use Rattle.tables.proofs.Stores.{Stored, stored-outside, stored-inside}
@@ -59,9 +57,9 @@ apart-kept {A} {start} {width} {row} {w} {at} {xs} {w′} t s n apart =
     (λ i h. t .same w w′ i
     (λ j l. stored-outside s (start + width * i + j)
     (λ a b.
-      let rows : width * suc i ≤ width * n = mul-le-mul-left width h in
-      let past : start + width * n ≤ at = apart (omega arith) in
-      omega arith)))
+    let rows : width * suc i ≤ width * n = mul-le-mul-left width h in
+    let past : start + width * n ≤ at = apart (omega arith) in
+    omega arith)))
 
 -- ---- all of them
 
@@ -83,31 +81,60 @@ free-kept k s f =
       apart-kept ranges s (k .ranges) (f .ranges),
       apart-kept conditions s (k .conditions) (f .conditions),
       apart-kept requirements s (k .requirements) (f .requirements),
-      apart-kept constraints s (k .constraints) (f .constraints))
+      apart-kept constraints s (k .constraints) (f .constraints),
+    )
 
 -- ---- one row more
 
 module _ (k : Counts) where
   abbrev pub moreNames : Counts
-  moreNames = record { names = k .names + 1; parts = k .parts; ranges = k .ranges; unions = k .unions; members = k .members; conditions = k .conditions; requirements = k .requirements; constraints = k .constraints }
+  moreNames =
+      record {
+        names = k .names + 1; parts = k .parts; ranges = k .ranges; unions = k .unions;
+        members = k .members; conditions = k .conditions; requirements = k .requirements; constraints = k .constraints;
+      }
 
   abbrev pub moreParts : Counts
-  moreParts = record { names = k .names; parts = k .parts + 1; ranges = k .ranges; unions = k .unions; members = k .members; conditions = k .conditions; requirements = k .requirements; constraints = k .constraints }
+  moreParts =
+      record {
+        names = k .names; parts = k .parts + 1; ranges = k .ranges; unions = k .unions;
+        members = k .members; conditions = k .conditions; requirements = k .requirements; constraints = k .constraints;
+      }
 
   abbrev pub moreRanges : Counts
-  moreRanges = record { names = k .names; parts = k .parts; ranges = k .ranges + 1; unions = k .unions; members = k .members; conditions = k .conditions; requirements = k .requirements; constraints = k .constraints }
+  moreRanges =
+      record {
+        names = k .names; parts = k .parts; ranges = k .ranges + 1; unions = k .unions;
+        members = k .members; conditions = k .conditions; requirements = k .requirements; constraints = k .constraints;
+      }
 
   abbrev pub moreUnions : Counts
-  moreUnions = record { names = k .names; parts = k .parts; ranges = k .ranges; unions = k .unions + 1; members = k .members; conditions = k .conditions; requirements = k .requirements; constraints = k .constraints }
+  moreUnions =
+      record {
+        names = k .names; parts = k .parts; ranges = k .ranges; unions = k .unions + 1;
+        members = k .members; conditions = k .conditions; requirements = k .requirements; constraints = k .constraints;
+      }
 
   abbrev pub moreConditions : Counts
-  moreConditions = record { names = k .names; parts = k .parts; ranges = k .ranges; unions = k .unions; members = k .members; conditions = k .conditions + 1; requirements = k .requirements; constraints = k .constraints }
+  moreConditions =
+      record {
+        names = k .names; parts = k .parts; ranges = k .ranges; unions = k .unions;
+        members = k .members; conditions = k .conditions + 1; requirements = k .requirements; constraints = k .constraints;
+      }
 
   abbrev pub moreRequirements : Counts
-  moreRequirements = record { names = k .names; parts = k .parts; ranges = k .ranges; unions = k .unions; members = k .members; conditions = k .conditions; requirements = k .requirements + 1; constraints = k .constraints }
+  moreRequirements =
+      record {
+        names = k .names; parts = k .parts; ranges = k .ranges; unions = k .unions;
+        members = k .members; conditions = k .conditions; requirements = k .requirements + 1; constraints = k .constraints;
+      }
 
   abbrev pub moreConstraints : Counts
-  moreConstraints = record { names = k .names; parts = k .parts; ranges = k .ranges; unions = k .unions; members = k .members; conditions = k .conditions; requirements = k .requirements; constraints = k .constraints + 1 }
+  moreConstraints =
+      record {
+        names = k .names; parts = k .parts; ranges = k .ranges; unions = k .unions;
+        members = k .members; conditions = k .conditions; requirements = k .requirements; constraints = k .constraints + 1;
+      }
 
   module _ (w : List ℕ) where
     pub one-name : tablesIn moreNames w ≡ withName (tablesIn k w) (nameRow w (k .names))

@@ -1,3 +1,4 @@
+-- `tables::condition_at` gives the row of a condition, and the leaf 0 past the conditions.
 use borrow.Author.Needs.{needs}
 use Rattle.tables.proofs.Laws.{condition-in, condition-past}
 use Rattle.tables.proofs.condition_at.Statement.{statement}

@@ -1,3 +1,4 @@
+-- `tables::constraint_at` gives the row of a constraint, and one of the root on range 0 past the constraints.
 use borrow.Author.Needs.{needs}
 use Rattle.tables.proofs.Laws.{constraint-in, constraint-past}
 use Rattle.tables.proofs.constraint_at.Statement.{statement}

@@ -1,3 +1,4 @@
+-- `tables::part_name` gives the first number of the row of a part, and 0 past the parts.
 use borrow.Author.Needs.{needs}
 use Rattle.tables.proofs.Laws.{part-in, part-past}
 use Rattle.tables.proofs.part_name.Statement.{statement}

@@ -1,3 +1,4 @@
+-- `tables::put_condition` stores one condition more and changes nothing else.
 use borrow.Author.Needs.{needs}
 use Rattle.tables.proofs.Laws.{condition-added}
 use Rattle.tables.proofs.put_condition.Statement.{statement}

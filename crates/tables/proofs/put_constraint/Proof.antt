@@ -1,3 +1,4 @@
+-- `tables::put_constraint` stores one constraint more and changes nothing else.
 use borrow.Author.Needs.{needs}
 use Rattle.tables.proofs.Laws.{constraint-added}
 use Rattle.tables.proofs.put_constraint.Statement.{statement}

@@ -1,3 +1,4 @@
+-- `tables::put_name` stores one name more and changes nothing else.
 use borrow.Author.Needs.{needs}
 use Rattle.tables.proofs.Laws.{name-added}
 use Rattle.tables.proofs.put_name.Statement.{statement}

@@ -1,3 +1,4 @@
+-- `tables::put_part` stores one part more and changes nothing else.
 use borrow.Author.Needs.{needs}
 use Rattle.tables.proofs.Laws.{part-added}
 use Rattle.tables.proofs.put_part.Statement.{statement}

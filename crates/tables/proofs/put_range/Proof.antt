@@ -1,3 +1,4 @@
+-- `tables::put_range` stores one range more and changes nothing else.
 use borrow.Author.Needs.{needs}
 use Rattle.tables.proofs.Laws.{range-added}
 use Rattle.tables.proofs.put_range.Statement.{statement}

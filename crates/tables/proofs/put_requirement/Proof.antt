@@ -1,3 +1,4 @@
+-- `tables::put_requirement` stores one requirement more and changes nothing else.
 use borrow.Author.Needs.{needs}
 use Rattle.tables.proofs.Laws.{requirement-added}
 use Rattle.tables.proofs.put_requirement.Statement.{statement}

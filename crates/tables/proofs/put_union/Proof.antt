@@ -1,3 +1,4 @@
+-- `tables::put_union` counts one union more and changes nothing else.
 use borrow.Author.Needs.{needs}
 use Rattle.tables.proofs.Laws.{union-added}
 use Rattle.tables.proofs.put_union.Statement.{statement}

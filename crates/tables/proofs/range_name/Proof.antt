@@ -1,3 +1,4 @@
+-- `tables::range_name` gives the first number of the row of a range, and 0 past the ranges.
 use borrow.Author.Needs.{needs}
 use Rattle.tables.proofs.Laws.{range-in, range-past}
 use Rattle.tables.proofs.range_name.Statement.{statement}

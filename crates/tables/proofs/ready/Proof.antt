@@ -1,3 +1,4 @@
+-- `tables::ready` gives bit 0 of the flags of a part, and `false` past the parts.
 use borrow.Author.Needs.{needs}
 use Rattle.tables.proofs.Laws.{bit-read, part-in, part-past}
 use Rattle.tables.proofs.ready.Statement.{statement}

@@ -1,3 +1,4 @@
+-- `tables::requirement_at` gives the row of a requirement, and one of the root for range 0 past the requirements.
 use borrow.Author.Needs.{needs}
 use Rattle.tables.proofs.Laws.{requirement-in, requirement-past}
 use Rattle.tables.proofs.requirement_at.Statement.{statement}

@@ -1,3 +1,4 @@
+-- `tables::several_allowed` gives bit 0 of the row of a name, and `false` past the names.
 use borrow.Author.Needs.{needs}
 use Rattle.tables.proofs.Laws.{bit-read, name-in, name-past}
 use Rattle.tables.proofs.several_allowed.Statement.{statement}

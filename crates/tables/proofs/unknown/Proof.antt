@@ -1,3 +1,4 @@
+-- `tables::unknown` gives bit 1 of the flags of a part, and `false` past the parts.
 use borrow.Author.Needs.{needs}
 use Rattle.tables.proofs.Laws.{bit-read, part-in, part-past}
 use Rattle.tables.proofs.unknown.Statement.{statement}

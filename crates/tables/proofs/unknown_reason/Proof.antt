@@ -1,3 +1,4 @@
+-- `tables::unknown_reason` gives the third number of the row of a part, and 0 past the parts.
 use borrow.Author.Needs.{needs}
 use Rattle.tables.proofs.Laws.{part-in, part-past}
 use Rattle.tables.proofs.unknown_reason.Statement.{statement}
