@@ -20,7 +20,7 @@ use Rattle.tables.specs.Tables.{Tables, field, nameRow, partRow, rangeRo
 use Rattle.tables.specs.Tables.{conditionBy, conditionFrom, requirementFrom, constraintFrom, conditionIs, requirementIs, constraintIs}
 use Rattle.tables.specs.Tables.{tablesIn, tables, Laid, Added}
 use Rattle.tables.specs.Tables.{withName, withPart, withRange, withUnion, withCondition, withRequirement, withConstraint}
-use Rattle.tables.proofs.Listed.{listed-at, listed-past}
+use Rattle.tables.proofs.Listed.{listed-at, listed-past, listed-length}
 use Rattle.tables.proofs.Stores.{Stored, first, then, stored-length}
 use Rattle.tables.proofs.Rows.{Free, free-kept, stored-begins}
 use Rattle.tables.proofs.Rows.{moreNames, moreParts, moreRanges, moreUnions, moreConditions, moreRequirements, moreConstraints}
@@ -199,3 +199,38 @@ constraint-added k t t₁ t₂ c l h e₁ e₂ =
     let s : Stored (words t) (19716 + 3 * k .constraints) (c .owner ∷ c .range ∷ []) (words t₂) = then (first _ e₁) _ e₂ in
     added withConstraint k (moreConstraints k) t t₂ s (search needs) (search needs) refl (one-constraint k (words t₂))
     (constraint-from (stored-begins 19716 3 (k .constraints) s refl (omega (arith, length-words t))))
+
+-- ---- for callers: a test on a count is one on a table, and a number that no row in use has may be stored
+
+module _ (k : Counts) (t : List ℕ) where
+  pub names-counted : length (tables k t .names) ≡ k .names
+  unfolding tables tablesIn
+  names-counted = listed-length (k .names) (nameRow (words t))
+
+  pub parts-counted : length (tables k t .parts) ≡ k .parts
+  unfolding tables tablesIn
+  parts-counted = listed-length (k .parts) (partRow (words t))
+
+  pub ranges-counted : length (tables k t .ranges) ≡ k .ranges
+  unfolding tables tablesIn
+  ranges-counted = listed-length (k .ranges) (rangeRow (words t))
+
+  pub unions-counted : tables k t .unions ≡ k .unions
+  unfolding tables tablesIn
+  unions-counted = refl
+
+  pub conditions-counted : length (tables k t .conditions) ≡ k .conditions
+  unfolding tables tablesIn
+  conditions-counted = listed-length (k .conditions) (conditionRow (words t))
+
+  pub requirements-counted : length (tables k t .requirements) ≡ k .requirements
+  unfolding tables tablesIn
+  requirements-counted = listed-length (k .requirements) (requirementRow (words t))
+
+  pub constraints-counted : length (tables k t .constraints) ≡ k .constraints
+  unfolding tables tablesIn
+  constraints-counted = listed-length (k .constraints) (constraintRow (words t))
+
+  pub elsewhere-kept : (t′ : List ℕ) (at x : ℕ) → words t′ ≡ set (words t) at x → Free k at (at + 1) → tables k t′ ≡ tables k t
+  unfolding tables
+  elsewhere-kept t′ at x e f = free-kept k (first x e) f

@@ -1,11 +1,11 @@
--- A list of n things given by their number: what stands at a number, what stands past the end, and the list with one thing more.
+-- A list of n things given by their number: its length, what stands at a number and past the end, and the list with one thing more.
 use mathlib.Core.Path.{_≡_, refl, ap, _∙_}
 use mathlib.Core.List.{List, _∷_, map}
 use Prim.Native.Nat.{ℕ, zero, suc, _+_, _<_, _≤_, zero-le, suc-le-suc}
 use native.Mathlib.Omega.{arith}
 use native.Mathlib.Nat.{not-suc-le-zero, le-of-suc-le-suc, add-zero, add-suc, suc-add}
 use native.Mathlib.Numerals.{add-one}
-use lib.ListN.{getD}
+use lib.ListN.{length, getD}
 use Rattle.rules.specs.Lists.{snoc, upTo}
 use Rattle.tables.specs.Tables.{listed}
 
@@ -36,6 +36,11 @@ module _ {A : Type 0} where
       let rest = from-same f g (suc b) n (λ i h. let q : suc b + i ≡ b + suc i = omega arith in rw q (e (suc i) (suc-le-suc h))) in
       rw (first, rest)
 
+  from-length : (f : ℕ → A) (b n : ℕ) → length (map f (upTo b n)) ≡ n
+  unfolding upTo
+  from-length f b zero = refl
+  from-length f b (suc n) = ap suc (from-length f (suc b) n)
+
   pub listed-at : (n : ℕ) (f : ℕ → A) (i : ℕ) (d : A) → i < n → getD (listed n f) i d ≡ f i
   unfolding listed
   listed-at n f i d h = from-at f 0 n i d h ∙ ap f (omega arith)
@@ -53,3 +58,7 @@ module _ {A : Type 0} where
   pub listed-same : (n : ℕ) (f g : ℕ → A) → ((i : ℕ) → i < n → f i ≡ g i) → listed n f ≡ listed n g
   unfolding listed
   listed-same n f g e = from-same f g 0 n (λ i h. let q : 0 + i ≡ i = omega arith in rw q (e i h))
+
+  pub listed-length : (n : ℕ) (f : ℕ → A) → length (listed n f) ≡ n
+  unfolding listed
+  listed-length n f = from-length f 0 n

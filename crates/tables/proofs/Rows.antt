@@ -1,9 +1,8 @@
 -- A store behind the rows in use changes no table, and a count raised by one gives its table the row that stands there.
 use mathlib.Core.Path.{_≡_, sym}
 use mathlib.Core.List.{List, [], _∷_}
-use Prim.Native.Nat.{ℕ, suc, _+_, _*_, _<_, _≤_}
+use Prim.Native.Nat.{ℕ, _+_, _*_, _<_, _≤_}
 use native.Mathlib.Omega.{arith}
-use native.Mathlib.Nat.{mul-le-mul-left}
 use native.Mathlib.Numerals.{add-one}
 use lib.ListN.{length, getD}
 use Rattle.rules.specs.AtMostOne.{bit}
@@ -17,60 +16,54 @@ use Rattle.tables.proofs.Stores.{Stored, stored-outside, stored-inside}
 
 -- ---- one table: where it starts, how wide its rows are, and what a row stands for
 
--- a row's meaning is a matter of its own numbers
-record Table {A : Type 0} (start width : ℕ) (row : List ℕ → ℕ → A) : Type 0 where
-  same : (w w′ : List ℕ) (i : ℕ) → ((j : ℕ) → j < width → field w′ start width i j ≡ field w start width i j) → row w′ i ≡ row w i
+-- a row's meaning is a matter of its first `used` numbers
+record Table {A : Type 0} (start width used : ℕ) (row : List ℕ → ℕ → A) : Type 0 where
+  same : (w w′ : List ℕ) (i : ℕ) → ((j : ℕ) → j < used → field w′ start width i j ≡ field w start width i j) → row w′ i ≡ row w i
 
-names : Table 0 6 nameRow
+names : Table 0 6 1 nameRow
 unfolding nameRow
 names = record { same = λ w w′ i e. rw (e 0 (omega arith)) }
 
-parts : Table 384 5 partRow
+parts : Table 384 5 4 partRow
 unfolding partRow
 parts = record { same = λ w w′ i e. rw (e 0 (omega arith), e 1 (omega arith), e 2 (omega arith), e 3 (omega arith)) }
 
-ranges : Table 9604 4 rangeRow
+ranges : Table 9604 4 1 rangeRow
 unfolding rangeRow
 ranges = record { same = λ w w′ i e. e 0 (omega arith) }
 
-conditions : Table 12036 6 conditionRow
+conditions : Table 12036 6 3 conditionRow
 unfolding conditionRow
 conditions = record { same = λ w w′ i e. rw (e 0 (omega arith), e 1 (omega arith), e 2 (omega arith)) }
 
-requirements : Table 13572 6 requirementRow
+requirements : Table 13572 6 4 requirementRow
 unfolding requirementRow
 requirements = record { same = λ w w′ i e. rw (e 0 (omega arith), e 1 (omega arith), e 2 (omega arith), e 3 (omega arith)) }
 
-constraints : Table 19716 3 constraintRow
+constraints : Table 19716 3 2 constraintRow
 unfolding constraintRow
 constraints = record { same = λ w w′ i e. rw (e 0 (omega arith), e 1 (omega arith)) }
 
--- n rows from `start` on lie before `at` or not before `to`
-abbrev Apart : (start width n at to : ℕ) → Type 0
-Apart start width n at to = start < to → start + width * n ≤ at
+-- none of the numbers from `at` to `to` is read in the table's n rows
+abbrev Apart : (start width used n at to : ℕ) → Type 0
+Apart start width used n at to = (i j : ℕ) → i < n → j < used → at ≤ start + width * i + j → start + width * i + j < to → ⊥
 
-apart-kept : {A : Type 0} {start width : ℕ} {row : List ℕ → ℕ → A} {w : List ℕ} {at : ℕ} {xs w′ : List ℕ}
-    → Table start width row → Stored w at xs w′ → (n : ℕ) → Apart start width n at (at + length xs) → listed n (row w′) ≡ listed n (row w)
+apart-kept : {A : Type 0} {start width used : ℕ} {row : List ℕ → ℕ → A} {w : List ℕ} {at : ℕ} {xs w′ : List ℕ}
+    → Table start width used row → Stored w at xs w′ → (n : ℕ) → Apart start width used n at (at + length xs) → listed n (row w′) ≡ listed n (row w)
 unfolding field
-apart-kept {A} {start} {width} {row} {w} {at} {xs} {w′} t s n apart =
-    listed-same n (row w′) (row w)
-    (λ i h. t .same w w′ i
-    (λ j l. stored-outside s (start + width * i + j)
-    (λ a b.
-    let rows : width * suc i ≤ width * n = mul-le-mul-left width h in
-    let past : start + width * n ≤ at = apart (omega arith) in
-    omega arith)))
+apart-kept {start = start} {width = width} {row = row} {w = w} {w′ = w′} t s n apart =
+    listed-same n (row w′) (row w) (λ i h. t .same w w′ i (λ j l. stored-outside s (start + width * i + j) (apart i j h l)))
 
 -- ---- all of them
 
--- the numbers from `at` to `to` lie in no row in use
+-- none of the numbers from `at` to `to` is read in a row in use
 pub record Free (k : Counts) (at to : ℕ) : Type 0 where
-  pub names : Apart 0 6 (k .names) at to
-  pub parts : Apart 384 5 (k .parts) at to
-  pub ranges : Apart 9604 4 (k .ranges) at to
-  pub conditions : Apart 12036 6 (k .conditions) at to
-  pub requirements : Apart 13572 6 (k .requirements) at to
-  pub constraints : Apart 19716 3 (k .constraints) at to
+  pub names : Apart 0 6 1 (k .names) at to
+  pub parts : Apart 384 5 4 (k .parts) at to
+  pub ranges : Apart 9604 4 1 (k .ranges) at to
+  pub conditions : Apart 12036 6 3 (k .conditions) at to
+  pub requirements : Apart 13572 6 4 (k .requirements) at to
+  pub constraints : Apart 19716 3 2 (k .constraints) at to
 
 pub free-kept : {w : List ℕ} {at : ℕ} {xs w′ : List ℕ} (k : Counts) → Stored w at xs w′ → Free k at (at + length xs) → tablesIn k w′ ≡ tablesIn k w
 unfolding tablesIn
@@ -86,55 +79,31 @@ free-kept k s f =
 
 -- ---- one row more
 
+abbrev pub counts : (names parts ranges unions members conditions requirements constraints : ℕ) → Counts
+counts n p r u m c q x =
+    record { names = n; parts = p; ranges = r; unions = u; members = m; conditions = c; requirements = q; constraints = x }
+
 module _ (k : Counts) where
   abbrev pub moreNames : Counts
-  moreNames =
-      record {
-        names = k .names + 1; parts = k .parts; ranges = k .ranges; unions = k .unions;
-        members = k .members; conditions = k .conditions; requirements = k .requirements; constraints = k .constraints;
-      }
+  moreNames = counts (k .names + 1) (k .parts) (k .ranges) (k .unions) (k .members) (k .conditions) (k .requirements) (k .constraints)
 
   abbrev pub moreParts : Counts
-  moreParts =
-      record {
-        names = k .names; parts = k .parts + 1; ranges = k .ranges; unions = k .unions;
-        members = k .members; conditions = k .conditions; requirements = k .requirements; constraints = k .constraints;
-      }
+  moreParts = counts (k .names) (k .parts + 1) (k .ranges) (k .unions) (k .members) (k .conditions) (k .requirements) (k .constraints)
 
   abbrev pub moreRanges : Counts
-  moreRanges =
-      record {
-        names = k .names; parts = k .parts; ranges = k .ranges + 1; unions = k .unions;
-        members = k .members; conditions = k .conditions; requirements = k .requirements; constraints = k .constraints;
-      }
+  moreRanges = counts (k .names) (k .parts) (k .ranges + 1) (k .unions) (k .members) (k .conditions) (k .requirements) (k .constraints)
 
   abbrev pub moreUnions : Counts
-  moreUnions =
-      record {
-        names = k .names; parts = k .parts; ranges = k .ranges; unions = k .unions + 1;
-        members = k .members; conditions = k .conditions; requirements = k .requirements; constraints = k .constraints;
-      }
+  moreUnions = counts (k .names) (k .parts) (k .ranges) (k .unions + 1) (k .members) (k .conditions) (k .requirements) (k .constraints)
 
   abbrev pub moreConditions : Counts
-  moreConditions =
-      record {
-        names = k .names; parts = k .parts; ranges = k .ranges; unions = k .unions;
-        members = k .members; conditions = k .conditions + 1; requirements = k .requirements; constraints = k .constraints;
-      }
+  moreConditions = counts (k .names) (k .parts) (k .ranges) (k .unions) (k .members) (k .conditions + 1) (k .requirements) (k .constraints)
 
   abbrev pub moreRequirements : Counts
-  moreRequirements =
-      record {
-        names = k .names; parts = k .parts; ranges = k .ranges; unions = k .unions;
-        members = k .members; conditions = k .conditions; requirements = k .requirements + 1; constraints = k .constraints;
-      }
+  moreRequirements = counts (k .names) (k .parts) (k .ranges) (k .unions) (k .members) (k .conditions) (k .requirements + 1) (k .constraints)
 
   abbrev pub moreConstraints : Counts
-  moreConstraints =
-      record {
-        names = k .names; parts = k .parts; ranges = k .ranges; unions = k .unions;
-        members = k .members; conditions = k .conditions; requirements = k .requirements; constraints = k .constraints + 1;
-      }
+  moreConstraints = counts (k .names) (k .parts) (k .ranges) (k .unions) (k .members) (k .conditions) (k .requirements) (k .constraints + 1)
 
   module _ (w : List ℕ) where
     pub one-name : tablesIn moreNames w ≡ withName (tablesIn k w) (nameRow w (k .names))
