@@ -1,0 +1,4 @@
+pub mod Listed
+pub mod Stores
+pub mod Rows
+pub mod Laws
