@@ -1,0 +1,84 @@
+//! Jobs to compare: seeded, and repeatable step by step.
+
+pub mod catalogue;
+pub mod damaged;
+pub mod edges;
+pub mod sheet;
+pub mod short;
+
+use job::{
+    answer::Request,
+    limits::{KITLIST_LISTING, Limits},
+    record::Record,
+};
+
+use self::catalogue::Shape;
+use crate::random::Random;
+
+/// So many jobs under a seed.
+pub fn random(seed: u64, count: usize) -> impl Iterator<Item = Request> {
+    (0..).flat_map(move |at| step(seed, at)).take(count)
+}
+
+/// The jobs of one step; a step that damages a job gives many.
+pub fn step(seed: u64, step: u64) -> Vec<Request> {
+    let mut random = Random::new(seed, step);
+    match random.below(1_000) {
+        0..660 => vec![with_limits(&mut random, Shape::small())],
+        660..700 => vec![with_limits(&mut random, Shape::medium())],
+        700..701 => vec![at_ceilings(&mut random)],
+        701..800 => edges::around(&mut random),
+        800..808 => damaged::cut_everywhere(&structured(&mut random, Shape::small())),
+        808..820 => {
+            let job = structured(&mut random, Shape::small());
+            damaged::bytes_changed(&mut random, &job)
+        }
+        820..830 => damaged::records_swapped(&structured(&mut random, Shape::small())),
+        830..880 => vec![damaged::raw(&mut random)],
+        880..930 => vec![damaged::loose_records(&mut random)],
+        930..980 => short::some(&mut random),
+        _ => vec![ended_badly(&mut random)],
+    }
+}
+
+/// A job that is accepted unless a run passes a ceiling.
+pub fn structured(random: &mut Random, shape: Shape) -> Vec<u8> {
+    job::record::job_of(structured_records(random, shape))
+}
+
+fn structured_records(random: &mut Random, shape: Shape) -> Vec<Record> {
+    let draft = catalogue::draft(random, shape);
+    let sheet = sheet::draft(random, &draft.catalogue, shape.steps);
+    draft.records.into_iter().chain(sheet).collect()
+}
+
+fn with_limits(random: &mut Random, shape: Shape) -> Request {
+    let job = structured(random, shape);
+    let limits = match random.below(10) {
+        0..8 => Limits::KITLIST,
+        8 => Limits::CEILINGS,
+        _ => Limits::from_array([
+            random.between(1, 40) as u32,
+            random.between(1, 80) as u32,
+            random.between(1, 20) as u32,
+            random.between(1, 8) as u32,
+        ]),
+    };
+    Request { job, limits, listing_area: KITLIST_LISTING }
+}
+
+fn at_ceilings(random: &mut Random) -> Request {
+    let shape = Shape::large(random);
+    let job = structured(random, shape);
+    Request { job, limits: Limits::CEILINGS, listing_area: 4 * KITLIST_LISTING }
+}
+
+/// A good job with one sheet record behind it that is likely to be refused.
+fn ended_badly(random: &mut Random) -> Request {
+    let mut records = structured_records(random, Shape::small());
+    records.push(sheet::any_record(random));
+    if random.chance(50) {
+        records.push(sheet::any_record(random));
+    }
+    Request::kitlist(job::record::job_of(records))
+}

@@ -1,0 +1,63 @@
+//! Every short job: all jobs of a few records out of a small stock, or of a few bytes.
+
+use job::{
+    answer::Request,
+    record::{NO_CONDITION, ROOT, Record, job_of},
+};
+
+use crate::random::Random;
+
+/// The records of which short jobs are made; two parts of one name suffice for every rule but
+/// those that count to 4.
+pub const STOCK: [Record; 20] = [
+    Record::Name { flags: 0 },
+    Record::Name { flags: 1 },
+    Record::Part { name: 0, flags: 0, unknown_reason: 0, exclusion_reason: 0 },
+    Record::Part { name: 0, flags: 1, unknown_reason: 0, exclusion_reason: 0 },
+    Record::Part { name: 0, flags: 2, unknown_reason: 5, exclusion_reason: 6 },
+    Record::Part { name: 0, flags: 20, unknown_reason: 5, exclusion_reason: 6 },
+    Record::Range { name: 0 },
+    Record::Member { range: 0, part: 0 },
+    Record::Member { range: 0, part: 1 },
+    Record::Union,
+    Record::UnionMember { union: 0, range: 0 },
+    Record::Leaf { range: 0 },
+    Record::Requirement { owner: ROOT, form: 0, number: 0, condition: NO_CONDITION },
+    Record::Requirement { owner: 0, form: 0, number: 0, condition: 0 },
+    Record::Constraint { owner: 0, range: 0 },
+    Record::Add { owner: ROOT },
+    Record::Add { owner: 0 },
+    Record::Run { level: 1 },
+    Record::Decide { variable: 1, value: 1, level: 1 },
+    Record::Undo { level: 0 },
+];
+
+/// All jobs of at most `length` records, the shorter ones first.
+pub fn all(length: u32) -> impl Iterator<Item = Request> {
+    words(STOCK.len(), length)
+        .map(|word| Request::kitlist(job_of(word.into_iter().map(|digit| STOCK[digit]))))
+}
+
+/// All jobs of at most `length` bytes, the shorter ones first.
+pub fn all_bytes(length: u32) -> impl Iterator<Item = Request> {
+    words(256, length)
+        .map(|word| Request::kitlist(word.into_iter().map(|digit| digit as u8).collect()))
+}
+
+/// All lists of at most `length` numbers below `digits`.
+fn words(digits: usize, length: u32) -> impl Iterator<Item = Vec<usize>> {
+    (0..=length).flat_map(move |length| {
+        (0..digits.pow(length)).map(move |number| {
+            (0..length).map(|place| number / digits.pow(place) % digits).collect()
+        })
+    })
+}
+
+/// A few jobs whose records follow one another in the stock's order, so that many are accepted.
+pub fn some(random: &mut Random) -> Vec<Request> {
+    let mut chosen: Vec<usize> =
+        (0..random.between(1, 12)).map(|_| random.below(STOCK.len())).collect();
+    chosen.sort_unstable();
+    let records = chosen.into_iter().map(|at| STOCK[at]);
+    vec![Request::kitlist(job_of(records))]
+}
