@@ -69,36 +69,70 @@ fn spans(records: usize) -> impl Iterator<Item = Range<usize>> {
     })
 }
 
-/// Records with less in them.
+/// Records with less in them, or with lower numbers.
 fn plainer(record: Record) -> Vec<Record> {
-    let bits = |flags: u8| (0..8).map(|bit| 1 << bit).filter(move |bit| flags & bit != 0);
     match record {
-        Record::Name { flags } => bits(flags).map(|bit| Record::Name { flags: flags - bit }).collect(),
+        Record::Name { flags } => fewer_bits(flags).map(|flags| Record::Name { flags }).collect(),
         Record::Part { name, flags, unknown_reason, exclusion_reason } => {
-            let part = |flags, unknown_reason, exclusion_reason| Record::Part {
+            let part = |name, flags, unknown_reason, exclusion_reason| Record::Part {
                 name,
                 flags,
                 unknown_reason,
                 exclusion_reason,
             };
-            let mut plainer: Vec<_> = bits(flags)
-                .map(|bit| part(flags - bit, unknown_reason, exclusion_reason))
-                .collect();
-            if (unknown_reason, exclusion_reason) != (0, 0) {
-                plainer.push(part(flags, 0, 0));
-            }
-            plainer
+            lower(name)
+                .map(|name| part(name, flags, unknown_reason, exclusion_reason))
+                .chain(fewer_bits(flags).map(|f| part(name, f, unknown_reason, exclusion_reason)))
+                .chain(lower(unknown_reason).map(|r| part(name, flags, r, exclusion_reason)))
+                .chain(lower(exclusion_reason).map(|r| part(name, flags, unknown_reason, r)))
+                .collect()
         }
-        Record::Requirement { owner, form, number, condition } if condition != NO_CONDITION => {
-            vec![Record::Requirement { owner, form, number, condition: NO_CONDITION }]
+        Record::Range { name } => lower(name).map(|name| Record::Range { name }).collect(),
+        Record::Leaf { range } => lower(range).map(|range| Record::Leaf { range }).collect(),
+        Record::UnionMember { union, range } => {
+            lower(range).map(|range| Record::UnionMember { union, range }).collect()
         }
-        Record::Run { level } if level > 1 => vec![Record::Run { level: level - 1 }],
-        Record::Undo { level } if level > 0 => vec![Record::Undo { level: level - 1 }],
-        Record::Decide { variable, value, level } if level > 1 => {
-            vec![Record::Decide { variable, value, level: level - 1 }]
+        Record::Requirement { owner, form, number, condition } => {
+            let requirement = |owner, number, condition| Record::Requirement {
+                owner,
+                form,
+                number,
+                condition,
+            };
+            nearer_none(condition)
+                .map(|condition| requirement(owner, number, condition))
+                .chain(nearer_none(owner).map(|owner| requirement(owner, number, condition)))
+                .chain(lower(number).map(|number| requirement(owner, number, condition)))
+                .collect()
+        }
+        Record::Constraint { owner, range } => nearer_none(owner)
+            .map(|owner| Record::Constraint { owner, range })
+            .chain(lower(range).map(|range| Record::Constraint { owner, range }))
+            .collect(),
+        Record::Run { level } => lower(level).map(|level| Record::Run { level }).collect(),
+        Record::Undo { level } => lower(level).map(|level| Record::Undo { level }).collect(),
+        Record::Decide { variable, value, level } => {
+            lower(level).map(|level| Record::Decide { variable, value, level }).collect()
         }
         _ => Vec::new(),
     }
+}
+
+fn fewer_bits(flags: u8) -> impl Iterator<Item = u8> {
+    (0..8).map(|bit| 1 << bit).filter(move |bit| flags & bit != 0).map(move |bit| flags - bit)
+}
+
+/// 0 and the number before, below `number`.
+fn lower(number: u16) -> impl Iterator<Item = u16> {
+    let before = number.checked_sub(1);
+    (number > 1).then_some(0).into_iter().chain(before)
+}
+
+/// As [`lower`], for owners and conditions: none of them (the root) comes before 0.
+fn nearer_none(number: u16) -> impl Iterator<Item = u16> {
+    const { assert!(ROOT == NO_CONDITION) };
+    let some = (number != ROOT).then_some(number);
+    some.into_iter().flat_map(|number| std::iter::once(ROOT).chain(lower(number)))
 }
 
 /// The records without those of the span and those that speak of them.

@@ -11,6 +11,9 @@ use job::{
 
 use crate::random::Random;
 
+/// Leaves room for as many rules as there can be in a job that is not overlong.
+const MOST_RECORDS_BEFORE_RULES: usize = 6_500;
+
 /// How many of each, both ends included.
 #[derive(Clone, Copy)]
 pub struct Shape {
@@ -22,7 +25,12 @@ pub struct Shape {
     requirements: (usize, usize),
     constraints: (usize, usize),
     pub steps: (usize, usize),
+    ready_percents: &'static [usize],
+    /// Parts spread evenly over the names, ranges of one or two parts.
+    narrow: bool,
 }
+
+const READY_PERCENTS: &[usize] = &[10, 50, 90];
 
 impl Shape {
     pub fn small() -> Self {
@@ -35,6 +43,25 @@ impl Shape {
             requirements: (1, 8),
             constraints: (0, 3),
             steps: (2, 20),
+            ready_percents: READY_PERCENTS,
+            narrow: false,
+        }
+    }
+
+    /// Few goals, many requirements on them and hardly a part that opens by itself: so goals come
+    /// again in later runs.
+    pub fn repeating() -> Self {
+        Shape {
+            names: (2, 3),
+            parts: (4, 8),
+            ranges: (3, 6),
+            unions: (0, 1),
+            conditions: (0, 2),
+            requirements: (8, 16),
+            constraints: (0, 1),
+            steps: (2, 12),
+            ready_percents: &[0, 10],
+            narrow: true,
         }
     }
 
@@ -48,6 +75,8 @@ impl Shape {
             requirements: (4, 40),
             constraints: (0, 16),
             steps: (4, 40),
+            ready_percents: READY_PERCENTS,
+            narrow: false,
         }
     }
 
@@ -66,6 +95,8 @@ impl Shape {
             requirements: share(REQUIREMENTS),
             constraints: share(CONSTRAINTS),
             steps: (10, 60),
+            ready_percents: READY_PERCENTS,
+            narrow: false,
         }
     }
 }
@@ -94,6 +125,7 @@ struct Maker<'a> {
     /// A name that goals seldom speak of.
     shy: Option<u16>,
     ready_percent: usize,
+    narrow: bool,
 }
 
 #[derive(Clone, Copy)]
@@ -109,10 +141,11 @@ impl<'a> Maker<'a> {
     fn new(random: &'a mut Random, shape: Shape) -> Self {
         let names = random.between(shape.names.0, shape.names.1);
         let crowded = random.below(names) as u16;
-        let shy = (names > 1 && random.chance(40)).then(|| random.below(names) as u16);
-        let ready_percent = random.pick(&[10, 50, 90]);
+        let narrow = shape.narrow;
+        let shy = (names > 1 && !narrow && random.chance(40)).then(|| random.below(names) as u16);
+        let ready_percent = random.pick(shape.ready_percents);
         let (records, catalogue) = (Vec::new(), Catalogue::default());
-        Maker { random, records, catalogue, names, crowded, shy, ready_percent }
+        Maker { random, records, catalogue, names, crowded, shy, ready_percent, narrow }
     }
 
     /// Keeps the record if the catalogue takes it.
@@ -144,8 +177,8 @@ impl<'a> Maker<'a> {
 
     fn name(&mut self) -> u16 {
         match self.random.below(10) {
-            0..4 => self.crowded,
-            4..6 => self.shy.unwrap_or(self.crowded),
+            0..4 if !self.narrow => self.crowded,
+            4..6 if !self.narrow => self.shy.unwrap_or(self.crowded),
             _ => self.random.below(self.names) as u16,
         }
     }
@@ -157,16 +190,24 @@ impl<'a> Maker<'a> {
         for (flag, percent) in percents {
             flags |= if self.random.chance(percent) { flag } else { 0 };
         }
-        let (unknown_reason, exclusion_reason) = (self.reason(), self.reason());
+        let (unknown_reason, exclusion_reason) =
+            (self.reason(flags & UNKNOWN), self.reason(flags & EXCLUDED));
         self.give(Record::Part { name, flags, unknown_reason, exclusion_reason });
     }
 
-    fn reason(&mut self) -> u16 {
+    /// Seldom other than 0 where the flag is not set.
+    fn reason(&mut self, flag: u8) -> u16 {
+        if flag == 0 && self.random.chance(90) {
+            return 0;
+        }
         self.random.pick(&[0, 1, 7, 255, 256, 300, 65_535])
     }
 
     fn members(&mut self) {
         for range in 0..self.catalogue.ranges.len() as u16 {
+            if self.records.len() > MOST_RECORDS_BEFORE_RULES {
+                return;
+            }
             let name = self.catalogue.ranges[usize::from(range)].name;
             let parts = self.parts_of(name);
             let mut members = self.some_of(parts);
@@ -185,7 +226,9 @@ impl<'a> Maker<'a> {
     /// All, none, one, all but one, or about half.
     fn some_of(&mut self, parts: Vec<u16>) -> Vec<u16> {
         let chosen = self.random.below(parts.len().max(1));
+        let one_or_two = self.random.between(1, 2);
         match self.random.below(10) {
+            0..9 if self.narrow => parts.into_iter().skip(chosen).take(one_or_two).collect(),
             0..3 => parts,
             3 => Vec::new(),
             4 => parts.get(chosen).copied().into_iter().collect(),

@@ -4,6 +4,7 @@ use job::{
     answer::{Answer, Request, Side},
     limits::{KITLIST_LISTING, Limits},
     reader::{Reader, read_catalogue},
+    record::{ROOT, Record, job_of},
 };
 use oracle::{Rust, sheet::Sheet};
 
@@ -27,6 +28,24 @@ pub fn around(random: &mut Random) -> Vec<Request> {
         }
     }
     requests
+}
+
+/// Conditions joined until they have about 64 disjuncts or 16 ranges, required by the root.
+pub fn joined_conditions(random: &mut Random) -> Request {
+    let part = Record::Part { name: 0, flags: 0, unknown_reason: 0, exclusion_reason: 0 };
+    let mut records = vec![Record::Name { flags: 0 }, part, part, Record::Range { name: 0 }];
+    records.extend([Record::Member { range: 0, part: 0 }, Record::Leaf { range: 0 }]);
+    let joined = random.between(4, 10) as u16;
+    let or_percent = random.pick(&[20, 50, 80]);
+    for last in 0..joined {
+        let operator = u8::from(random.chance(or_percent));
+        let left = last - random.below(usize::from(last.min(1)) + 1) as u16;
+        records.push(Record::Joined { operator, left, right: last });
+    }
+    let owner = ROOT;
+    records.push(Record::Requirement { owner, form: 0, number: 0, condition: joined });
+    records.extend([Record::Add { owner: 0 }, Record::Add { owner }, Record::Run { level: 1 }]);
+    Request { limits: Limits::CEILINGS, ..Request::kitlist(job_of(records)) }
 }
 
 /// The highest counts that the job's runs end with, none below 1.

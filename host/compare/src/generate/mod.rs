@@ -24,19 +24,21 @@ pub fn random(seed: u64, count: usize) -> impl Iterator<Item = Request> {
 pub fn step(seed: u64, step: u64) -> Vec<Request> {
     let mut random = Random::new(seed, step);
     match random.below(1_000) {
-        0..660 => vec![with_limits(&mut random, Shape::small())],
-        660..700 => vec![with_limits(&mut random, Shape::medium())],
-        700..701 => vec![at_ceilings(&mut random)],
-        701..800 => edges::around(&mut random),
-        800..808 => damaged::cut_everywhere(&structured(&mut random, Shape::small())),
-        808..820 => {
+        0..500 => vec![with_limits(&mut random, Shape::small())],
+        500..720 => vec![with_limits(&mut random, Shape::repeating())],
+        720..770 => vec![with_limits(&mut random, Shape::medium())],
+        770..771 => vec![at_ceilings(&mut random)],
+        771..820 => edges::around(&mut random),
+        820..830 => vec![edges::joined_conditions(&mut random)],
+        830..833 => damaged::cut_everywhere(&structured(&mut random, Shape::small())),
+        833..837 => {
             let job = structured(&mut random, Shape::small());
             damaged::bytes_changed(&mut random, &job)
         }
-        820..830 => damaged::records_swapped(&structured(&mut random, Shape::small())),
-        830..880 => vec![damaged::raw(&mut random)],
-        880..930 => vec![damaged::loose_records(&mut random)],
-        930..980 => short::some(&mut random),
+        837..841 => damaged::records_swapped(&structured(&mut random, Shape::small())),
+        841..871 => vec![damaged::raw(&mut random)],
+        871..911 => vec![damaged::loose_records(&mut random)],
+        911..951 => short::some(&mut random),
         _ => vec![ended_badly(&mut random)],
     }
 }
@@ -70,7 +72,7 @@ fn with_limits(random: &mut Random, shape: Shape) -> Request {
 fn at_ceilings(random: &mut Random) -> Request {
     let shape = Shape::large(random);
     let job = structured(random, shape);
-    Request { job, limits: Limits::CEILINGS, listing_area: 4 * KITLIST_LISTING }
+    Request { job, limits: Limits::CEILINGS, listing_area: 16 * KITLIST_LISTING }
 }
 
 /// A good job with one sheet record behind it that is likely to be refused.

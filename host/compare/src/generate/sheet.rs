@@ -15,8 +15,10 @@ use crate::random::Random;
 pub fn draft(random: &mut Random, catalogue: &Catalogue, steps: (usize, usize)) -> Vec<Record> {
     let sheet = Sheet::new(catalogue.clone());
     let mut maker = Maker { random, sheet, records: Vec::new(), full: false };
-    if maker.random.chance(75) {
-        maker.warm_start();
+    match maker.random.below(4) {
+        0 => {}
+        1 => maker.slow_start(),
+        _ => maker.warm_start(),
     }
     for _ in 0..maker.random.between(steps.0, steps.1) {
         maker.step();
@@ -76,12 +78,24 @@ impl Maker<'_> {
         let mut owners = self.owners_of_rules();
         owners.sort_unstable();
         owners.dedup();
+        // In a large catalogue most runs with many owners pass a ceiling.
+        let percent = if owners.len() > 40 { self.random.pick(&[2, 10, 60]) } else { 60 };
         for owner in owners {
-            if self.random.chance(60) {
+            if self.random.chance(percent) {
                 self.give(Record::Add { owner });
             }
         }
         self.give(Record::Run { level: 1 });
+    }
+
+    /// A few owners, each with a run of its own.
+    fn slow_start(&mut self) {
+        let mut owners = self.owners_of_rules();
+        self.random.shuffle(&mut owners);
+        for owner in owners.into_iter().take(4) {
+            self.give(Record::Add { owner });
+            self.give(Record::Run { level: 1 });
+        }
     }
 
     fn owners_of_rules(&self) -> Vec<u16> {
