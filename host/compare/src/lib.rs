@@ -6,4 +6,5 @@ pub mod generate;
 pub mod model;
 pub mod paths;
 pub mod random;
+pub mod recording;
 pub mod shrink;

@@ -1,10 +1,10 @@
-//! Jobs at every limit and one past it.
+//! Jobs at every limit and one past it, and jobs that strain one rule.
 
 use job::{
     answer::{Answer, Request, Side},
     limits::{KITLIST_LISTING, Limits},
     reader::{Reader, read_catalogue},
-    record::{ROOT, Record, job_of},
+    record::{NO_CONDITION, ROOT, Record, job_of},
 };
 use oracle::{Rust, sheet::Sheet};
 
@@ -46,6 +46,27 @@ pub fn joined_conditions(random: &mut Random) -> Request {
     records.push(Record::Requirement { owner, form: 0, number: 0, condition: joined });
     records.extend([Record::Add { owner: 0 }, Record::Add { owner }, Record::Run { level: 1 }]);
     Request { limits: Limits::CEILINGS, ..Request::kitlist(job_of(records)) }
+}
+
+/// A union that names its ranges over and over, required by several owners.
+pub fn repeated_ranges(random: &mut Random) -> Request {
+    let part = Record::Part { name: 0, flags: 0, unknown_reason: 0, exclusion_reason: 0 };
+    let parts = random.between(1, 6) as u16;
+    let mut records = vec![Record::Name { flags: 0 }, Record::Range { name: 0 }];
+    records.extend([Record::Range { name: 0 }, Record::Union]);
+    records.extend((0..parts).map(|_| part));
+    records.extend((0..parts).map(|part| Record::Member { range: part % 2, part }));
+    for _ in 0..random.between(2, 60) {
+        records.push(Record::UnionMember { union: 0, range: random.below(2) as u16 });
+    }
+    for _ in 0..random.between(1, 6) {
+        let owner = random.pick(&[0, ROOT]);
+        let (form, number, condition) = (1, 0, NO_CONDITION);
+        records.push(Record::Requirement { owner, form, number, condition });
+    }
+    records.extend([Record::Add { owner: 0 }, Record::Add { owner: ROOT }]);
+    records.push(Record::Run { level: 1 });
+    Request::kitlist(job_of(records))
 }
 
 /// The highest counts that the job's runs end with, none below 1.

@@ -28,7 +28,8 @@ pub fn step(seed: u64, step: u64) -> Vec<Request> {
         500..720 => vec![with_limits(&mut random, Shape::repeating())],
         720..770 => vec![with_limits(&mut random, Shape::medium())],
         770..771 => vec![at_ceilings(&mut random)],
-        771..820 => edges::around(&mut random),
+        771..810 => edges::around(&mut random),
+        810..820 => vec![edges::repeated_ranges(&mut random)],
         820..830 => vec![edges::joined_conditions(&mut random)],
         830..833 => damaged::cut_everywhere(&structured(&mut random, Shape::small())),
         833..837 => {
