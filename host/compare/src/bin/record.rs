@@ -1,4 +1,5 @@
-//! Makes recorded/jobs.txt and recorded/answers.txt again, with the Rust's answers.
+//! Makes recorded/jobs.txt, recorded/answers.txt and the listings of the examples again, with the
+//! Rust's answers.
 
 use std::fs;
 
@@ -6,6 +7,7 @@ use compare::{paths, recording};
 use job::{
     answer::{Request, Side},
     recorded::{answers_text, job_line},
+    text,
 };
 use oracle::Rust;
 
@@ -15,6 +17,11 @@ const HEADING: &str = "\
 ";
 
 fn main() {
+    record_jobs();
+    record_examples();
+}
+
+fn record_jobs() {
     let jobs = recording::jobs();
     let requests: Vec<Request> = jobs.iter().map(|job| job.request.clone()).collect();
     let answers = Rust.answers(&requests);
@@ -24,4 +31,14 @@ fn main() {
     fs::write(directory.join("answers.txt"), answers_text(jobs.iter().zip(&answers)))
         .expect("answers.txt");
     println!("{} jobs recorded", jobs.len());
+}
+
+fn record_examples() {
+    for file in paths::examples() {
+        let text = fs::read_to_string(&file).expect("a text");
+        let job = text::read(&text, &mut Rust)
+            .unwrap_or_else(|error| panic!("{}, {error}", file.display()));
+        let listing = Rust.answer(&Request::kitlist(job)).to_string();
+        fs::write(file.with_extension("listing"), listing).expect("a listing");
+    }
 }

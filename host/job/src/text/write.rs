@@ -156,12 +156,15 @@ impl Writer<'_> {
     }
 
     fn variable(&mut self, number: u16, job: &[u8], last_run: usize) -> String {
+        let words = self.variable_words(number, job, last_run);
+        words.filter(|words| !words.contains('#')).unwrap_or_else(|| format!("#{number}"))
+    }
+
+    fn variable_words(&mut self, number: u16, job: &[u8], last_run: usize) -> Option<String> {
         let origins = self.known.origins(job, last_run);
-        let Some(&origin) = origins.get(usize::from(number)) else {
-            return format!("#{number}");
-        };
+        let &origin = origins.get(usize::from(number))?;
         let earlier = &origins[..usize::from(number)];
-        match origin {
+        Some(match origin {
             Origin::Root => "root".to_string(),
             Origin::Part(part) => self.part(part),
             Origin::Forbid(name) => {
@@ -172,7 +175,7 @@ impl Writer<'_> {
             Origin::Violation(range) => format!("violation {}", self.range(range)),
             Origin::Gate(Goal::Range(range)) => format!("gate {}", self.range(range)),
             Origin::Gate(Goal::Union(union)) => format!("gate {}", self.union(union)),
-        }
+        })
     }
 }
 

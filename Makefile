@@ -1,0 +1,17 @@
+# The comparison with the Rust; see docs/JOBS.md, docs/DIFFERENCES.md and host/README.md.
+SEED ?= 1
+COUNT ?= 20000
+HOST_RUN = cd host && ./setup && cargo run --quiet --release --package compare
+
+# Our listing beside the Rust's on COUNT generated jobs.
+compare:
+	@$(HOST_RUN) --bin compare -- random $(SEED) $(COUNT)
+
+# The recorded jobs and the listings of the examples, made again with the Rust's answers.
+record:
+	@$(HOST_RUN) --bin record
+
+host-test:
+	@host/test
+
+.PHONY: compare record host-test
