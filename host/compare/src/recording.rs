@@ -124,9 +124,8 @@ fn ceilings() -> Vec<RecordedJob> {
     ];
     let mut jobs = Vec::new();
     for (things, before, record, ceiling) in repeated {
-        let job = |count: usize| {
-            job_of(before.iter().copied().chain(std::iter::repeat_n(record, count)))
-        };
+        let job =
+            |count: usize| job_of(before.iter().copied().chain(std::iter::repeat_n(record, count)));
         jobs.push(kitlist(format!("refusal-3-{things}-pass"), job(ceiling)));
         jobs.push(kitlist(format!("refusal-3-{things}"), job(ceiling + 1)));
     }

@@ -40,12 +40,10 @@ fn first_that(
 fn smaller_jobs(job: &[u8]) -> impl Iterator<Item = Vec<u8>> + use<> {
     let records = records_of(job);
     let tail = job[job_of(records.iter().copied()).len()..].to_vec();
-    let shorter_tails: Vec<Vec<u8>> = (0..tail.len())
-        .map(|length| with_tail(&records, &tail[..length]))
-        .collect();
+    let shorter_tails: Vec<Vec<u8>> =
+        (0..tail.len()).map(|length| with_tail(&records, &tail[..length])).collect();
     let (kept, kept_tail) = (records.clone(), tail.clone());
-    let fewer = spans(records.len())
-        .map(move |span| with_tail(&without(&kept, &span), &kept_tail));
+    let fewer = spans(records.len()).map(move |span| with_tail(&without(&kept, &span), &kept_tail));
     let plainer = (0..records.len()).flat_map(move |at| {
         let (records, tail) = (records.clone(), tail.clone());
         plainer(records[at]).into_iter().map(move |record| {
@@ -93,12 +91,8 @@ fn plainer(record: Record) -> Vec<Record> {
             lower(range).map(|range| Record::UnionMember { union, range }).collect()
         }
         Record::Requirement { owner, form, number, condition } => {
-            let requirement = |owner, number, condition| Record::Requirement {
-                owner,
-                form,
-                number,
-                condition,
-            };
+            let requirement =
+                |owner, number, condition| Record::Requirement { owner, form, number, condition };
             nearer_none(condition)
                 .map(|condition| requirement(owner, number, condition))
                 .chain(nearer_none(owner).map(|owner| requirement(owner, number, condition)))
@@ -210,10 +204,9 @@ impl Numbers {
             Record::Member { range, part } => {
                 Record::Member { range: self.ranges.of(range)?, part: self.parts.of(part)? }
             }
-            Record::UnionMember { union, range } => Record::UnionMember {
-                union: self.unions.of(union)?,
-                range: self.ranges.of(range)?,
-            },
+            Record::UnionMember { union, range } => {
+                Record::UnionMember { union: self.unions.of(union)?, range: self.ranges.of(range)? }
+            }
             Record::Leaf { range } => Record::Leaf { range: self.ranges.of(range)? },
             Record::Joined { operator, left, right } => Record::Joined {
                 operator,

@@ -10,7 +10,15 @@ use job::{
 use oracle::Rust;
 
 const WORDS: [&str; 9] = [
-    "install", "requires", "excluded", "constrains", "forbid", "aux-out", "aux-owner", "lock", "any",
+    "install",
+    "requires",
+    "excluded",
+    "constrains",
+    "forbid",
+    "aux-out",
+    "aux-owner",
+    "lock",
+    "any",
 ];
 
 #[test]

@@ -198,10 +198,7 @@ impl Catalogue {
             ),
             1 => self.add_condition(
                 Condition::Or { left, right },
-                Size {
-                    disjuncts: l.disjuncts + r.disjuncts,
-                    longest: l.longest.max(r.longest),
-                },
+                Size { disjuncts: l.disjuncts + r.disjuncts, longest: l.longest.max(r.longest) },
             ),
             _ => Err(5),
         }

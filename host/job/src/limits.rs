@@ -12,19 +12,11 @@ pub struct Limits {
 }
 
 impl Limits {
-    pub const CEILINGS: Limits = Limits {
-        variables: 4_096,
-        clauses: 16_384,
-        condition_literals: 8_192,
-        waiting: 2_048,
-    };
+    pub const CEILINGS: Limits =
+        Limits { variables: 4_096, clauses: 16_384, condition_literals: 8_192, waiting: 2_048 };
 
-    pub const KITLIST: Limits = Limits {
-        variables: 1_024,
-        clauses: 2_048,
-        condition_literals: 1_024,
-        waiting: 256,
-    };
+    pub const KITLIST: Limits =
+        Limits { variables: 1_024, clauses: 2_048, condition_literals: 1_024, waiting: 256 };
 
     pub fn from_array(values: [u32; 4]) -> Self {
         let [variables, clauses, condition_literals, waiting] = values;

@@ -50,7 +50,9 @@ fn read_job(line: &str) -> Option<RecordedJob> {
 }
 
 /// The answers in the order of the jobs: a line `= NAME`, then what `kitlist` would print.
-pub fn answers_text<'a>(answers: impl IntoIterator<Item = (&'a RecordedJob, &'a Answer)>) -> String {
+pub fn answers_text<'a>(
+    answers: impl IntoIterator<Item = (&'a RecordedJob, &'a Answer)>,
+) -> String {
     let entries = answers.into_iter();
     entries.map(|(job, answer)| format!("= {}\n{answer}", job.name)).collect()
 }

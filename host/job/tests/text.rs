@@ -28,7 +28,10 @@ fn each_record_has_its_words() {
     let cases = [
         ("name n", "0100"),
         ("name n several", "0101"),
-        ("name n\npart a of n ready unknown 1 locked favoured excluded 258", "0100 0200001f01000201"),
+        (
+            "name n\npart a of n ready unknown 1 locked favoured excluded 258",
+            "0100 0200001f01000201",
+        ),
         ("name n\npart a of n unknown-reason 1 exclusion-reason 2", "0100 0200000001000200"),
         ("name n\nrange r of n", "0100 030000"),
         ("member #1 of #2", "0402000100"),
@@ -59,7 +62,8 @@ fn each_record_has_its_words() {
 
 #[test]
 fn variables_are_found_by_what_they_stand_for() {
-    let job = bytes("name n\npart a of n\npart b of n\ndecide b true at 1\ndecide forbid n 1 false at 1");
+    let job =
+        bytes("name n\npart a of n\npart b of n\ndecide b true at 1\ndecide forbid n 1 false at 1");
     assert_eq!(job[18..], [35, 1, 0, 1, 1, 0, 35, 4, 0, 0, 1, 0]);
 }
 

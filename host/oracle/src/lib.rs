@@ -8,6 +8,7 @@ pub mod sheet;
 use job::{
     answer::{Answer, Refusal, Request, Side},
     reader::{Reader, before_reading, read_catalogue},
+    recorded::hex,
 };
 
 use crate::sheet::Sheet;
@@ -17,8 +18,16 @@ pub struct Rust;
 
 impl Side for Rust {
     fn answers(&mut self, requests: &[Request]) -> Vec<Answer> {
-        requests.iter().map(answer).collect()
+        requests.iter().map(answer_or_name_job).collect()
     }
+}
+
+/// A panic of the reference is a finding: the job that shows it must not be lost.
+fn answer_or_name_job(request: &Request) -> Answer {
+    std::panic::catch_unwind(|| answer(request)).unwrap_or_else(|panic| {
+        eprintln!("the Rust panics on {}", hex(&request.job));
+        std::panic::resume_unwind(panic)
+    })
 }
 
 fn answer(request: &Request) -> Answer {

@@ -1,13 +1,10 @@
 //! A catalogue as the provider that the reference asks.
 
-use std::{
-    cell::RefCell,
-    collections::HashMap,
-    fmt::Display,
-    rc::Rc,
-};
+use std::{cell::RefCell, collections::HashMap, fmt::Display, rc::Rc};
 
-use job::catalogue::{Catalogue, Condition, EXCLUDED, FAVOURED, Goal, LOCKED, Owner, READY, UNKNOWN};
+use job::catalogue::{
+    Catalogue, Condition, EXCLUDED, FAVOURED, Goal, LOCKED, Owner, READY, UNKNOWN,
+};
 use resolvo::{
     Candidates, ConditionId, ConditionalRequirement, DenseIndex, Dependencies, DependencyProvider,
     HintDependenciesAvailable, Interner, KnownDependencies, LogicalOperator, NameId, Requirement,

@@ -13,10 +13,7 @@ pub struct Mapping<Id, V> {
 
 impl<Id, V> Default for Mapping<Id, V> {
     fn default() -> Self {
-        Self {
-            values: Vec::new(),
-            _id: PhantomData,
-        }
+        Self { values: Vec::new(), _id: PhantomData }
     }
 }
 
@@ -53,10 +50,7 @@ impl<Id: DenseIndex, V> Mapping<Id, V> {
 
     /// The ids that have a value, rising, with their values.
     pub fn iter(&self) -> MappingIter<'_, Id, V> {
-        MappingIter {
-            values: self.values.iter().enumerate(),
-            _id: PhantomData,
-        }
+        MappingIter { values: self.values.iter().enumerate(), _id: PhantomData }
     }
 
     fn slot(&mut self, id: Id) -> &mut Option<V> {
@@ -78,8 +72,7 @@ impl<'a, Id: DenseIndex, V> Iterator for MappingIter<'a, Id, V> {
     type Item = (Id, &'a V);
 
     fn next(&mut self) -> Option<Self::Item> {
-        self.values
-            .find_map(|(index, value)| Some((Id::from_index(index), value.as_ref()?)))
+        self.values.find_map(|(index, value)| Some((Id::from_index(index), value.as_ref()?)))
     }
 }
 
@@ -92,11 +85,7 @@ pub struct IndexedSet<Id> {
 
 impl<Id> Default for IndexedSet<Id> {
     fn default() -> Self {
-        Self {
-            present: Vec::new(),
-            indices: Vec::new(),
-            _id: PhantomData,
-        }
+        Self { present: Vec::new(), indices: Vec::new(), _id: PhantomData }
     }
 }
 

@@ -38,7 +38,9 @@ fn output(words: &[&str]) -> Result<Vec<u8>, String> {
             let job = bytes_of_hex(digits).ok_or("that is not hexadecimal")?;
             Ok((text::write(&job, &mut Rust) + "\n" + &listing(job)).into_bytes())
         }
-        _ => Err("usage: job bytes|hex|listing TEXT-FILE | job text JOB-FILE | job show HEX".into()),
+        _ => {
+            Err("usage: job bytes|hex|listing TEXT-FILE | job text JOB-FILE | job show HEX".into())
+        }
     }
 }
 

@@ -178,9 +178,8 @@ impl Maker<'_> {
     /// Unopened owners of an unconditional requirement or a constraint on a name that allows several.
     fn owners_that_open_several(&self) -> Vec<u16> {
         let catalogue = &self.sheet.catalogue;
-        let several = |range: u16| {
-            catalogue.names[usize::from(catalogue.ranges[usize::from(range)].name)]
-        };
+        let several =
+            |range: u16| catalogue.names[usize::from(catalogue.ranges[usize::from(range)].name)];
         let opened = self.sheet.opened_owners.borrow();
         let requirements = catalogue
             .requirements

@@ -13,10 +13,7 @@ pub(crate) struct Arena<Id, V> {
 
 impl<Id, V> Default for Arena<Id, V> {
     fn default() -> Self {
-        Self {
-            values: FrozenVec::new(),
-            _id: PhantomData,
-        }
+        Self { values: FrozenVec::new(), _id: PhantomData }
     }
 }
 

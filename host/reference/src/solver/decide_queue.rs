@@ -21,9 +21,7 @@ pub(crate) struct DecideQueue<D> {
 
 impl<D> Default for DecideQueue<D> {
     fn default() -> Self {
-        Self {
-            _provider: PhantomData,
-        }
+        Self { _provider: PhantomData }
     }
 }
 

@@ -97,11 +97,8 @@ where
 
     fn decide(&mut self, variable: usize, value: bool, level: u32) {
         // No rule sets a value by the install clause, so it marks the sheet's own decisions.
-        let decision = Decision::new(
-            VariableId::from_index(variable),
-            value,
-            ClauseId::install_root(),
-        );
+        let decision =
+            Decision::new(VariableId::from_index(variable), value, ClauseId::install_root());
         self.state
             .decision_tracker
             .try_add_decision(decision, level)
@@ -117,9 +114,7 @@ where
     }
 
     fn value(&self, variable: usize) -> Option<bool> {
-        self.state
-            .decision_tracker
-            .assigned_value(VariableId::from_index(variable))
+        self.state.decision_tracker.assigned_value(VariableId::from_index(variable))
     }
 
     fn decisions(&self) -> Vec<Decided> {
@@ -242,5 +237,32 @@ where
                 version_sets: entry.disjunct.iter().map(DeferredConjunct::version_set).collect(),
             })
             .collect()
+    }
+}
+
+#[cfg(test)]
+mod tests {
+    use super::*;
+    use crate::solver::decision_tracker::DecisionTracker;
+
+    fn one_decision_at_level_2() -> DecisionTracker {
+        let mut tracker = DecisionTracker::default();
+        let decision = Decision::new(VariableId::root(), true, ClauseId::install_root());
+        tracker.try_add_decision(decision, 2).expect("undecided");
+        tracker
+    }
+
+    /// Why [`Encoding::undo`] does not hand every level on.
+    #[test]
+    #[should_panic]
+    fn the_reference_panics_when_an_undo_takes_back_all() {
+        one_decision_at_level_2().undo_until(1);
+    }
+
+    #[test]
+    fn level_0_takes_back_all() {
+        let mut tracker = one_decision_at_level_2();
+        tracker.undo_until(0);
+        assert_eq!(tracker.stack().count(), 0);
     }
 }
