@@ -2,7 +2,7 @@
 
 use compare::{comparison::compare, generate, misreadings, model::Model, shrink};
 use job::{
-    answer::{Request, Side},
+    answer::{Answer, Refusal, Request, Side},
     text,
 };
 use oracle::Rust;
@@ -24,6 +24,18 @@ fn every_misreading_is_noticed() {
         let outcome = compare(&mut model, small_jobs(NOTICED_WITHIN));
         assert!(outcome.difference.is_some(), "{misreading}");
     }
+}
+
+#[test]
+fn runs_that_end_at_a_ceiling_pass_and_one_past_is_refused() {
+    let requests = generate::edges::at_ceilings();
+    let answers = Rust.answers(&requests);
+    assert_eq!(requests.len(), 6);
+    for pair in answers.chunks(2) {
+        assert!(matches!(&pair[0], Answer::Accepted { .. }));
+        assert!(matches!(&pair[1], Answer::Refused(Refusal { number: 10, .. })));
+    }
+    assert!(Model::new().answers(&requests) == answers);
 }
 
 #[test]

@@ -64,6 +64,10 @@ fn next(letter: char, given: &mut u16) -> String {
 impl Writer<'_> {
     /// `None` if there are no words for the record.
     fn line(&mut self, record: Record, job: &[u8], last_run: usize) -> Option<String> {
+        self.catalogue_line(record).or_else(|| self.sheet_line(record, job, last_run))
+    }
+
+    fn catalogue_line(&mut self, record: Record) -> Option<String> {
         Some(match record {
             Record::Name { flags } => {
                 let several = ["", " several"].get(usize::from(flags))?;
@@ -102,6 +106,12 @@ impl Writer<'_> {
             Record::Constraint { owner, range } => {
                 format!("constrain {}{}", self.range(range), self.by(owner))
             }
+            _ => return None,
+        })
+    }
+
+    fn sheet_line(&mut self, record: Record, job: &[u8], last_run: usize) -> Option<String> {
+        Some(match record {
             Record::Add { owner: ROOT } => "add root".to_string(),
             Record::Add { owner } => format!("add {}", self.part(owner)),
             Record::Draw { condition } => format!("draw {}", self.condition(condition)),
@@ -112,6 +122,7 @@ impl Writer<'_> {
                 format!("decide {variable} {value} at {level}")
             }
             Record::Undo { level } => format!("undo {level}"),
+            _ => return None,
         })
     }
 
