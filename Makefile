@@ -1,7 +1,7 @@
-# The comparison with the Rust; see docs/JOBS.md, docs/DIFFERENCES.md and host/README.md.
+# The comparison with the Rust; host/README.md says what is where.
 SEED ?= 1
 COUNT ?= 20000
-HOST_RUN = cd host && ./setup && cargo run --quiet --release --package compare
+HOST_RUN = host/with-reference cargo run --quiet --release --package compare
 
 # Our listing beside the Rust's on COUNT generated jobs.
 compare:

@@ -96,3 +96,61 @@ fn errors_name_the_line() {
         assert_eq!(error(text), message, "{text}");
     }
 }
+
+/// Lines put together from the language's own words: they are read or told, and what is read has a
+/// text of its own.
+#[test]
+fn any_words_are_read_or_told() {
+    const WORDS: [&str; 34] = [
+        "name",
+        "part",
+        "range",
+        "member",
+        "union",
+        "union-member",
+        "condition",
+        "require",
+        "constrain",
+        "add",
+        "draw",
+        "run",
+        "decide",
+        "undo",
+        "bytes",
+        "of",
+        "on",
+        "by",
+        "if",
+        "and",
+        "or",
+        "at",
+        "true",
+        "false",
+        "several",
+        "ready",
+        "unknown",
+        "root",
+        "one",
+        "forbid",
+        "a",
+        "#0",
+        "1",
+        "0102",
+    ];
+    let mut state: u64 = 1;
+    let mut below = |end: usize| {
+        state = state.wrapping_mul(6_364_136_223_846_793_005).wrapping_add(1);
+        (state >> 33) as usize % end
+    };
+    for _ in 0..20_000 {
+        let mut text = "name a\npart a of a\nrange a of a\ncondition a on a\n".to_string();
+        for _ in 0..below(4) {
+            let words: Vec<&str> = (0..below(7)).map(|_| WORDS[below(WORDS.len())]).collect();
+            text += &(words.join(" ") + "\n");
+        }
+        match text::read(&text, &mut TwoParts) {
+            Ok(job) => assert_eq!(bytes(&text::write(&job, &mut TwoParts)), job, "{text}"),
+            Err(error) => assert!(error.line > 4, "{error}"),
+        }
+    }
+}

@@ -1,6 +1,7 @@
 //! `compare random SEED COUNT [MISREADING]` sets the Rust beside the model (with a misreading, if
 //! one is named) on generated jobs; `compare short LENGTH`, on all jobs of up to so many records of
-//! a small stock; `compare bytes LENGTH`, on all jobs of up to so many bytes.
+//! a small stock; `compare sheets LENGTH`, on all sheets of up to so many records for one catalogue;
+//! `compare bytes LENGTH`, on all jobs of up to so many bytes.
 
 use std::process::ExitCode;
 
@@ -12,7 +13,7 @@ use compare::{
 use job::answer::{Request, Side};
 
 const USAGE: &str =
-    "usage: compare random SEED COUNT [MISREADING] | compare short LENGTH | compare bytes LENGTH";
+    "usage: compare random SEED COUNT [MISREADING] | compare short|sheets|bytes LENGTH";
 
 fn main() -> ExitCode {
     let arguments: Vec<String> = std::env::args().skip(1).collect();
@@ -23,6 +24,7 @@ fn main() -> ExitCode {
             run(Model::misreading(misreading), generate::random(number(seed), number(count)))
         }
         ["short", length] => run(Model::new(), short::all(number(length))),
+        ["sheets", length] => run(Model::new(), short::all_sheets(number(length))),
         ["bytes", length] => run(Model::new(), short::all_bytes(number(length))),
         _ => panic!("{USAGE}"),
     }

@@ -167,9 +167,9 @@ impl<'a> Maker<'a> {
             self.give(Record::Name { flags });
         }
         let (parts, ranges) = (self.count(shape.parts), self.count(shape.ranges));
-        let mut parts_first = [vec![true; parts], vec![false; ranges]].concat();
-        self.random.shuffle(&mut parts_first);
-        for is_part in parts_first {
+        let mut parts_and_ranges = [vec![true; parts], vec![false; ranges]].concat();
+        self.random.shuffle(&mut parts_and_ranges);
+        for is_part in parts_and_ranges {
             let name = self.name();
             if is_part { self.part(name) } else { self.give(Record::Range { name }) }
         }
