@@ -101,42 +101,11 @@ fn errors_name_the_line() {
 /// text of its own.
 #[test]
 fn any_words_are_read_or_told() {
-    const WORDS: [&str; 34] = [
-        "name",
-        "part",
-        "range",
-        "member",
-        "union",
-        "union-member",
-        "condition",
-        "require",
-        "constrain",
-        "add",
-        "draw",
-        "run",
-        "decide",
-        "undo",
-        "bytes",
-        "of",
-        "on",
-        "by",
-        "if",
-        "and",
-        "or",
-        "at",
-        "true",
-        "false",
-        "several",
-        "ready",
-        "unknown",
-        "root",
-        "one",
-        "forbid",
-        "a",
-        "#0",
-        "1",
-        "0102",
-    ];
+    let words: Vec<&str> = "name part range member union union-member condition require constrain \
+        add draw run decide undo bytes of on by if and or at true false several ready unknown root \
+        one forbid a #0 1 0102"
+        .split_whitespace()
+        .collect();
     let mut state: u64 = 1;
     let mut below = |end: usize| {
         state = state.wrapping_mul(6_364_136_223_846_793_005).wrapping_add(1);
@@ -145,8 +114,8 @@ fn any_words_are_read_or_told() {
     for _ in 0..20_000 {
         let mut text = "name a\npart a of a\nrange a of a\ncondition a on a\n".to_string();
         for _ in 0..below(4) {
-            let words: Vec<&str> = (0..below(7)).map(|_| WORDS[below(WORDS.len())]).collect();
-            text += &(words.join(" ") + "\n");
+            let line: Vec<&str> = (0..below(7)).map(|_| words[below(words.len())]).collect();
+            text += &(line.join(" ") + "\n");
         }
         match text::read(&text, &mut TwoParts) {
             Ok(job) => assert_eq!(bytes(&text::write(&job, &mut TwoParts)), job, "{text}"),

@@ -39,7 +39,7 @@ pub fn step(seed: u64, step: u64) -> Vec<Request> {
         837..841 => damaged::records_swapped(&structured(&mut random, Shape::small())),
         841..871 => vec![damaged::raw(&mut random)],
         871..911 => vec![damaged::loose_records(&mut random)],
-        911..951 => short::some(&mut random),
+        911..951 => vec![short::in_order(&mut random)],
         _ => vec![ended_badly(&mut random)],
     }
 }

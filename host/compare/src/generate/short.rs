@@ -110,11 +110,10 @@ fn words(digits: usize, length: u32) -> impl Iterator<Item = Vec<usize>> {
     })
 }
 
-/// A few jobs whose records follow one another in the stock's order, so that many are accepted.
-pub fn some(random: &mut Random) -> Vec<Request> {
+/// A job whose records follow one another in the stock's order, so that many are accepted.
+pub fn in_order(random: &mut Random) -> Request {
     let mut chosen: Vec<usize> =
         (0..random.between(1, 12)).map(|_| random.below(STOCK.len())).collect();
     chosen.sort_unstable();
-    let records = chosen.into_iter().map(|at| STOCK[at]);
-    vec![Request::kitlist(job_of(records))]
+    Request::kitlist(job_of(chosen.into_iter().map(|at| STOCK[at])))
 }
