@@ -44,15 +44,15 @@ fn smaller_jobs(job: &[u8]) -> impl Iterator<Item = Vec<u8>> + use<> {
         (0..tail.len()).map(|length| with_tail(&records, &tail[..length])).collect();
     let (kept, kept_tail) = (records.clone(), tail.clone());
     let fewer = spans(records.len()).map(move |span| with_tail(&without(&kept, &span), &kept_tail));
-    let plainer = (0..records.len()).flat_map(move |at| {
+    let simpler = (0..records.len()).flat_map(move |at| {
         let (records, tail) = (records.clone(), tail.clone());
-        plainer(records[at]).into_iter().map(move |record| {
+        simpler(records[at]).into_iter().map(move |record| {
             let mut changed = records.clone();
             changed[at] = record;
             with_tail(&changed, &tail)
         })
     });
-    shorter_tails.into_iter().chain(fewer).chain(plainer)
+    shorter_tails.into_iter().chain(fewer).chain(simpler)
 }
 
 fn with_tail(records: &[Record], tail: &[u8]) -> Vec<u8> {
@@ -68,7 +68,7 @@ fn spans(records: usize) -> impl Iterator<Item = Range<usize>> {
 }
 
 /// Records with less in them, or with lower numbers.
-fn plainer(record: Record) -> Vec<Record> {
+fn simpler(record: Record) -> Vec<Record> {
     match record {
         Record::Name { flags } => fewer_bits(flags).map(|flags| Record::Name { flags }).collect(),
         Record::Part { name, flags, unknown_reason, exclusion_reason } => {
@@ -93,13 +93,13 @@ fn plainer(record: Record) -> Vec<Record> {
         Record::Requirement { owner, form, number, condition } => {
             let requirement =
                 |owner, number, condition| Record::Requirement { owner, form, number, condition };
-            nearer_none(condition)
+            lower_or_none(condition)
                 .map(|condition| requirement(owner, number, condition))
-                .chain(nearer_none(owner).map(|owner| requirement(owner, number, condition)))
+                .chain(lower_or_none(owner).map(|owner| requirement(owner, number, condition)))
                 .chain(lower(number).map(|number| requirement(owner, number, condition)))
                 .collect()
         }
-        Record::Constraint { owner, range } => nearer_none(owner)
+        Record::Constraint { owner, range } => lower_or_none(owner)
             .map(|owner| Record::Constraint { owner, range })
             .chain(lower(range).map(|range| Record::Constraint { owner, range }))
             .collect(),
@@ -123,7 +123,7 @@ fn lower(number: u16) -> impl Iterator<Item = u16> {
 }
 
 /// As [`lower`], for owners and conditions: none of them (the root) comes before 0.
-fn nearer_none(number: u16) -> impl Iterator<Item = u16> {
+fn lower_or_none(number: u16) -> impl Iterator<Item = u16> {
     const { assert!(ROOT == NO_CONDITION) };
     let some = (number != ROOT).then_some(number);
     some.into_iter().flat_map(|number| std::iter::once(ROOT).chain(lower(number)))

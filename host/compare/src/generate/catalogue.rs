@@ -121,9 +121,9 @@ struct Maker<'a> {
     catalogue: Catalogue,
     names: usize,
     /// A name with many parts.
-    crowded: u16,
+    large_name: u16,
     /// A name that goals seldom speak of.
-    shy: Option<u16>,
+    condition_name: Option<u16>,
     ready_percent: usize,
     narrow: bool,
 }
@@ -140,12 +140,22 @@ enum Rule {
 impl<'a> Maker<'a> {
     fn new(random: &'a mut Random, shape: Shape) -> Self {
         let names = random.between(shape.names.0, shape.names.1);
-        let crowded = random.below(names) as u16;
+        let large_name = random.below(names) as u16;
         let narrow = shape.narrow;
-        let shy = (names > 1 && !narrow && random.chance(40)).then(|| random.below(names) as u16);
+        let condition_name =
+            (names > 1 && !narrow && random.chance(40)).then(|| random.below(names) as u16);
         let ready_percent = random.pick(shape.ready_percents);
         let (records, catalogue) = (Vec::new(), Catalogue::default());
-        Maker { random, records, catalogue, names, crowded, shy, ready_percent, narrow }
+        Maker {
+            random,
+            records,
+            catalogue,
+            names,
+            large_name,
+            condition_name,
+            ready_percent,
+            narrow,
+        }
     }
 
     /// Keeps the record if the catalogue takes it.
@@ -162,7 +172,7 @@ impl<'a> Maker<'a> {
     fn names_parts_and_ranges(&mut self, shape: Shape) {
         let several_percent = self.random.pick(&[0, 30, 60]);
         for name in 0..self.names as u16 {
-            let percent = if self.shy == Some(name) { 75 } else { several_percent };
+            let percent = if self.condition_name == Some(name) { 75 } else { several_percent };
             let flags = u8::from(self.random.chance(percent));
             self.give(Record::Name { flags });
         }
@@ -177,8 +187,8 @@ impl<'a> Maker<'a> {
 
     fn name(&mut self) -> u16 {
         match self.random.below(10) {
-            0..4 if !self.narrow => self.crowded,
-            4..6 if !self.narrow => self.shy.unwrap_or(self.crowded),
+            0..4 if !self.narrow => self.large_name,
+            4..6 if !self.narrow => self.condition_name.unwrap_or(self.large_name),
             _ => self.random.below(self.names) as u16,
         }
     }
@@ -301,26 +311,29 @@ impl<'a> Maker<'a> {
     }
 
     fn owner(&mut self) -> u16 {
-        let shy_parts = self.shy.map(|shy| self.parts_of(shy)).unwrap_or_default();
+        let condition_parts = self
+            .condition_name
+            .map(|condition_name| self.parts_of(condition_name))
+            .unwrap_or_default();
         match self.random.below(10) {
-            0..4 if !shy_parts.is_empty() => self.random.pick(&shy_parts),
+            0..4 if !condition_parts.is_empty() => self.random.pick(&condition_parts),
             0..8 => self.random.below(self.catalogue.parts.len().max(1)) as u16,
             _ => ROOT,
         }
     }
 
     fn goal_range(&mut self) -> u16 {
-        self.range_where(90, |name, shy| Some(name) != shy)
+        self.range_where(90, |name, condition_name| Some(name) != condition_name)
     }
 
     fn leaf_range(&mut self) -> u16 {
-        self.range_where(70, |name, shy| Some(name) == shy)
+        self.range_where(70, |name, condition_name| Some(name) == condition_name)
     }
 
     fn range_where(&mut self, percent: usize, wanted: impl Fn(u16, Option<u16>) -> bool) -> u16 {
         let ranges = self.catalogue.ranges.iter().enumerate();
         let fitting: Vec<u16> = ranges
-            .filter(|(_, range)| wanted(range.name, self.shy))
+            .filter(|(_, range)| wanted(range.name, self.condition_name))
             .map(|(number, _)| number as u16)
             .collect();
         if !fitting.is_empty() && self.random.chance(percent) {

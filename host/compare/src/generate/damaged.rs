@@ -48,13 +48,13 @@ pub fn records_of(job: &[u8]) -> Vec<Record> {
 }
 
 /// Bytes of any value.
-pub fn raw(random: &mut Random) -> Request {
+pub fn any_bytes(random: &mut Random) -> Request {
     let length = random.between(0, 24);
     Request::kitlist((0..length).map(|_| random.byte()).collect())
 }
 
 /// Records of any kind and order, with small numbers.
-pub fn loose_records(random: &mut Random) -> Request {
+pub fn any_records(random: &mut Random) -> Request {
     let mut job = Vec::new();
     let mut kinds: Vec<u8> = (0..random.between(1, 14)).map(|_| random.pick(&KINDS)).collect();
     if random.chance(80) {

@@ -37,10 +37,10 @@ pub fn step(seed: u64, step: u64) -> Vec<Request> {
             damaged::bytes_changed(&mut random, &job)
         }
         837..841 => damaged::records_swapped(&structured(&mut random, Shape::small())),
-        841..871 => vec![damaged::raw(&mut random)],
-        871..911 => vec![damaged::loose_records(&mut random)],
+        841..871 => vec![damaged::any_bytes(&mut random)],
+        871..911 => vec![damaged::any_records(&mut random)],
         911..951 => vec![short::in_order(&mut random)],
-        _ => vec![ended_badly(&mut random)],
+        _ => vec![with_faulty_end(&mut random)],
     }
 }
 
@@ -77,7 +77,7 @@ fn at_ceilings(random: &mut Random) -> Request {
 }
 
 /// A good job with one sheet record behind it that is likely to be refused.
-fn ended_badly(random: &mut Random) -> Request {
+fn with_faulty_end(random: &mut Random) -> Request {
     let mut records = structured_records(random, Shape::small());
     records.push(sheet::any_record(random));
     if random.chance(50) {

@@ -17,8 +17,8 @@ pub fn draft(random: &mut Random, catalogue: &Catalogue, steps: (usize, usize)) 
     let mut maker = Maker { random, sheet, records: Vec::new(), full: false };
     match maker.random.below(4) {
         0 => {}
-        1 => maker.slow_start(),
-        _ => maker.warm_start(),
+        1 => maker.owners_one_by_one(),
+        _ => maker.many_owners_in_one_run(),
     }
     for _ in 0..maker.random.between(steps.0, steps.1) {
         maker.step();
@@ -74,7 +74,7 @@ impl Maker<'_> {
     }
 
     /// Many owners and one run.
-    fn warm_start(&mut self) {
+    fn many_owners_in_one_run(&mut self) {
         let mut owners = self.owners_of_rules();
         owners.sort_unstable();
         owners.dedup();
@@ -89,7 +89,7 @@ impl Maker<'_> {
     }
 
     /// A few owners, each with a run of its own.
-    fn slow_start(&mut self) {
+    fn owners_one_by_one(&mut self) {
         let mut owners = self.owners_of_rules();
         self.random.shuffle(&mut owners);
         for owner in owners.into_iter().take(4) {
