@@ -1,0 +1,1 @@
+../../../../shared/docs/src/src/solver_id.rs
