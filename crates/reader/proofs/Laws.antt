@@ -11,9 +11,10 @@ use lib.Dec.{eqb, ltb, leb}
 use lib.ListN.{length, getD, take, drop, length-drop, List·getD-eq-default}
 use native.Mathlib.Decide.{decLt}
 use borrow.Author.Tests.{lt-ltb, le-ltb, lt-leb, le-leb, eq-eqb, ne-eqb, eqb-true}
-use Rattle.rules.specs.Lists.{all, upTo}
+use Rattle.rules.specs.Lists.{upTo}
 use Rattle.rules.specs.Compute.{computing}
 use Rattle.rules.proofs.Bools.{and-left, and-right}
+use Rattle.rules.proofs.Member.{all-out, upTo-in}
 use Rattle.rules.proofs.KindTable.{not-one, looked-up}
 use Rattle.rules.specs.Bytes.{byteAt, wordAt}
 use Rattle.rules.specs.Refusals.{unknownKind, outOfPlace, cutShort, Result, ok, refuse}
@@ -139,17 +140,6 @@ abbrev lengthAgrees : Option (Kind × ℕ) → ℕ → Bool
 lengthAgrees none n = eqb n 99
 lengthAgrees (some k) n = eqb n (k .1) && not (eqb n 99)
 
-each-below : (f : ℕ → Bool) (i n k : ℕ) → all f (upTo i n) ≡ true → i ≤ k → k < i + n → f k ≡ true
-unfolding all upTo
-each-below f i zero k h l m = absurd (no l m)
-  where
-    no : i ≤ k → k < i + 0 → ⊥
-    no l m = omega arith
-each-below f i (suc n) k h l m = elim (decLt i k) [
-  | yes g ↦ each-below f (suc i) n k (and-right (f i) (all f (upTo (suc i) n)) h) g (omega arith)
-  | no g ↦ let e : i ≡ k = omega arith in rw e at (and-left (f i) (all f (upTo (suc i) n)) h)
-]
-
 -- no kind from 37 on
 high : (k : ℕ) → 37 ≤ k → (o : Option (Kind × ℕ)) → kindOf k ≡ o → o ≡ none
 unfolding kindOf
@@ -160,7 +150,7 @@ high k h (some x) e =
 
 agree : (k : ℕ) → lengthAgrees (kindOf k) (bodyLength k) ≡ true
 agree k = elim (decLt k 37) [
-  | yes h ↦ each-below (λ n. lengthAgrees (kindOf n) (bodyLength n)) 0 37 k (unfold computing bodyLength in refl) (omega arith) (omega arith)
+  | yes h ↦ all-out (λ n. lengthAgrees (kindOf n) (bodyLength n)) (upTo 0 37) (unfold computing bodyLength in refl) k (upTo-in 0 37 k (omega arith) (omega arith))
   | no h ↦ let g : 37 ≤ k = omega arith in rw (high k g (kindOf k) refl, ← length-none k g)
 ]
 
