@@ -2,31 +2,37 @@
 --     lines-kept      decide and undo records behind a job leave every v, c, o, p, x, n and w line of its listing as it is
 use mathlib.Core.Path.{_≡_, refl, sym, _∙_, ap}
 use mathlib.Core.Logic.{_⊎_, inl, inr, ⊎-elim}
-use mathlib.Core.Bool.{Bool, true, false, not, _||_}
+use mathlib.Core.Bool.{Bool, true, false, not, _&&_, _||_, cond}
 use mathlib.Core.List.{List, [], _∷_, _++_, append-assoc, append-nil}
-use Prim.Native.Nat.{ℕ, _+_, zero-le}
-use lib.ListN.{length}
-use borrow.Author.Tests.{eqb-false, ne-eqb}
+use Prim.Native.Nat.{ℕ, _+_, _≤_, zero-le}
+use native.Mathlib.Omega.{arith}
+use lib.Dec.{eqb}
+use lib.ListN.{length, length-append}
+use borrow.Author.Tests.{eqb-false, ne-eqb, lt-leb, le-ltb}
 use Rattle.rules.specs.Lists.{filter, any, snoc, concatMap, fold, when, unless, upTo}
-use Rattle.rules.specs.Catalogue.{Owner, root, part, Catalogue, sameOwner}
+use Rattle.rules.specs.Catalogue.{Owner, root, part, Catalogue, emptyCatalogue, sameOwner}
 use Rattle.rules.specs.Opening.{Opening, setAdded, queue, openOwner, add, draw, beginRun}
 use Rattle.rules.specs.Records.{Command}
-use Rattle.rules.specs.Items.{ownerOf}
+use Rattle.rules.specs.Items.{ownerOf, given, absent, ownerAbsent}
+use Rattle.rules.specs.Refusals.{Thing}
 use Rattle.rules.specs.State.{State, setOpening, setDecisions, decidedTrue}
 use Rattle.rules.specs.Run.{begun, mostTasks, runOnce}
 use Rattle.rules.specs.Limits.{Limits, Terms}
 use Rattle.rules.specs.Sheet.{tooLow, decide, commandRefusals, carriedOut}
 use Rattle.rules.specs.Listing.{ascii, decimal, line, ownerField, originFields, numbered, assertions, clauseFields, decisionLine, waitingLines, listing}
-use Rattle.rules.specs.Job.{Progress, carrying, walk, runStep, accepted, outcome}
+use Rattle.rules.specs.Job.{Progress, reading, carrying, walk, runStep, progress, accepted, outcome}
 use Rattle.rules.specs.Called.{_∈_}
 use Rattle.rules.proofs.Bools.{by-cases}
 use Rattle.rules.proofs.ListLaws.{any-snoc}
-use Rattle.rules.proofs.MemberLaws.{filter-append, filter-pass, filter-stop}
+use Rattle.rules.proofs.MemberLaws.{all-in, filter-append, filter-pass, filter-stop}
 use Rattle.rules.proofs.Each.{Each, when-cases, unless-cases}
 use Rattle.rules.proofs.Membership.{any-in}
 use Rattle.rules.proofs.OwnerTasks.{same-owner}
+use Rattle.rules.proofs.Reached.{Passed, none-left, passed, Given, Reached, carried-job}
+use Rattle.rules.proofs.WellFormed.{OwnerGiven}
+use Rattle.rules.proofs.Valid.{valid}
 use Rattle.rules.proofs.Ends.{owner-self}
-use Rattle.rules.proofs.JobBytes.{Goes, bytesOf, Leads, carried, leads-goes, leads-once, walk-on, walk-elsewhere, walk-passed, walk-passes, accepted-led}
+use Rattle.rules.proofs.JobBytes.{Goes, carries, bytesOf, Leads, carried, leads-goes, leads-once, walk-on, walk-elsewhere, walk-passed, walk-passes, walked, taken-progress, Taken, taken-shorter, goes-taken, accepted-taken, accepted-led, accepted-alike}
 
 -- ---- decide and undo: on states
 
@@ -251,6 +257,9 @@ module _ (l : Limits) (c : Catalogue) (n : ℕ) (s : State) where
 alike-sym : {o : Owner} {s s′ : State} → Alike o s s′ → Alike o s′ s
 alike-sym (alike e q) = alike e (sym q)
 
+turned : {o : Owner} {s s′ : State} → (s′ ≡ s) ⊎ Alike o s s′ → (s ≡ s′) ⊎ Alike o s′ s
+turned = ⊎-elim (λ e. inl (sym e)) (λ h. inr (alike-sym h))
+
 -- bytes that the one job carries out from s lead to the same in the other from s′
 module _ (t : Terms) (job job′ : List ℕ) (c : Catalogue) where
   abbrev SameEnd : ℕ → ℕ → List ℕ → State → State → Type 0
@@ -271,3 +280,70 @@ module _ (t : Terms) (job job′ : List ℕ) (c : Catalogue) where
       command-walked at at′ (Command.run level) rest h (λ g. rw (run-alike (t .limits) c level h) (walk-elsewhere t job job′ _ _ rest _ g))
   alike-walked at at′ (Each.cons {x = k} n ns) level rest h =
       rw (append-assoc (bytesOf k) _ _) (command-walked at at′ k _ h (alike-walked _ _ ns level rest (after-alike (t .limits) c n h)))
+
+  again-walked : {o : Owner} (at at′ : ℕ) {ks : List Command} → Each NotRun ks → (level : ℕ) (rest : List ℕ) {s s′ : State} → (s′ ≡ s) ⊎ Alike o s s′
+      → SameEnd at at′ (concatMap bytesOf ks ++ (bytesOf (Command.run level) ++ rest)) s s′
+  again-walked at at′ h level rest =
+      ⊎-elim (λ e g. rw e (walk-elsewhere t job job′ at at′ _ _ g)) (alike-walked at at′ h level rest)
+
+-- an owner added or opened is given, so that an add of it is not refused
+owner-there : (c : Catalogue) (n : ℕ) → OwnerGiven c (ownerOf n) → ownerAbsent c n ≡ false
+unfolding ownerAbsent ownerOf absent given
+owner-there c n = go (eqb n 65535)
+  where
+    go : (b : Bool) → OwnerGiven c (cond b root (part n)) → (not b && absent c Thing.part n) ≡ false
+    go true h = refl
+    go false h = unfold absent given in lt-leb _ n h
+
+add-passes : {l : Limits} {c : Catalogue} {s : State} → Given c → Reached l c s → (n : ℕ) → Already (ownerOf n) (s .opening)
+    → Passed (commandRefusals l c (Command.add n) s)
+unfolding commandRefusals
+add-passes {c = c} {s = s} g r n a =
+    let v = valid g r .opening in
+    rw (owner-there c n (⊎-elim (all-in _ (s .opening .added) (v .added)) (all-in _ (s .opening .owners) (v .owners)) a)) (passed none-left)
+
+-- The bytes `front` lead to c and s, in which the owner of number n is added or opened; then comes an add of it, commands without a run, a
+-- run, and any bytes.
+module _ (t : Terms) (front : List ℕ) (n : ℕ) {ks : List Command} (h : Each NotRun ks) (level : ℕ) (rest : List ℕ) where
+  abbrev behind : List ℕ
+  behind = concatMap bytesOf ks ++ (bytesOf (Command.run level) ++ rest)
+
+  abbrev pub withAdd : List ℕ
+  withAdd = front ++ (bytesOf (Command.add n) ++ behind)
+
+  abbrev pub withoutAdd : List ℕ
+  withoutAdd = front ++ behind
+
+  module _ {c : Catalogue} {s : State} (e : progress t front (runStep t front) ≡ carrying c s) (a : Already (ownerOf n) (s .opening)) where
+    front-led : walked t front ≡ carrying c s
+    front-led = sym (taken-progress t front (goes-taken t front (rw e carries))) ∙ e
+
+    -- what stands behind is carried out from s
+    behind-front : (job more : List ℕ) → walk (runStep t job) 0 0 (front ++ more) (reading emptyCatalogue) ≡ walk (runStep t job) 0 (0 + length front) more (carrying c s)
+    behind-front job more = rw (← front-led) (walk-on t front job 0 0 0 front more (reading emptyCatalogue) zero-le (rw front-led carries))
+
+    without-walked : walked t withoutAdd ≡ walk (runStep t withoutAdd) 0 (0 + length front) behind (carrying c s)
+    without-walked = behind-front withoutAdd behind
+
+    with-walked : walked t withAdd ≡ walk (runStep t withAdd) 0 (0 + length front + length (bytesOf (Command.add n))) behind (carrying c (carriedOut (t .limits) c (Command.add n) s))
+    with-walked =
+        let j = carried-job t front e in
+        behind-front withAdd (bytesOf (Command.add n) ++ behind) ∙ walk-passed t withAdd _ (Command.add n) behind carried (add-passes (j .0) (j .1) n a)
+
+    -- AN OWNER ADDED AGAIN: accepted with the add, the job is accepted without it, with the same catalogue and state, so with the same listing
+    pub add-left-out : {c′ : Catalogue} {s′ : State} → outcome t withAdd ≡ accepted c′ s′ → outcome t withoutAdd ≡ accepted c′ s′
+    add-left-out r =
+        let g = leads-goes (accepted-led t withAdd r) in
+        let same = again-walked t withAdd withoutAdd c _ _ h level rest (turned (added-again (t .limits) c n s a)) (rw with-walked at g) in
+        accepted-alike t withAdd withoutAdd (taken-shorter t withAdd withoutAdd shorter (accepted-taken t withAdd r)) (without-walked ∙ (same ∙ sym with-walked)) r
+      where
+        shorter : length withoutAdd ≤ length withAdd
+        shorter = rw (length-append front behind, length-append front (bytesOf (Command.add n) ++ behind), length-append (bytesOf (Command.add n)) behind) (omega arith)
+
+    -- and accepted without it, if with the add it is not overlong, it is accepted with it
+    pub add-put-in : length withAdd ≤ 65536 → {c′ : Catalogue} {s′ : State} → outcome t withoutAdd ≡ accepted c′ s′ → outcome t withAdd ≡ accepted c′ s′
+    add-put-in b r =
+        let g = leads-goes (accepted-led t withoutAdd r) in
+        let same = again-walked t withoutAdd withAdd c _ _ h level rest (added-again (t .limits) c n s a) (rw without-walked at g) in
+        let taken : Taken t withAdd = record { fit = accepted-taken t withoutAdd r .fit; short = le-ltb 65536 (length withAdd) b } in
+        accepted-alike t withoutAdd withAdd taken (with-walked ∙ (same ∙ sym without-walked)) r

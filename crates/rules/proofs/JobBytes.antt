@@ -239,6 +239,9 @@ pub record Taken (t : Terms) (job : List ℕ) : Type 0 where
   pub fit : fits t ≡ true
   pub short : ltb 65536 (length job) ≡ false
 
+pub taken-shorter : (t : Terms) (job job′ : List ℕ) → length job′ ≤ length job → Taken t job → Taken t job′
+taken-shorter t job job′ l h = record { fit = h .fit; short = le-ltb 65536 (length job′) (le-trans l (ltb-false 65536 (length job) (h .short))) }
+
 module _ (t : Terms) (job : List ℕ) where
   pub taken-progress : Taken t job → progress t job (runStep t job) ≡ walked t job
   unfolding progress begunWith unlessAny
