@@ -82,7 +82,7 @@ module _ {A : Type 0} where
   filter-all false (x ∷ xs) = filter-all false xs
 
   -- all pass, or none
-  filter-const : (b : Bool) (f : A → Bool) (xs : List A) → ((x : A) → x ∈ xs → f x ≡ b) → filter f xs ≡ listIf b xs
+  pub filter-const : (b : Bool) (f : A → Bool) (xs : List A) → ((x : A) → x ∈ xs → f x ≡ b) → filter f xs ≡ listIf b xs
   filter-const b f xs h = filter-same f (λ _. b) xs h ∙ filter-all b xs
 
   filter-none : (f : A → Bool) (xs ys : List A) → ((y : A) → y ∈ ys → f y ≡ false) → filter f (xs ++ ys) ≡ filter f xs
@@ -225,7 +225,7 @@ module _ {c : Catalogue} {log : List Task} {before : ℕ} {tracked : List ℕ} {
       same : (x : Origin) → known vs x ≡ true → variableOf ws x ≡ variableOf vs x
       same x q = keeps-variable p x q .1
 
-  others-made : (os : List Origin) (added : List Clause) → ((x : Origin) → x ∈ os → helperOf n x ≡ false)
+  pub others-made : (os : List Origin) (added : List Clause) → ((x : Origin) → x ∈ os → helperOf n x ≡ false)
       → filter (forbidOf (withVariables os vs) n) added ≡ [] → HelpersOf c tracked vs ks n → HelpersOf c tracked (withVariables os vs) (ks ++ added) n
   others-made os added u v h = record {
     variables = filter-unnamed (helperOf n) os vs u ∙ h .variables;

@@ -6,8 +6,8 @@ use mathlib.Core.Bool.{Bool}
 use mathlib.Core.List.{List, [], _∷_, _++_}
 use Prim.Native.Nat.{ℕ, zero, suc, _≤_}
 use native.Mathlib.Nat.{le-refl}
-use Rattle.rules.specs.Catalogue.{Catalogue}
-use Rattle.rules.specs.Opening.{Task, Opening, setLine, serve, add, draw, beginRun, endRun}
+use Rattle.rules.specs.Catalogue.{Owner, Catalogue}
+use Rattle.rules.specs.Opening.{Task, Opening, unopened, setLine, serve, add, draw, beginRun, endRun}
 use Rattle.rules.specs.Encoding.{served}
 use Rattle.rules.specs.State.{State, decidedTrue, Run}
 use Rattle.rules.specs.Run.{begun, serveLine, mostTasks}
@@ -16,7 +16,7 @@ use Rattle.rules.specs.Items.{ownerOf}
 use Rattle.rules.specs.Limits.{Limits}
 use Rattle.rules.specs.Sheet.{decide, carriedOut}
 use Rattle.rules.proofs.Each.{when-cases}
-use Rattle.rules.proofs.Reached.{Given, Reached}
+use Rattle.rules.proofs.Reached.{Given, Reached, command}
 use Rattle.rules.proofs.Line.{emit-opening, firstLine, firstState, runFrom, runEnd-opening, runOnce-is}
 use Rattle.rules.proofs.Ends.{more-fuel}
 use Rattle.rules.proofs.Decided.{serveTaskBy, serveLineBy, run-judged-at-start}
@@ -84,3 +84,32 @@ pub same-opening : {l l′ : Limits} {c : Catalogue} {s s′ : State} → Reache
     → s .opening ≡ s′ .opening → ((p : ℕ) → decidedTrue s p ≡ decidedTrue s′ p)
     → (o : Command) → (carriedOut l c o s) .opening ≡ (carriedOut l′ c o s′) .opening
 same-opening {c = c} {s = s} h h′ e d o = opening-alone h o ∙ (rw (fun-ext d, e) refl ∙ sym (opening-alone h′ o))
+
+-- ---- what every rule keeps holds of the opening of every job; no clause need be looked at
+
+pub record KeptByRules (c : Catalogue) (P : Opening → Type 0) : Type 0 where
+  pub added : (w : Owner) (o : Opening) → P o → P (add w o)
+  pub drawn : (true? : ℕ → Bool) (k : ℕ) (o : Opening) → P o → P (draw c true? k o)
+  pub begun : (o : Opening) → P o → P (beginRun c o)
+  pub taken : (o : Opening) → P o → P (setLine [] o)
+  pub served : (true? : ℕ → Bool) (t : Task) (o : Opening) → P o → P (serve c true? t o)
+  pub ended : (o : Opening) → P o → P (endRun c o)
+
+module _ (c : Catalogue) (P : Opening → Type 0) (k : KeptByRules c P) where
+  line-kept : (true? : ℕ → Bool) (fuel : ℕ) (ts : List Task) (o : Opening) → P o → P (serveAlone c true? fuel ts o)
+  unfolding serveAlone
+  line-kept true? zero ts o p = p
+  line-kept true? (suc fuel) [] o p = p
+  line-kept true? (suc fuel) (t ∷ ts) o p = line-kept true? fuel _ _ (k .taken _ (k .served true? t o p))
+
+  command-kept : (true? : ℕ → Bool) (x : Command) (o : Opening) → P o → P (carriedOutAlone c true? x o)
+  unfolding carriedOutAlone runAlone
+  command-kept true? (Command.add n) o p = k .added (ownerOf n) o p
+  command-kept true? (Command.draw n) o p = k .drawn true? n o p
+  command-kept true? (Command.run level) o p = k .ended _ (line-kept true? _ _ _ (k .taken _ (k .begun o p)))
+  command-kept true? (Command.decide x value level) o p = p
+  command-kept true? (Command.undo level) o p = p
+
+  pub every-opening : P unopened → {l : Limits} {s : State} → Reached l c s → P (s .opening)
+  every-opening p Reached.begun = p
+  every-opening p (command {s = s} r x q) = rw (opening-alone r x) (command-kept (decidedTrue s) x (s .opening) (every-opening p r))
