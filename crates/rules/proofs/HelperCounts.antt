@@ -5,9 +5,11 @@ use mathlib.Core.Logic.{_⊎_, inl, inr, ⊎-elim}
 use mathlib.Core.Bool.{Bool, true, false, not, cond}
 use mathlib.Core.List.{List, [], _∷_, _++_, map, append-nil, append-assoc, List·Memᴰ·head, List·Memᴰ·tail, List·Memᴰ·not-nil, Memᴰ·of-map}
 use Prim.Native.Nat.{ℕ, zero, suc, _+_, _*_, _^_, _<_, _≤_, zero-le}
+use native.Mathlib.Nat.{le-trans, not-suc-le-zero}
 use native.Mathlib.Omega.{arith}
 use lib.Dec.{eqb}
 use lib.ListN.{length, drop, length-map}
+use borrow.Author.Tests.{eqb-true, eqb-false, not-true}
 use Rattle.rules.specs.Lists.{filter, count, snoc, listIf, concatMap, fold, upTo}
 use Rattle.rules.specs.Clause.{Clause, anyOne}
 use Rattle.rules.specs.AtMostOne.{helpersFor}
@@ -18,22 +20,31 @@ use Rattle.rules.specs.Encoding.{Event, helpersOf, links, clauses}
 use Rattle.rules.specs.State.{State, start, Run, decidedTrue}
 use Rattle.rules.specs.Run.{nameIfOne, joinsFrom, linksFor, serveTask, joinAll, linkAll, lineTaken, begun, runOnce}
 use Rattle.rules.specs.Records.{Command}
+use Rattle.rules.specs.Items.{ceiling}
 use Rattle.rules.specs.Limits.{Limits}
 use Rattle.rules.specs.Sheet.{decide, carriedOut}
 use Rattle.rules.specs.Called.{_∈_}
-use Rattle.rules.proofs.MemberLaws.{of-concatMap, of-drop}
+use Rattle.rules.proofs.Bools.{by-cases}
+use Rattle.rules.proofs.MemberLaws.{of-concatMap, of-drop, all-in}
 use Rattle.rules.proofs.Grows.{serve-waits, begin-waits}
 use Rattle.rules.proofs.Line.{Served, done, next, serveTask-opening, firstLine, firstState, runFrom, runEnd, linkAll-opening}
 use Rattle.rules.proofs.EmitLaws.{variablesAfterAll, clausesOfAll, emitAll-variables, emitAll-clauses, settled, serveTask-variables, serveTask-clauses}
 use Rattle.rules.proofs.Encoded.{Encoded, serveTask-encoded}
-use Rattle.rules.proofs.Joined.{join-encoded}
+use Rattle.rules.proofs.Joined.{helpers-length, join-encoded}
 use Rattle.rules.proofs.Links.{links-known}
 use Rattle.rules.proofs.RunEnd.{joinAll-tracked, joinAll-encoded, made-since}
 use Rattle.rules.proofs.History.{History, history}
 use Rattle.rules.proofs.Ends.{ends, run-to-end}
 use Rattle.rules.proofs.Reached.{Given, Reached, command}
 use Rattle.rules.proofs.Each.{when-cases}
-use Rattle.rules.proofs.AtMostOne.{nothing}
+use Rattle.rules.proofs.AtMostOne.{nothing, Least, helpers-least, at-most-ten, counted}
+use Rattle.rules.proofs.Membership.{filter-out, Once, empty, once, once-filter}
+use Rattle.rules.proofs.NamedOnce.{NamedOnce, start-once, serve-once, begin-once, end-once, draw-once, add-once}
+use Rattle.rules.proofs.OpeningAlone.{KeptByRules, every-opening}
+use Rattle.rules.proofs.ListLaws.{length-filters}
+use Rattle.rules.proofs.TrackedOf.{of-trackedOf}
+use Rattle.rules.proofs.WellFormed.{well-formed}
+use Rattle.rules.proofs.Valid.{valid}
 use Rattle.rules.proofs.NameHelpers.{helperOf, forbidOf, HelpersOf, filter-const, others-made, served-helpers, joined-helpers}
 
 -- of every name
@@ -136,3 +147,69 @@ helped g (command r (Command.draw k) p) = record { helpers = helped g r .helpers
 helped {c = c} g (command r (Command.run level) p) = run-helped c g r level (helped g r)
 helped {c = c} g (command {s} r (Command.decide x value level) p) = let h = helped g r in when-cases (Helped c) _ _ s h (λ e. record { helpers = h .helpers })
 helped g (command r (Command.undo level) p) = record { helpers = helped g r .helpers }
+
+-- ---- no name has more than 1,024 tracked parts
+
+equal-once : (m : ℕ) {xs : List ℕ} → Once xs → ((x : ℕ) → x ∈ xs → x ≡ m) → length xs ≤ 1
+equal-once m empty h = zero-le
+equal-once m (once n empty) h = omega arith
+equal-once m (once {x = x} n (once {x = y} k p)) h =
+    absurd (n (List·Memᴰ·head (h x (List·Memᴰ·head refl) ∙ sym (h y (List·Memᴰ·tail (List·Memᴰ·head refl))))))
+
+-- numbers below m without repeats are at most m
+few-below : (m : ℕ) {xs : List ℕ} → Once xs → ((x : ℕ) → x ∈ xs → x < m) → length xs ≤ m
+few-below zero empty h = zero-le
+few-below zero (once {x = x} n p) h = absurd (not-suc-le-zero (h x (List·Memᴰ·head refl)))
+few-below (suc m) {xs} p h =
+    let is : ℕ → Bool = λ x. eqb x m in
+    let one = equal-once m (once-filter is p) (λ x i. eqb-true x m (filter-out is xs i .1)) in
+    let rest = few-below m (once-filter (λ x. not (is x)) p) (λ x i. below x (filter-out (λ x. not (is x)) xs i)) in
+    omega (arith, length-filters is xs)
+  where
+    below : (x : ℕ) → (x ∈ xs) × (not (eqb x m) ≡ true) → x < m
+    below x i = let l = h x (i .0) in let apart = eqb-false x m (not-true (eqb x m) (i .1)) in omega arith
+
+tracked-once : {l : Limits} {c : Catalogue} {s : State} → Reached l c s → Once (s .opening .tracked)
+tracked-once {c = c} r = every-opening c NamedOnce once-kept start-once r .1
+  where
+    once-kept : KeptByRules c NamedOnce
+    once-kept = record { added = add-once; drawn = draw-once c; begun = begin-once c; taken = λ o p. p; served = serve-once c; ended = end-once c }
+
+few-tracked : {l : Limits} {c : Catalogue} {s : State} → Given c → Reached l c s → (n : ℕ) → length (trackedOf c n (s .opening .tracked)) ≤ 1024
+unfolding trackedOf ceiling
+few-tracked {c = c} {s = s} g r n =
+    let v = valid g r .opening .tracked in
+    let few = few-below (length (c .parts)) (once-filter _ (tracked-once r)) (λ p m. all-in _ (s .opening .tracked) v (of-trackedOf c n (s .opening .tracked) m .0)) in
+    le-trans few (well-formed g .ceilings .parts)
+
+-- ---- how many
+
+count-filter : {A : Type 0} (f : A → Bool) (xs : List A) → count f xs ≡ length (filter f xs)
+unfolding count filter
+count-filter f [] = refl
+count-filter f (x ∷ xs) = by-cases (f x) (λ q. rw (q, filter) (omega (arith, count-filter f xs))) (λ q. rw (q, filter) (omega (arith, count-filter f xs)))
+
+-- k tracked parts of name n, h helpers
+pub record Counts (s : State) (n k h : ℕ) : Type 0 where
+  pub helpers : count (helperOf n) (s .variables) ≡ h
+  pub clauses : count (forbidOf (s .variables) n) (s .clauses) ≡ k * h
+  pub least : Least h k
+  pub at-most-ten : h ≤ 10
+
+module _ {l : Limits} {c : Catalogue} {s : State} (g : Given c) (r : Reached l c s) (n : ℕ) where
+  abbrev parts : List ℕ
+  parts = trackedOf c n (s .opening .tracked)
+
+  -- the forbid clauses of a name are those of its joins
+  pub helpers-of : HelpersOf c (s .opening .tracked) (s .variables) (s .clauses) n
+  helpers-of = helped g r .helpers n
+
+  pub helper-counts : Counts s n (length (trackedOf c n (s .opening .tracked))) (helpersFor (length (trackedOf c n (s .opening .tracked))))
+  helper-counts =
+      let var : Origin → ℕ = variableOf (s .variables) in
+      record {
+        helpers = count-filter _ (s .variables) ∙ (ap length (helpers-of .variables) ∙ (sym (length-map (helpersOf n (length parts)) var) ∙ helpers-length n (length parts) var));
+        clauses = count-filter _ (s .clauses) ∙ (counted (helpers-of .clauses) .product ∙ rw (length-map parts (partVariable (s .variables)), helpers-length n (length parts) var));
+        least = helpers-least (length parts);
+        at-most-ten = at-most-ten (length parts) (few-tracked g r n);
+      }
