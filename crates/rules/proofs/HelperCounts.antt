@@ -1,22 +1,21 @@
 -- 01, "k tracked parts have the least h helpers with 2^h at least k, and k × h clauses": of every name after every record of every job (`helper-counts`),
 -- and h is at most ten.
 use mathlib.Core.Path.{_≡_, refl, sym, _∙_, ap}
-use mathlib.Core.Logic.{_⊎_, inl, inr, ⊎-elim}
-use mathlib.Core.Bool.{Bool, true, false, not, cond}
-use mathlib.Core.List.{List, [], _∷_, _++_, map, append-nil, append-assoc, List·Memᴰ·head, List·Memᴰ·tail, List·Memᴰ·not-nil, Memᴰ·of-map}
-use Prim.Native.Nat.{ℕ, zero, suc, _+_, _*_, _^_, _<_, _≤_, zero-le}
+use mathlib.Core.Bool.{Bool, true, false, not}
+use mathlib.Core.List.{List, [], _∷_, _++_, append-nil, append-assoc, List·Memᴰ·head, List·Memᴰ·tail, List·Memᴰ·not-nil, Memᴰ·of-map}
+use Prim.Native.Nat.{ℕ, zero, suc, _+_, _*_, _<_, _≤_, zero-le}
 use native.Mathlib.Nat.{le-trans, not-suc-le-zero}
 use native.Mathlib.Omega.{arith}
 use lib.Dec.{eqb}
 use lib.ListN.{length, drop, length-map}
 use borrow.Author.Tests.{eqb-true, eqb-false, not-true}
 use Rattle.rules.specs.Lists.{filter, count, snoc, listIf, concatMap, fold, upTo}
-use Rattle.rules.specs.Clause.{Clause, anyOne}
+use Rattle.rules.specs.Clause.{Clause}
 use Rattle.rules.specs.AtMostOne.{helpersFor}
 use Rattle.rules.specs.Catalogue.{Catalogue}
 use Rattle.rules.specs.Variables.{Origin, one, withVariables, variableOf, partVariable}
-use Rattle.rules.specs.Opening.{Task, add, draw, trackedOf, joining, endRun, beginRun, serve}
-use Rattle.rules.specs.Encoding.{Event, helpersOf, links, clauses}
+use Rattle.rules.specs.Opening.{Task, add, draw, trackedOf, joining, beginRun, serve}
+use Rattle.rules.specs.Encoding.{helpersOf, clauses}
 use Rattle.rules.specs.State.{State, start, Run, decidedTrue}
 use Rattle.rules.specs.Run.{nameIfOne, joinsFrom, linksFor, serveTask, joinAll, linkAll, lineTaken, begun, runOnce}
 use Rattle.rules.specs.Records.{Command}
@@ -27,7 +26,7 @@ use Rattle.rules.specs.Called.{_∈_}
 use Rattle.rules.proofs.Bools.{by-cases}
 use Rattle.rules.proofs.MemberLaws.{of-concatMap, of-drop, all-in}
 use Rattle.rules.proofs.Grows.{serve-waits, begin-waits}
-use Rattle.rules.proofs.Line.{Served, done, next, serveTask-opening, firstLine, firstState, runFrom, runEnd, linkAll-opening}
+use Rattle.rules.proofs.Line.{Served, done, next, serveTask-opening, firstState, runFrom, runEnd, linkAll-opening}
 use Rattle.rules.proofs.EmitLaws.{variablesAfterAll, clausesOfAll, emitAll-variables, emitAll-clauses, settled, serveTask-variables, serveTask-clauses}
 use Rattle.rules.proofs.Encoded.{Encoded, serveTask-encoded}
 use Rattle.rules.proofs.Joined.{helpers-length, join-encoded}

@@ -1,26 +1,24 @@
 -- A job's bytes in parts. Where bytes are not refused they end with a record (refusal 1), and what follows them is carried out from there
 -- (`walk-on`); the bytes of a command are read back as that command (`walk-command`); an accepted job is what its records lead to (`accepted-led`).
-use mathlib.Core.Path.{_≡_, refl, sym, _∙_, ap}
+use mathlib.Core.Path.{_≡_, refl, _∙_, ap}
 use mathlib.Core.Bool.{Bool, true, false, not, _&&_}
-use mathlib.Core.List.{List, [], _∷_, _++_, append-assoc, append-nil}
+use mathlib.Core.List.{List, [], _∷_, _++_, append-nil}
 use mathlib.Core.Option.{Option, none, some}
-use Prim.Native.Nat.{ℕ, zero, suc, _+_, _*_, _/_, _%_, _≤_, zero-le, suc-le-suc}
-use native.Mathlib.Nat.{le-refl, le-trans, le-of-suc-le-suc, not-suc-le-zero, add-zero, add-suc, suc-add, zero-add}
+use Prim.Native.Nat.{ℕ, zero, suc, _+_, _*_, _/_, _%_, _≤_, zero-le}
+use native.Mathlib.Nat.{le-trans, le-of-suc-le-suc, not-suc-le-zero, add-zero}
 use native.Mathlib.Omega.{arith}
 use lib.Dec.{ltb}
 use lib.ListN.{length, take, length-append}
 use lib.Seq.{take-append-le, take-append-seam}
 use borrow.Author.Tests.{ltb-false, le-ltb}
-use Rattle.rules.specs.Bytes.{byteAt, wordAt}
 use Rattle.rules.specs.Compute.{computing}
 use Rattle.rules.specs.Catalogue.{Catalogue, emptyCatalogue}
-use Rattle.rules.specs.Refusals.{Refusal, unfit, overlong, notRun, listingFull, _if_, Result, ok, refuse, unlessAny}
+use Rattle.rules.specs.Refusals.{Refusal, unfit, overlong, _if_, Result, ok, refuse, unlessAny}
 use Rattle.rules.specs.Records.{Kind, kindOf, ofSheet, Command, Record, catalogue, sheet, recordOf, readBody, readKind, read}
-use Rattle.rules.specs.Items.{addItem}
 use Rattle.rules.specs.State.{State, start}
 use Rattle.rules.specs.Limits.{Terms, fits}
 use Rattle.rules.specs.Sheet.{commandRefusals, carriedOut, carryOut}
-use Rattle.rules.specs.Job.{Progress, reading, carrying, stopped, bodyOf, walk, afterItem, afterCommand, afterRecord, runStep, begunWith, progress, Outcome, accepted, refused, ending, endedBy, ended, outcome}
+use Rattle.rules.specs.Job.{Progress, reading, carrying, stopped, bodyOf, walk, afterItem, afterCommand, afterRecord, runStep, begunWith, progress, accepted, refused, ending, endedBy, ended, outcome}
 use Rattle.rules.proofs.Bools.{and-false}
 use Rattle.rules.proofs.KindTable.{not-one}
 use Rattle.rules.proofs.Reached.{Passed, none-left, passed, unlessAny-ok}

@@ -1,37 +1,36 @@
 -- The helper variables of a name and the forbid clauses over them, in a job: they are, in their order, those of the joins of its tracked parts, one
 -- after another (AtMostOne.Encoded). So at the start, and kept by every event.
 use mathlib.Core.Path.{_≡_, refl, sym, _∙_, ap}
-use mathlib.Core.Logic.{_⊎_, inl, inr, ⊎-elim}
+use mathlib.Core.Logic.{⊎-elim}
 use mathlib.Core.Bool.{Bool, true, false, cond, true≢false}
-use mathlib.Core.List.{List, [], _∷_, _++_, map, map-append, append-nil, List·Memᴰ·head, List·Memᴰ·tail, List·Memᴰ·cases-cons, List·Memᴰ·append-cases, List·Memᴰ·eq-of-singleton}
-use Prim.Native.Nat.{ℕ, zero, suc, _+_, _^_, _<_, _≤_}
+use mathlib.Core.List.{List, [], _∷_, _++_, map, map-append, append-nil, List·Memᴰ·head, List·Memᴰ·tail, List·Memᴰ·cases-cons, List·Memᴰ·eq-of-singleton}
+use Prim.Native.Nat.{ℕ, zero, suc, _+_, _^_, _<_}
 use native.Mathlib.Nat.{add-zero, zero-add, add-suc, suc-add}
 use native.Mathlib.Omega.{arith}
 use lib.Dec.{eqb, ltb}
 use lib.ListN.{length, getD, length-map, List·getD-append}
 use borrow.Author.Tests.{eqb-true, eq-eqb, lt-ltb, le-ltb}
 use Rattle.rules.specs.Lists.{filter, snoc, listIf, unless, fold, upTo}
-use Rattle.rules.specs.Literal.{Literal}
 use Rattle.rules.specs.Clause.{Clause, install, requires, gated, excluded, constrains, auxOut, auxOwner, lock, anyGate, anyOne, literals}
-use Rattle.rules.specs.AtMostOne.{bit, helpersAfter, helpersFor, agrees, joinClauses}
-use Rattle.rules.specs.Catalogue.{root, part, Owner, Goal, Catalogue, partAt, nameOf, ownerAt, goalAt}
+use Rattle.rules.specs.AtMostOne.{helpersAfter, helpersFor, joinClauses}
+use Rattle.rules.specs.Catalogue.{root, part, Owner, Goal, Catalogue, nameOf}
 use Rattle.rules.specs.Candidates.{nonMatching, lockedOut, excludedParts}
 use Rattle.rules.specs.Variables.{Origin, chosen, forbid, one, violation, gate, known, variableOf, withVariable, withVariables, partOrigin, partVariable}
 use Rattle.rules.specs.Opening.{Task, owner, name, condition, requirement, constraint, trackedOf}
-use Rattle.rules.specs.Encoding.{Shape, direct, throughGate, onFiring, shapeOf, few, helpersOf, joins, origins, requirementClauses, constraintClauses, taskOrigins, taskClauses, clauses}
+use Rattle.rules.specs.Encoding.{Shape, direct, throughGate, onFiring, shapeOf, helpersOf, joins, origins, requirementClauses, constraintClauses, taskOrigins, taskClauses, clauses}
 use Rattle.rules.specs.Called.{_∈_, constraintRange}
 use Rattle.rules.proofs.Bools.{by-cases}
 use Rattle.rules.proofs.Each.{unless-cases}
 use Rattle.rules.proofs.ListLaws.{All, all-append}
-use Rattle.rules.proofs.MemberLaws.{of-listIf, in-filter, of-filter, filter-append, filter-pass, map-same, all-in, all-listIf, all-map, length-snoc, last-in}
+use Rattle.rules.proofs.MemberLaws.{of-listIf, in-filter, of-filter, filter-append, filter-pass, map-same, all-in, all-listIf, all-map, length-snoc}
 use Rattle.rules.proofs.Grows.{Prefix, withVariables-prefix}
 use Rattle.rules.proofs.Places.{stands, keeps-variable, withVariables-known}
 use Rattle.rules.proofs.Known.{in-known, of-known, unchanged}
 use Rattle.rules.proofs.TrackedOf.{of-trackedOf, own-name, other-name}
-use Rattle.rules.proofs.AtMostOne.{withHelper, Encoded as Joins, nothing, another}
+use Rattle.rules.proofs.AtMostOne.{withHelper, Encoded as Joins, another}
 use Rattle.rules.proofs.Asked.{Asks, for-owner, for-gate, for-violation, for-one, asks}
 use Rattle.rules.proofs.JoinClauses.{join-only}
-use Rattle.rules.proofs.Encoded.{by-joining, as-helper, Encoded, every-literal-below}
+use Rattle.rules.proofs.Encoded.{by-joining, Encoded, every-literal-below}
 use Rattle.rules.proofs.Joined.{helpers-length, helpers-place, in-helpers, of-helpers}
 
 -- ---- the helpers and the forbid clauses of a name
@@ -58,9 +57,13 @@ forbidOf vs n (lock p) = false
 forbidOf vs n (anyGate g o) = false
 forbidOf vs n (anyOne y p) = false
 
+-- the forbid clauses of name n are those of the joins of the parts ps
+abbrev pub JoinsOf : List Origin → List Clause → ℕ → List ℕ → Type 0
+JoinsOf vs ks n ps = Joins (map (partVariable vs) ps) (map (variableOf vs) (helpersOf n (length ps))) (filter (forbidOf vs n) ks)
+
 pub record HelpersOf (c : Catalogue) (tracked : List ℕ) (vs : List Origin) (ks : List Clause) (n : ℕ) : Type 0 where
   pub variables : filter (helperOf n) vs ≡ helpersOf n (length (trackedOf c n tracked))
-  pub clauses : Joins (map (partVariable vs) (trackedOf c n tracked)) (map (variableOf vs) (helpersOf n (length (trackedOf c n tracked)))) (filter (forbidOf vs n) ks)
+  pub clauses : JoinsOf vs ks n (trackedOf c n tracked)
 
 -- ---- filters
 
@@ -72,7 +75,8 @@ module _ {A : Type 0} where
   filter-same : (f g : A → Bool) (xs : List A) → ((x : A) → x ∈ xs → f x ≡ g x) → filter f xs ≡ filter g xs
   unfolding filter
   filter-same f g [] h = refl
-  filter-same f g (x ∷ xs) h = ap (λ b. keptIf b x (filter f xs)) (h x (List·Memᴰ·head refl)) ∙ ap (keptIf (g x) x) (filter-same f g xs (λ y m. h y (List·Memᴰ·tail m)))
+  filter-same f g (x ∷ xs) h =
+      ap (λ b. keptIf b x (filter f xs)) (h x (List·Memᴰ·head refl)) ∙ ap (keptIf (g x) x) (filter-same f g xs (λ y m. h y (List·Memᴰ·tail m)))
 
   filter-all : (b : Bool) (xs : List A) → filter (λ _. b) xs ≡ listIf b xs
   unfolding filter listIf
@@ -89,7 +93,7 @@ module _ {A : Type 0} where
   unfolding listIf
   filter-none f xs ys h = filter-append f xs ys ∙ rw (filter-const false f ys h, listIf) (append-nil _)
 
--- ---- naming origins, of which one test takes note
+-- ---- origins are named: which of the variables pass a test
 
 withVariables-append : (os ps vs : List Origin) → withVariables (os ++ ps) vs ≡ withVariables ps (withVariables os vs)
 unfolding withVariables fold
@@ -105,7 +109,8 @@ module _ (f : Origin → Bool) where
       ∙ unless-cases (λ us. filter f us ≡ filter f vs) _ _ vs (λ _. refl)
       (λ _. filter-none f vs (o ∷ []) (λ x m. rw (List·Memᴰ·eq-of-singleton m) (h o (List·Memᴰ·head refl))))
 
-  filter-added : (b : Bool) (y : Origin) (vs : List Origin) → f y ≡ true → known vs y ≡ false → filter f (withVariables (listIf b (y ∷ [])) vs) ≡ filter f vs ++ listIf b (y ∷ [])
+  filter-added : (b : Bool) (y : Origin) (vs : List Origin) → f y ≡ true → known vs y ≡ false
+      → filter f (withVariables (listIf b (y ∷ [])) vs) ≡ filter f vs ++ listIf b (y ∷ [])
   unfolding withVariables fold withVariable listIf snoc unless
   filter-added true y vs e u = rw (u, unless) (filter-append f vs (y ∷ []) ∙ ap (λ ys. filter f vs ++ ys) (filter-pass f y e))
   filter-added false y vs e u = sym (append-nil _)
@@ -140,13 +145,15 @@ helpers-next n k = go (wantsHelper k) (helpersFor k)
 with-helper : (f : Origin → ℕ) (n k : ℕ) (xs : List ℕ) → length xs ≡ k
     → withHelper xs (map f (helpersOf n k)) (f (forbid n (helpersFor k))) ≡ map f (helpersOf n (suc k))
 unfolding withHelper helpersFor helpersAfter
-with-helper f n k xs e =
-    rw (e, helpers-length n k f, helpers-next n k) (go (wantsHelper k) (helpersFor k))
+with-helper f n k xs e = rw (e, helpers-length n k f, helpers-next n k, more (wantsHelper k) (helpersFor k)) (go (wantsHelper k) (forbid n (helpersFor k)))
   where
-    go : (b : Bool) (h : ℕ) → cond (ltb h (cond b (suc h) h)) (map f (helpersOf n k) ++ (f (forbid n h) ∷ [])) (map f (helpersOf n k))
-        ≡ map f (helpersOf n k ++ listIf b (forbid n h ∷ []))
-    go true h = unfold listIf in rw (lt-ltb h (suc h) (omega arith)) (sym (map-append f (helpersOf n k) (forbid n h ∷ [])))
-    go false h = unfold listIf in rw (le-ltb h h (omega arith), append-nil (helpersOf n k))
+    more : (b : Bool) (h : ℕ) → ltb h (cond b (suc h) h) ≡ b
+    more true h = lt-ltb h (suc h) (omega arith)
+    more false h = le-ltb h h (omega arith)
+
+    go : (b : Bool) (y : Origin) → cond b (map f (helpersOf n k) ++ (f y ∷ [])) (map f (helpersOf n k)) ≡ map f (helpersOf n k ++ listIf b (y ∷ []))
+    go true y = unfold listIf in sym (map-append f (helpersOf n k) (y ∷ []))
+    go false y = unfold listIf in rw (append-nil (helpersOf n k))
 
 -- the helper that the next part may want is not there yet
 next-unknown : (n k : ℕ) (us : List Origin) → filter (helperOf n) us ≡ helpersOf n k → known us (forbid n (helpersFor k)) ≡ false
@@ -159,7 +166,7 @@ next-unknown n k us e =
     beyond : (j : ℕ) × (j < helpersFor k) × (forbid n j ≡ forbid n (helpersFor k)) → ⊥
     beyond r = let l = r .1 in let q = r .2 in let same : r .0 ≡ helpersFor k = cc in omega arith
 
--- ---- a task makes neither
+-- ---- a task makes no helper and no forbid clause
 
 asks-none : {c : Catalogue} {t : Task} {x : Origin} (n : ℕ) → Asks c t x → helperOf n x ≡ false
 unfolding helperOf
@@ -212,8 +219,7 @@ module _ {c : Catalogue} {log : List Task} {before : ℕ} {tracked : List ℕ} {
   clause-moved p (anyGate g o) m = refl
   clause-moved p (anyOne y q) m = refl
 
-  joins-moved : {ws : List Origin} → Prefix vs ws → HelpersOf c tracked vs ks n
-      → Joins (map (partVariable ws) (trackedOf c n tracked)) (map (variableOf ws) (helpersOf n (length (trackedOf c n tracked)))) (filter (forbidOf ws n) ks)
+  joins-moved : {ws : List Origin} → Prefix vs ws → HelpersOf c tracked vs ks n → JoinsOf ws ks n (trackedOf c n tracked)
   joins-moved {ws} p h =
       let ps = trackedOf c n tracked in
       rw (
@@ -243,6 +249,7 @@ module _ {c : Catalogue} {log : List Task} {before : ℕ} {tracked : List ℕ} {
       let ws = withVariables (taskOrigins c t) vs in
       others-made e n (taskOrigins c t) _ (λ x m. asks-none n (asks c t m)) (filter-const false _ _ (λ k m. all-in _ _ (task-none c vs ws ws n t) m))
 
+  -- part p joins the tracked parts
   module _ (p : ℕ) where
     abbrev own : ℕ
     own = nameOf c p
@@ -262,59 +269,75 @@ module _ {c : Catalogue} {log : List Task} {before : ℕ} {tracked : List ℕ} {
     abbrev bits : List Clause
     bits = joinClauses (map (partVariable ws) earlier) (partVariable ws p) helpers
 
-    -- helper j of the name
+    abbrev stored : List Clause
+    stored = ks ++ clauses c vs ws before (joins p earlier)
+
     helper-stands : (j : ℕ) → j < helpersFor (suc (length earlier)) → getD ws (variableOf ws (forbid own j)) (chosen root) ≡ forbid own j
     unfolding origins
     helper-stands j l = stands ws (forbid own j) (chosen root) (withVariables-known named vs _ (List·Memᴰ·tail (in-helpers own _ j l))) .1
 
-    -- its new clauses are over helpers of the part's name
+    -- the new clauses are over helpers of the part's name
     bit-of : (n : ℕ) (k : Clause) → k ∈ bits → forbidOf ws n k ≡ eqb own n
     unfolding forbidOf helperOf
     bit-of n k m =
         let b = join-only (map (partVariable ws) earlier) (partVariable ws p) helpers m in
         let l : b .helper < helpersFor (suc (length earlier)) = rw (helpers-length own (suc (length earlier)) (variableOf ws)) at (b .helper-below) in
-        rw (b .is) (ap (λ y. helperOf n (getD ws y (chosen root))) (helpers-place own _ (variableOf ws) (b .helper) l) ∙ ap (helperOf n) (helper-stands (b .helper) l))
+        let at = helpers-place own (suc (length earlier)) (variableOf ws) (b .helper) l in
+        rw (b .is) (ap (λ y. helperOf n (getD ws y (chosen root))) at ∙ ap (helperOf n) (helper-stands (b .helper) l))
 
-    links-none : (b : Bool) (n : ℕ) (k : Clause) → k ∈ listIf b (anyOne (variableOf ws (one own)) (partVariable ws p) ∷ []) → forbidOf ws n k ≡ false
+    link-none : (b : Bool) (n : ℕ) (k : Clause) → k ∈ listIf b (anyOne (variableOf ws (one own)) (partVariable ws p) ∷ []) → forbidOf ws n k ≡ false
     unfolding forbidOf
-    links-none b n k m = rw (List·Memᴰ·eq-of-singleton (of-listIf b _ m .1))
+    link-none b n k m = rw (List·Memᴰ·eq-of-singleton (of-listIf b _ m .1))
 
     joined-clauses : (n : ℕ) → filter (forbidOf ws n) (clauses c vs ws before (joins p earlier)) ≡ listIf (eqb own n) bits
     unfolding clauses
-    joined-clauses n = filter-none (forbidOf ws n) bits _ (links-none _ n) ∙ filter-const (eqb own n) (forbidOf ws n) bits (bit-of n)
+    joined-clauses n = filter-none (forbidOf ws n) bits _ (link-none _ n) ∙ filter-const (eqb own n) (forbidOf ws n) bits (bit-of n)
 
-    -- ---- the part's own name
+    -- ---- for its own name
+
+    own-length : length (trackedOf c own (tracked ++ (p ∷ []))) ≡ suc (length earlier)
+    own-length = ap length (own-name c tracked p) ∙ length-snoc earlier p
 
     module _ (h : HelpersOf c tracked vs ks own) where
       own-variables : filter (helperOf own) ws ≡ helpersOf own (suc (length earlier))
       unfolding origins withVariables fold helperOf
       own-variables =
           let us = withVariables (partOrigin p ∷ []) vs in
-          let old : filter (helperOf own) us ≡ helpersOf own (length earlier) = filter-unnamed (helperOf own) (partOrigin p ∷ []) vs (λ x m. rw (List·Memᴰ·eq-of-singleton m)) ∙ h .variables in
-          rw (helpers-next own (length earlier), ← old) (filter-named (helperOf own) (wantsHelper (length earlier)) _ us (eq-eqb own own refl) (next-unknown own _ us old))
+          let part-none = filter-unnamed (helperOf own) (partOrigin p ∷ []) vs (λ x m. rw (List·Memᴰ·eq-of-singleton m)) in
+          let old : filter (helperOf own) us ≡ helpersOf own (length earlier) = part-none ∙ h .variables in
+          rw (helpers-next own (length earlier), ← old)
+          (filter-named (helperOf own) (wantsHelper (length earlier)) _ us (eq-eqb own own refl) (next-unknown own _ us old))
 
-      own-joins : Joins (map (partVariable ws) (trackedOf c own (tracked ++ (p ∷ [])))) (map (variableOf ws) (helpersOf own (length (trackedOf c own (tracked ++ (p ∷ []))))))
-          (filter (forbidOf ws own) (ks ++ clauses c vs ws before (joins p earlier)))
+      own-joins : JoinsOf ws stored own (trackedOf c own (tracked ++ (p ∷ [])))
       unfolding listIf
       own-joins =
+          let xs = map (partVariable ws) earlier in
           let j = another (partVariable ws p) (variableOf ws (forbid own (helpersFor (length earlier)))) (joins-moved e own (withVariables-prefix named vs) h) in
-          rw (own-name c tracked p, map-append (partVariable ws) earlier (p ∷ []), length-snoc earlier p, filter-append (forbidOf ws own) ks _, joined-clauses own, eq-eqb own own refl)
-          (rw (with-helper (variableOf ws) own (length earlier) (map (partVariable ws) earlier) (length-map earlier (partVariable ws))) at j)
+          rw (own-name c tracked p, map-append (partVariable ws) earlier (p ∷ []), length-snoc earlier p)
+          (rw (filter-append (forbidOf ws own) ks _, joined-clauses own, eq-eqb own own refl)
+          (rw (with-helper (variableOf ws) own (length earlier) xs (length-map earlier (partVariable ws))) at j))
 
-    -- ---- any name
+      at-own : HelpersOf c (tracked ++ (p ∷ [])) ws stored own
+      at-own = record { variables = own-variables ∙ ap (helpersOf own) (sym own-length); clauses = own-joins }
 
-    others-named : (n : ℕ) → eqb own n ≡ false → (x : Origin) → x ∈ named → helperOf n x ≡ false
-    unfolding origins helperOf
-    others-named n q x m = ⊎-elim (λ i. rw i) (λ i. let r = of-helpers own _ i in rw (← (r .2)) q) (List·Memᴰ·cases-cons m)
+    -- ---- for any name
 
-    pub joined-helpers : (n : ℕ) → ((m : ℕ) → HelpersOf c tracked vs ks m) → HelpersOf c (tracked ++ (p ∷ [])) ws (ks ++ clauses c vs ws before (joins p earlier)) n
-    unfolding listIf
-    joined-helpers n h = by-cases (eqb own n) (λ q. rw (← (eqb-true own n q)) at-own) (λ q. ⊎-elim (λ i. absurd (true≢false (sym (eq-eqb own n i) ∙ q))) (other q) (other-name c n tracked p))
-      where
-        at-own : HelpersOf c (tracked ++ (p ∷ [])) ws (ks ++ clauses c vs ws before (joins p earlier)) own
-        at-own = record { variables = own-variables (h own) ∙ ap (helpersOf own) (sym (ap length (own-name c tracked p) ∙ length-snoc earlier p)); clauses = own-joins (h own) }
+    module _ (n : ℕ) (q : eqb own n ≡ false) where
+      others-named : (x : Origin) → x ∈ named → helperOf n x ≡ false
+      unfolding origins helperOf
+      others-named x m = ⊎-elim (λ i. rw i) (λ i. let r = of-helpers own _ i in rw (← (r .2)) q) (List·Memᴰ·cases-cons m)
 
-        other : eqb own n ≡ false → trackedOf c n (tracked ++ (p ∷ [])) ≡ trackedOf c n tracked → HelpersOf c (tracked ++ (p ∷ [])) ws (ks ++ clauses c vs ws before (joins p earlier)) n
-        other q i =
-            let o = others-made e n named _ (others-named n q) (joined-clauses n ∙ ap (λ b. listIf b bits) q) (h n) in
-            record { variables = rw i (o .variables); clauses = rw i (o .clauses) }
+      at-other : HelpersOf c tracked vs ks n → trackedOf c n (tracked ++ (p ∷ [])) ≡ trackedOf c n tracked → HelpersOf c (tracked ++ (p ∷ [])) ws stored n
+      unfolding listIf
+      at-other h i =
+          let o = others-made e n named _ others-named (joined-clauses n ∙ ap (λ b. listIf b bits) q) h in
+          record { variables = rw i (o .variables); clauses = rw i (o .clauses) }
+
+      not-own : own ≡ n → ⊥
+      not-own i = true≢false (sym (eq-eqb own n i) ∙ q)
+
+    pub joined-helpers : (n : ℕ) → ((m : ℕ) → HelpersOf c tracked vs ks m)
+        → HelpersOf c (tracked ++ (p ∷ [])) (withVariables (origins c (joins p (trackedOf c (nameOf c p) tracked))) vs) stored n
+    joined-helpers n h =
+        by-cases (eqb own n) (λ q. rw (← (eqb-true own n q)) (at-own (h own)))
+        (λ q. ⊎-elim (λ i. absurd (not-own n q i)) (at-other n q (h n)) (other-name c n tracked p))
