@@ -153,7 +153,8 @@ module _ (t : Terms) (front : List ℕ) {c : Catalogue} {s : State} (e : progres
   front-led : walked t front ≡ carrying c s
   front-led = sym (taken-progress t front (goes-taken t front (rw e carries))) ∙ e
 
-  behind-front : (job more : List ℕ) → walk (runStep t job) 0 0 (front ++ more) (reading emptyCatalogue) ≡ walk (runStep t job) 0 (0 + length front) more (carrying c s)
+  behind-front : (job more : List ℕ)
+      → walk (runStep t job) 0 0 (front ++ more) (reading emptyCatalogue) ≡ walk (runStep t job) 0 (0 + length front) more (carrying c s)
   behind-front job more = rw (← front-led) (walk-on t front job 0 0 0 front more (reading emptyCatalogue) zero-le (rw front-led carries))
 
   module _ (n : ℕ) (a : Already (ownerOf n) (s .opening)) {level : ℕ} (ks : List Command) (m : Command.run level ∈ ks) where
@@ -167,7 +168,8 @@ module _ (t : Terms) (front : List ℕ) {c : Catalogue} {s : State} (e : progres
     without-walked = behind-front withoutAdd (concatMap bytesOf ks)
 
     with-walked : walked t withAdd
-        ≡ walk (runStep t withAdd) 0 (0 + length front + length (bytesOf (Command.add n))) (concatMap bytesOf ks) (carrying c (carriedOut (t .limits) c (Command.add n) s))
+        ≡ walk (runStep t withAdd) 0 (0 + length front + length (bytesOf (Command.add n))) (concatMap bytesOf ks)
+        (carrying c (carriedOut (t .limits) c (Command.add n) s))
     unfolding concatMap
     with-walked =
         let j = carried-job t front e in
@@ -187,7 +189,8 @@ module _ (t : Terms) (front : List ℕ) {c : Catalogue} {s : State} (e : progres
     add-left-out r =
         let g = leads-goes (accepted-led t withAdd r) in
         let same = alike-walked t withAdd withoutAdd c _ _ ks m (alike-sym alike-added) (rw with-walked at g) in
-        accepted-alike t withAdd withoutAdd (taken-shorter t withAdd withoutAdd shorter (accepted-taken t withAdd r)) (without-walked ∙ (same ∙ sym with-walked)) r
+        let taken = taken-shorter t withAdd withoutAdd shorter (accepted-taken t withAdd r) in
+        accepted-alike t withAdd withoutAdd taken (without-walked ∙ (same ∙ sym with-walked)) r
 
     -- accepted without it, the job is accepted with the add, if that is not overlong
     pub add-put-in : {c′ : Catalogue} {s′ : State} → length (front ++ concatMap bytesOf (Command.add n ∷ ks)) ≤ 65536

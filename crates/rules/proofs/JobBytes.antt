@@ -255,7 +255,8 @@ module _ (t : Terms) (job : List ℕ) where
       go true true f l g = unfold unlessAny begunWith in elim g [ ]
       go true false f l g = record { fit = f; short = l }
 
-  by-leads : {c c′ : Catalogue} {s : State} (s′ : State) (p : Progress) → Leads c′ s′ p → endedBy t job c′ (unlessAny (ending t job c′ s′) s′) ≡ accepted c s → Leads c s p
+  by-leads : {c c′ : Catalogue} {s : State} (s′ : State) (p : Progress) → Leads c′ s′ p
+      → endedBy t job c′ (unlessAny (ending t job c′ s′) s′) ≡ accepted c s → Leads c s p
   unfolding endedBy
   by-leads {c} {c′} {s} s′ p h = go (unlessAny (ending t job c′ s′) s′) refl
     where
