@@ -12,11 +12,10 @@ use borrow.Author.Tests.{eqb-true, eqb-false, not-true}
 use Rattle.rules.specs.Lists.{filter, count}
 use Rattle.rules.specs.AtMostOne.{helpersFor}
 use Rattle.rules.specs.Catalogue.{Catalogue}
-use Rattle.rules.specs.Variables.{one, variableOf, partVariable}
+use Rattle.rules.specs.Variables.{variableOf, partVariable}
 use Rattle.rules.specs.Opening.{trackedOf}
-use Rattle.rules.specs.Encoding.{helpersOf, clauses}
+use Rattle.rules.specs.Encoding.{helpersOf}
 use Rattle.rules.specs.State.{State}
-use Rattle.rules.specs.Run.{begun}
 use Rattle.rules.specs.Items.{ceiling}
 use Rattle.rules.specs.Refusals.{Thing}
 use Rattle.rules.specs.Limits.{Limits, Terms}
@@ -58,7 +57,7 @@ few-below zero empty h = zero-le
 few-below zero (once {x = x} n p) h = absurd (not-suc-le-zero (h x (List·Memᴰ·head refl)))
 few-below (suc m) {xs} p h =
     let is : ℕ → Bool = λ x. eqb x m in
-    let one = equal-once m (once-filter is p) (λ x i. eqb-true x m (filter-out is xs i .1)) in
+    let last = equal-once m (once-filter is p) (λ x i. eqb-true x m (filter-out is xs i .1)) in
     let rest = few-below m (once-filter (λ x. not (is x)) p) (λ x i. below x (filter-out (λ x. not (is x)) xs i)) in
     omega (arith, length-filters is xs)
   where

@@ -18,7 +18,7 @@ use Rattle.rules.specs.Records.{Kind, kindOf, ofSheet, Command, Record, 
 use Rattle.rules.specs.State.{State, start}
 use Rattle.rules.specs.Limits.{Terms, fits}
 use Rattle.rules.specs.Sheet.{commandRefusals, carriedOut, carryOut}
-use Rattle.rules.specs.Job.{Progress, reading, carrying, stopped, bodyOf, walk, afterItem, afterCommand, afterRecord, runStep, begunWith, progress, accepted, refused, ending, endedBy, ended, outcome}
+use Rattle.rules.specs.Job.{Progress, reading, carrying, stopped, bodyOf, walk, afterItem, afterCommand, afterRecord, runStep, begunWith, progress, accepted, ending, endedBy, ended, outcome}
 use Rattle.rules.proofs.Bools.{and-false}
 use Rattle.rules.proofs.KindTable.{not-one}
 use Rattle.rules.proofs.Reached.{Passed, none-left, passed, unlessAny-ok}

@@ -3,7 +3,7 @@
 use mathlib.Core.Path.{_≡_, refl}
 use mathlib.Core.Bool.{false}
 use mathlib.Core.List.{List, [], _∷_, _++_, append-nil, append-assoc, List·Memᴰ·not-nil, Memᴰ·of-map}
-use Prim.Native.Nat.{ℕ, _+_}
+use Prim.Native.Nat.{ℕ}
 use lib.ListN.{drop}
 use Rattle.rules.specs.Lists.{filter, snoc, listIf, concatMap, fold, upTo}
 use Rattle.rules.specs.Clause.{Clause}

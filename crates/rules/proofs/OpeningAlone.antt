@@ -59,17 +59,17 @@ served-alone c r f (suc fuel) [] s = refl
 served-alone c r f (suc fuel) (t ∷ ts) s = served-alone c r f fuel _ _ ∙ rw (emit-opening c r (served t) _)
 
 module _ {l : Limits} {c : Catalogue} {s : State} (h : Reached l c s) where
-  line-alone : (level fuel : ℕ) → (serveLine c (runFrom level s) fuel (firstLine c s) (firstState c s)) .opening ≡ lineAlone c (decidedTrue s) fuel (s .opening)
+  line-alone : (level fuel : ℕ)
+      → (serveLine c (runFrom level s) fuel (firstLine c s) (firstState c s)) .opening ≡ lineAlone c (decidedTrue s) fuel (s .opening)
   unfolding begun
   line-alone level fuel = rw (run-judged-at-start h (runFrom level s) (le-refl _) fuel (firstLine c s)) (served-alone c _ (decidedTrue s) fuel _ _)
 
-  -- the machine's fuel serves the line to its end
+  -- the machine's fuel is enough: more gives the same
   pub more-fuel-alone : Given c → (fuel : ℕ) → mostTasks c (s .opening) ≤ fuel
       → lineAlone c (decidedTrue s) fuel (s .opening) ≡ lineAlone c (decidedTrue s) (mostTasks c (s .opening)) (s .opening)
   more-fuel-alone g fuel b = sym (line-alone 0 fuel) ∙ (ap (λ (u : State). u .opening) (more-fuel g h (runFrom 0 s) fuel b) ∙ line-alone 0 _)
 
-  -- ---- THE OPENING ALONE
-
+  -- THE OPENING DOES NOT DEPEND ON THE CLAUSES
   pub opening-alone : (o : Command) → (carriedOut l c o s) .opening ≡ carriedOutAlone c (decidedTrue s) o (s .opening)
   unfolding carriedOut carriedOutAlone runAlone decide
   opening-alone (Command.add n) = refl
