@@ -26,7 +26,7 @@ use Rattle.rules.proofs.Ends.{owner-self}
 
 -- ---- a run begins
 
--- o apart, of these owners
+-- these owners but for o
 abbrev without : Owner → List Owner → List Owner
 without o ws = filter (λ w. not (sameOwner o w)) ws
 
@@ -58,7 +58,7 @@ begin-alike c o ws s e q = ap (fold _ (s .drawn)) (opens-same _ e)
     opens-same : (u : Opening) → IsOpened o u → fold openOwner ws u ≡ fold openOwner (s .added) u
     opens-same u e = sym (opens-alike o ws u e) ∙ (ap (λ vs. fold openOwner vs u) q ∙ opens-alike o (s .added) u e)
 
--- ---- adding: o apart, it takes no notice of o
+-- ---- what is added: but for o, the same with o there or not
 
 other-owner : (o w : Owner) → sameOwner o w ≡ false → sameOwner w o ≡ false
 other-owner root root e = e

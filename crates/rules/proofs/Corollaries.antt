@@ -147,33 +147,33 @@ module _ (t : Terms) (job job′ : List ℕ) (c : Catalogue) where
       command-walked at at′ k _ h (rw (← q) (λ g. rw (run-alike (t .limits) c _ h) (walk-elsewhere t job job′ _ _ (concatMap bytesOf ks) _ g)))
   alike-walked at at′ (k ∷ ks) (List·Memᴰ·tail m) h = command-walked at at′ k _ h (alike-walked _ _ ks m (after-alike (t .limits) c k h))
 
--- The bytes `front` lead to c and s, in which the owner of number n is added or opened. Behind them stand an add of it and other commands,
+-- The bytes `first` lead to c and s, in which the owner of number n is added or opened. Behind them stand an add of it and other commands,
 -- with a run among them; or those commands alone.
-module _ (t : Terms) (front : List ℕ) {c : Catalogue} {s : State} (e : progress t front (runStep t front) ≡ carrying c s) where
-  front-led : walked t front ≡ carrying c s
-  front-led = sym (taken-progress t front (goes-taken t front (rw e carries))) ∙ e
+module _ (t : Terms) (first : List ℕ) {c : Catalogue} {s : State} (e : progress t first (runStep t first) ≡ carrying c s) where
+  first-led : walked t first ≡ carrying c s
+  first-led = sym (taken-progress t first (goes-taken t first (rw e carries))) ∙ e
 
-  behind-front : (job more : List ℕ)
-      → walk (runStep t job) 0 0 (front ++ more) (reading emptyCatalogue) ≡ walk (runStep t job) 0 (0 + length front) more (carrying c s)
-  behind-front job more = rw (← front-led) (walk-on t front job 0 0 0 front more (reading emptyCatalogue) zero-le (rw front-led carries))
+  behind-first : (job more : List ℕ)
+      → walk (runStep t job) 0 0 (first ++ more) (reading emptyCatalogue) ≡ walk (runStep t job) 0 (0 + length first) more (carrying c s)
+  behind-first job more = rw (← first-led) (walk-on t first job 0 0 0 first more (reading emptyCatalogue) zero-le (rw first-led carries))
 
   module _ (n : ℕ) (a : Already (ownerOf n) (s .opening)) {level : ℕ} (ks : List Command) (m : Command.run level ∈ ks) where
     abbrev withAdd : List ℕ
-    withAdd = front ++ concatMap bytesOf (Command.add n ∷ ks)
+    withAdd = first ++ concatMap bytesOf (Command.add n ∷ ks)
 
     abbrev withoutAdd : List ℕ
-    withoutAdd = front ++ concatMap bytesOf ks
+    withoutAdd = first ++ concatMap bytesOf ks
 
-    without-walked : walked t withoutAdd ≡ walk (runStep t withoutAdd) 0 (0 + length front) (concatMap bytesOf ks) (carrying c s)
-    without-walked = behind-front withoutAdd (concatMap bytesOf ks)
+    without-walked : walked t withoutAdd ≡ walk (runStep t withoutAdd) 0 (0 + length first) (concatMap bytesOf ks) (carrying c s)
+    without-walked = behind-first withoutAdd (concatMap bytesOf ks)
 
     with-walked : walked t withAdd
-        ≡ walk (runStep t withAdd) 0 (0 + length front + length (bytesOf (Command.add n))) (concatMap bytesOf ks)
+        ≡ walk (runStep t withAdd) 0 (0 + length first + length (bytesOf (Command.add n))) (concatMap bytesOf ks)
         (carrying c (carriedOut (t .limits) c (Command.add n) s))
     unfolding concatMap
     with-walked =
-        let j = carried-job t front e in
-        behind-front withAdd (concatMap bytesOf (Command.add n ∷ ks))
+        let j = carried-job t first e in
+        behind-first withAdd (concatMap bytesOf (Command.add n ∷ ks))
         ∙ walk-passed t withAdd _ (Command.add n) (concatMap bytesOf ks) carried (add-passes (j .0) (j .1) n a)
 
     shorter : length withoutAdd ≤ length withAdd
@@ -185,7 +185,7 @@ module _ (t : Terms) (front : List ℕ) {c : Catalogue} {s : State} (e : progres
 
     -- accepted with the add, the job is accepted without it
     pub add-left-out : {c′ : Catalogue} {s′ : State}
-        → outcome t (front ++ concatMap bytesOf (Command.add n ∷ ks)) ≡ accepted c′ s′ → outcome t (front ++ concatMap bytesOf ks) ≡ accepted c′ s′
+        → outcome t (first ++ concatMap bytesOf (Command.add n ∷ ks)) ≡ accepted c′ s′ → outcome t (first ++ concatMap bytesOf ks) ≡ accepted c′ s′
     add-left-out r =
         let g = leads-goes (accepted-led t withAdd r) in
         let same = alike-walked t withAdd withoutAdd c _ _ ks m (alike-sym alike-added) (rw with-walked at g) in
@@ -193,8 +193,8 @@ module _ (t : Terms) (front : List ℕ) {c : Catalogue} {s : State} (e : progres
         accepted-alike t withAdd withoutAdd taken (without-walked ∙ (same ∙ sym with-walked)) r
 
     -- accepted without it, the job is accepted with the add, if that is not overlong
-    pub add-put-in : {c′ : Catalogue} {s′ : State} → length (front ++ concatMap bytesOf (Command.add n ∷ ks)) ≤ 65536
-        → outcome t (front ++ concatMap bytesOf ks) ≡ accepted c′ s′ → outcome t (front ++ concatMap bytesOf (Command.add n ∷ ks)) ≡ accepted c′ s′
+    pub add-put-in : {c′ : Catalogue} {s′ : State} → length (first ++ concatMap bytesOf (Command.add n ∷ ks)) ≤ 65536
+        → outcome t (first ++ concatMap bytesOf ks) ≡ accepted c′ s′ → outcome t (first ++ concatMap bytesOf (Command.add n ∷ ks)) ≡ accepted c′ s′
     add-put-in b r =
         let g = leads-goes (accepted-led t withoutAdd r) in
         let same = alike-walked t withoutAdd withAdd c _ _ ks m alike-added (rw without-walked at g) in
