@@ -95,7 +95,7 @@ module _ (c : Catalogue) where
   owner-listed root h = List·Memᴰ·head refl
   owner-listed (part p) h = List·Memᴰ·tail (Memᴰ·map part (upTo-member (length (c .parts)) p h))
 
-  owner-self : (o : Owner) → sameOwner o o ≡ true
+  pub owner-self : (o : Owner) → sameOwner o o ≡ true
   owner-self root = refl
   owner-self (part p) = eq-eqb p p refl
 

@@ -25,21 +25,21 @@ use Rattle.rules.proofs.Encoded.{helperCount, Named, by-start, by-task,
 
 -- ---- helper j of a name with k tracked parts
 
-helpers-length : (n k : ℕ) (f : Origin → ℕ) → length (map f (helpersOf n k)) ≡ helpersFor k
+pub helpers-length : (n k : ℕ) (f : Origin → ℕ) → length (map f (helpersOf n k)) ≡ helpersFor k
 unfolding helpersOf
 helpers-length n k f = simp (length-map, length-upTo)
 
-helpers-place : (n k : ℕ) (f : Origin → ℕ) (j : ℕ) → j < helpersFor k → getD (map f (helpersOf n k)) j 0 ≡ f (forbid n j)
+pub helpers-place : (n k : ℕ) (f : Origin → ℕ) (j : ℕ) → j < helpersFor k → getD (map f (helpersOf n k)) j 0 ≡ f (forbid n j)
 unfolding helpersOf
 helpers-place n k f j l =
     map-place f (map (forbid n) (upTo 0 (helpersFor k))) (forbid n 0) 0 j (simp (length-map, length-upTo) l)
     ∙ ap f (map-place (forbid n) (upTo 0 (helpersFor k)) 0 (forbid n 0) j (simp length-upTo l) ∙ ap (forbid n) (upTo-place 0 (helpersFor k) j l ∙ zero-add j))
 
-in-helpers : (n k j : ℕ) → j < helpersFor k → forbid n j ∈ helpersOf n k
+pub in-helpers : (n k j : ℕ) → j < helpersFor k → forbid n j ∈ helpersOf n k
 unfolding helpersOf
 in-helpers n k j l = Memᴰ·map (forbid n) (rw (zero-add j) at (in-upTo 0 (helpersFor k) j l))
 
-of-helpers : (n k : ℕ) {x : Origin} → x ∈ helpersOf n k → (j : ℕ) × (j < helpersFor k) × (forbid n j ≡ x)
+pub of-helpers : (n k : ℕ) {x : Origin} → x ∈ helpersOf n k → (j : ℕ) × (j < helpersFor k) × (forbid n j ≡ x)
 unfolding helpersOf
 of-helpers n k m = let r = Memᴰ·of-map (forbid n) (upTo 0 (helpersFor k)) m in (r .0, rw (zero-add (helpersFor k)) at (of-upTo 0 (helpersFor k) (r .1)), r .2)
 

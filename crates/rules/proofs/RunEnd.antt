@@ -29,11 +29,11 @@ module _ (c : Catalogue) (r : Run) (s : State) where
   unfolding joinAll
   joinAll-opening = emitAll-opening c r _ _
 
-  joinAll-tracked : (joinAll c r s) .opening .tracked ≡ s .opening .tracked ++ joining c (s .opening)
+  pub joinAll-tracked : (joinAll c r s) .opening .tracked ≡ s .opening .tracked ++ joining c (s .opening)
   unfolding endRun
   joinAll-tracked = ap (λ (o : Opening). o .tracked) joinAll-opening
 
-  joinAll-encoded : {log : List Task} → Encoded c log (r .before) (s .opening .tracked) (s .variables) (s .clauses)
+  pub joinAll-encoded : {log : List Task} → Encoded c log (r .before) (s .opening .tracked) (s .variables) (s .clauses)
       → Encoded c log (r .before) (s .opening .tracked ++ joining c (s .opening)) ((joinAll c r s) .variables) ((joinAll c r s) .clauses)
   unfolding joinAll
   joinAll-encoded e = rw (emitAll-variables c r _ _, emitAll-clauses c r _ _) (joins-encoded c _ (r .before) (joining c (s .opening)) (s .opening .tracked) e)
@@ -49,7 +49,7 @@ module _ (c : Catalogue) (r : Run) (s : State) where
       rw (emitAll-variables c r es s, same .0, emitAll-clauses c r es s, same .1) (links-encoded c log (r .before) tracked (s .variables) new there since e)
 
   -- a variable from `before` on stands in what the run added
-  made-since : (n : ℕ) → known (s .variables) (one n) ≡ true → r .before ≤ variableOf (s .variables) (one n) → one n ∈ drop (r .before) (s .variables)
+  pub made-since : (n : ℕ) → known (s .variables) (one n) ≡ true → r .before ≤ variableOf (s .variables) (one n) → one n ∈ drop (r .before) (s .variables)
   made-since n e l =
       let p = stands (s .variables) (one n) (chosen root) e in
       rw (p .1) at (behind (s .variables) (chosen root) (r .before) (variableOf (s .variables) (one n)) l (p .0))
