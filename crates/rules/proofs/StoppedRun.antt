@@ -30,7 +30,6 @@ use Rattle.rules.proofs.Ends.{ends}
 use Rattle.rules.proofs.Drawn.{within-limit}
 use Rattle.rules.proofs.Capped.{Capped, full, within, cappedBy, capped, afterwards, stepCapped, is-within, staged, fold-capped, same-waiting, only-waiting, begin-waiting}
 
-
 -- ---- the line
 
 module _ (l : Limits) (c : Catalogue) (r : Run) where
