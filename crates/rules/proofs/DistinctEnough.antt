@@ -44,10 +44,11 @@ pub record DoneOnce {A S : Type 0} (f : A → S → S) (Done : A → S → Type 
 pub step-again : {A S : Type 0} {f : A → S → S} {Done : A → S → Type 0} → DoneOnce f Done → (x : A) (xs : List A) (s : S) → x ∈ xs → f x (fold f xs s) ≡ fold f xs s
 step-again {f = f} {Done = Done} d x xs s m = d .again x (fold f xs s) (fold-gives (Done x) f xs m (d .does x) (λ y u. d .keeps x y u) s)
 
-module _ {S : Type 0} {f : ℕ → S → S} {Done : ℕ → S → Type 0} (d : DoneOnce f Done) where
-  abbrev see : ℕ → List ℕ → List ℕ
-  see x seen = cond (elem x seen) seen (snoc seen x)
+-- the step of `distinct`
+abbrev see : ℕ → List ℕ → List ℕ
+see x seen = cond (elem x seen) seen (snoc seen x)
 
+module _ {S : Type 0} {f : ℕ → S → S} {Done : ℕ → S → Type 0} (d : DoneOnce f Done) where
   see-step : (x : ℕ) (seen : List ℕ) (s : S) → fold f (see x seen) s ≡ f x (fold f seen s)
   see-step x seen s = by-cases (elem x seen) (λ e. rw e (sym (step-again d x seen s (elem-out x seen e)))) (λ e. rw e (at-end))
     where
