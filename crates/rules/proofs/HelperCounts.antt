@@ -52,7 +52,7 @@ equal-once m (once {x = x} n (once {x = y} k p)) h =
     absurd (n (List·Memᴰ·head (h x (List·Memᴰ·head refl) ∙ sym (h y (List·Memᴰ·tail (List·Memᴰ·head refl))))))
 
 -- numbers below m without repeats are at most m
-few-below : (m : ℕ) {xs : List ℕ} → Once xs → ((x : ℕ) → x ∈ xs → x < m) → length xs ≤ m
+pub few-below : (m : ℕ) {xs : List ℕ} → Once xs → ((x : ℕ) → x ∈ xs → x < m) → length xs ≤ m
 few-below zero empty h = zero-le
 few-below zero (once {x = x} n p) h = absurd (not-suc-le-zero (h x (List·Memᴰ·head refl)))
 few-below (suc m) {xs} p h =
@@ -64,7 +64,7 @@ few-below (suc m) {xs} p h =
     below : (x : ℕ) → (x ∈ xs) × (not (eqb x m) ≡ true) → x < m
     below x i = let l = h x (i .0) in let apart = eqb-false x m (not-true (eqb x m) (i .1)) in omega arith
 
-tracked-once : {l : Limits} {c : Catalogue} {s : State} → Reached l c s → Once (s .opening .tracked)
+pub tracked-once : {l : Limits} {c : Catalogue} {s : State} → Reached l c s → Once (s .opening .tracked)
 tracked-once {c = c} r = every-opening c NamedOnce once-kept start-once r .1
   where
     once-kept : KeptByRules c NamedOnce
