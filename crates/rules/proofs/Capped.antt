@@ -1,22 +1,25 @@
 -- Growing steps with a test after each, which stop at the first excess of a limit, end as the steps without tests do: full where those end above a
 -- limit, and otherwise in the same state (READINGS.md, 22). The steps are those of an event and of an opening.
 use mathlib.Core.Path.{_≡_, refl, sym, _∙_}
-use mathlib.Core.Bool.{Bool, true, false, _||_, true≢false}
+use mathlib.Core.Bool.{Bool, true, false, not, _||_, true≢false}
 use mathlib.Core.List.{List, [], _∷_, _++_, map, append-nil, append-assoc}
 use Prim.Native.Nat.{ℕ, suc, _+_}
 use native.Mathlib.Omega.{arith}
 use lib.Dec.{ltb}
 use lib.ListN.{length}
-use Rattle.rules.specs.Lists.{snoc, fold, sum}
+use Rattle.rules.specs.Lists.{filter, snoc, fold, sum}
 use Rattle.rules.specs.Clause.{Clause, conditionLiterals}
-use Rattle.rules.specs.Catalogue.{Owner, Catalogue, rangeName}
+use Rattle.rules.specs.Catalogue.{Owner, part, Catalogue, rangeName, goalAt}
 use Rattle.rules.specs.Variables.{Origin, withVariable, withVariables}
+use Rattle.rules.specs.Candidates.{candidates}
+use Rattle.rules.specs.Conditions.{indices}
+use Rattle.rules.specs.Opening.{owner, name, condition, constraint, tasksOf, rangesFirst, serveOwner, serveName, serveCondition, entryHolds, markHandled, firedParts, nameForTracking, openReady, serveRequirement, serve}
 use Rattle.rules.specs.Opening.{Task, requirement, Opening, setWaiting, queue, openOwner, openName, openNames, rangesOf, fire, beginRun}
 use Rattle.rules.specs.Encoding.{Event, origins, clauses}
 use Rattle.rules.specs.State.{State, setOpening, setVariables, setClauses, Run, emit}
 use Rattle.rules.specs.Limits.{Limits, above}
 use Rattle.rules.proofs.Bools.{by-cases}
-use Rattle.rules.proofs.ListLaws.{length-snoc, sum-append, unless-keeps, fold-every}
+use Rattle.rules.proofs.ListLaws.{length-snoc, sum-append, when-keeps, unless-keeps, fold-every}
 use Rattle.rules.proofs.Effects.{Leaves, effect-is, effect-leaves, variablesAfter}
 use Rattle.rules.proofs.Grows.{whole, ending, Grows, opening-grows, withVariable-prefix, stays-above}
 use Rattle.rules.proofs.ClauseByClause.{addClause, emit-one-by-one}
@@ -160,6 +163,49 @@ module _ (ws : List (ℕ × ℕ)) where
     pub begin-waiting : (o : Opening) → o .waiting ≡ ws → (beginRun c o) .waiting ≡ ws
     unfolding beginRun
     begin-waiting o e = fold-every Waiting _ (λ x. fire-waiting (x .0) (x .1 ∷ [])) (o .drawn) _ (fold-every Waiting openOwner openOwner-waiting (o .added) _ e)
+
+-- the entries that a task makes wait
+unfoldable pub newWaiting : Catalogue → (ℕ → Bool) → Task → List (ℕ × ℕ)
+newWaiting c f (owner w) = []
+newWaiting c f (name n) = []
+newWaiting c f (condition q) = map (λ i. (q, i)) (filter (λ i. not (entryHolds c f q i)) (indices c q))
+newWaiting c f (requirement q is) = []
+newWaiting c f (constraint k) = []
+
+module _ (c : Catalogue) (ws : List (ℕ × ℕ)) where
+  owner-waiting : (w : Owner) (o : Opening) → o .waiting ≡ ws → (serveOwner c w o) .waiting ≡ ws
+  unfolding serveOwner
+  owner-waiting w o e =
+      unless-keeps (Waiting ws) _ _ o e
+      (λ _. fold-every (Waiting ws) queue (queue-waiting ws) (tasksOf c w) _ (openNames-waiting ws c (rangesFirst c w) o e))
+
+  naming-waiting : (p : ℕ) (o : Opening) → o .waiting ≡ ws → (nameForTracking c p o) .waiting ≡ ws
+  unfolding nameForTracking
+  naming-waiting p o e = unless-keeps (Waiting ws) _ _ o e (λ _. e)
+
+  ready-waiting : (p : ℕ) (o : Opening) → o .waiting ≡ ws → (openReady c p o) .waiting ≡ ws
+  unfolding openReady
+  ready-waiting p o e = when-keeps (Waiting ws) _ _ o e (openOwner-waiting ws (part p) o e)
+
+  requirement-waiting : (q : ℕ) (is : List ℕ) (o : Opening) → o .waiting ≡ ws → (serveRequirement c q is o) .waiting ≡ ws
+  unfolding serveRequirement markHandled
+  requirement-waiting q is o e =
+      let ps = candidates c (goalAt c q) in
+      fold-every (Waiting ws) (openReady c) ready-waiting ps _ (fold-every (Waiting ws) (nameForTracking c) naming-waiting (ps ++ firedParts c q is) _ e)
+
+pub serve-waiting : (c : Catalogue) (f : ℕ → Bool) (t : Task) (o : Opening) → (serve c f t o) .waiting ≡ o .waiting ++ newWaiting c f t
+unfolding serve serveName serveCondition newWaiting
+serve-waiting c f (owner w) o = owner-waiting c (o .waiting) w o refl ∙ sym (append-nil (o .waiting))
+serve-waiting c f (name n) o = when-keeps (Waiting (o .waiting)) _ _ o refl refl ∙ sym (append-nil (o .waiting))
+serve-waiting c f (condition q) o = fire-waiting _ c q _ _ refl
+serve-waiting c f (requirement q is) o = requirement-waiting c (o .waiting) q is o refl ∙ sym (append-nil (o .waiting))
+serve-waiting c f (constraint k) o = sym (append-nil (o .waiting))
+
+-- only those can take a served task above a limit, before its event
+pub serve-above : (l : Limits) (c : Catalogue) (f : ℕ → Bool) (t : Task) (s : State)
+    → above l (setOpening (serve c f t (s .opening)) s) ≡ above l (fold addWaiting (newWaiting c f t) s)
+unfolding above
+serve-above l c f t s = rw (addWaitings-is (newWaiting c f t) s, serve-waiting c f t (s .opening))
 
 -- ---- which limit a step can exceed: the others need no test
 

@@ -21,7 +21,8 @@ use Rattle.rules.proofs.Effects.{effect-is, effect-leaves, variablesAft
 
 -- the state with its opening and its clauses changed
 abbrev pub changed : (Opening → Opening) → (List Clause → List Clause) → State → State
-changed f g s = record { opening = f (s .opening); variables = s .variables; clauses = g (s .clauses); decisions = s .decisions; conflicts = s .conflicts; runs = s .runs }
+changed f g s =
+    record { opening = f (s .opening); variables = s .variables; clauses = g (s .clauses); decisions = s .decisions; conflicts = s .conflicts; runs = s .runs }
 
 module _ (f : Opening → Opening) (g : List Clause → List Clause) where
   when-changed : (b : Bool) (h : State → State) → ((s : State) → h (changed f g s) ≡ changed f g (h s))

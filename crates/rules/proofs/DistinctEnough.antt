@@ -9,14 +9,15 @@ use lib.Dec.{eqb}
 use borrow.Author.Tests.{eq-eqb}
 use Rattle.rules.specs.Lists.{any, all, elem, snoc, concatMap, fold, unless, distinct}
 use Rattle.rules.specs.Literal.{Literal, pos}
-use Rattle.rules.specs.Catalogue.{Owner, part, Catalogue, partAt, nameOf, rangeName, sameOwner}
+use Rattle.rules.specs.Catalogue.{Owner, part, Goal, Catalogue, partAt, nameOf, rangeName, sameOwner}
+use Rattle.rules.specs.Candidates.{sorted, goalRanges, candidates}
 use Rattle.rules.specs.Decisions.{Decision, evaluate, isFalsified, allFalse}
 use Rattle.rules.specs.Variables.{Origin, known, withVariable, withVariables}
 use Rattle.rules.specs.Opening.{Opening, queue, openOwner, openName, openNames, nameForTracking, openReady}
 use Rattle.rules.proofs.Bools.{by-cases, or-true, or-right}
 use Rattle.rules.proofs.Member.{all-out, all-in}
 use Rattle.rules.proofs.ListLaws.{any-snoc}
-use Rattle.rules.proofs.Membership.{_⊆_, in-left, in-right, in-either, before-or-end, any-in, any-out, elem-out, map-in, map-out, when-either, unless-either, fold-keeps, fold-gives, distinct-in}
+use Rattle.rules.proofs.Membership.{_⊆_, ⊆-snoc, at-end, in-left, in-right, in-either, before-or-end, any-in, any-out, elem-in, elem-out, map-in, map-out, when-either, unless-either, fold-keeps, fold-gives, distinct-in}
 use Rattle.rules.specs.Called.{_∈_}
 use Rattle.rules.proofs.Grows.{withVariable-prefix}
 use Rattle.rules.proofs.Places.{keeps-variable, withVariable-known}
@@ -50,10 +51,10 @@ see x seen = cond (elem x seen) seen (snoc seen x)
 
 module _ {S : Type 0} {f : ℕ → S → S} {Done : ℕ → S → Type 0} (d : DoneOnce f Done) where
   see-step : (x : ℕ) (seen : List ℕ) (s : S) → fold f (see x seen) s ≡ f x (fold f seen s)
-  see-step x seen s = by-cases (elem x seen) (λ e. rw e (sym (step-again d x seen s (elem-out x seen e)))) (λ e. rw e (at-end))
+  see-step x seen s = by-cases (elem x seen) (λ e. rw e (sym (step-again d x seen s (elem-out x seen e)))) (λ e. rw e behind)
     where
-      at-end : fold f (snoc seen x) s ≡ f x (fold f seen s)
-      at-end = unfold snoc fold in fold-append f seen (x ∷ []) s
+      behind : fold f (snoc seen x) s ≡ f x (fold f seen s)
+      behind = unfold snoc fold in fold-append f seen (x ∷ []) s
 
   seen-steps : (xs seen : List ℕ) (s : S) → fold f (fold see xs seen) s ≡ fold f xs (fold f seen s)
   unfolding fold
@@ -88,6 +89,30 @@ module _ {A S : Type 0} {f : A → S → S} {Done : A → S → Type 0} (d : Don
 
   pub lists-distinct : (g : ℕ → List A) (ns : List ℕ) (s : S) → fold f (concatMap g ns) s ≡ fold f (concatMap g (distinct ns)) s
   lists-distinct g ns s = fold-concatMap f g ns s ∙ (distinct-enough (lists-once g) ns s ∙ sym (fold-concatMap f g (distinct ns) s))
+
+-- the distinct elements of the lists of each, from the distinct lists
+see-once : DoneOnce see (λ x seen. x ∈ seen)
+see-once =
+    record {
+      does = λ x seen. by-cases (elem x seen) (λ e. rw e (elem-out x seen e)) (λ e. rw e (unfold snoc in at-end seen x));
+      keeps = λ x y seen m. by-cases (elem y seen) (λ e. rw e m) (λ e. rw e (⊆-snoc seen y x m));
+      again = λ x seen m. rw (elem-in seen m);
+    }
+
+pub distinct-lists : (g : ℕ → List ℕ) (ns : List ℕ) → distinct (concatMap g ns) ≡ distinct (concatMap g (distinct ns))
+unfolding distinct
+distinct-lists g ns = lists-distinct see-once g ns []
+
+-- candidates: a range that a union names again names nothing new (READINGS.md, 25)
+module _ (c : Catalogue) (g : Goal) where
+  pub candidates-distinct : distinct (candidates c g) ≡ distinct (concatMap (sorted c) (distinct (goalRanges c g)))
+  unfolding candidates
+  candidates-distinct = distinct-lists (sorted c) (goalRanges c g)
+
+  pub candidates-enough : {S : Type 0} {f : ℕ → S → S} {Done : ℕ → S → Type 0} → DoneOnce f Done → (s : S)
+      → fold f (candidates c g) s ≡ fold f (concatMap (sorted c) (distinct (goalRanges c g))) s
+  unfolding candidates
+  candidates-enough d s = lists-distinct d (sorted c) (goalRanges c g) s
 
 -- ---- variables
 

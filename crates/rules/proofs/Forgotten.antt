@@ -20,6 +20,8 @@ use Rattle.rules.specs.Limits.{Limits, above}
 use Rattle.rules.specs.Sheet.{tooLow, decide, commandRefusals, carriedOut, carryOut}
 use Rattle.rules.specs.Listing.{listing}
 use Rattle.rules.proofs.Line.{runFrom, runEnd}
+use Rattle.rules.proofs.Capped.{Capped, full, within, cappedBy, capped}
+use Rattle.rules.proofs.StoppedRun.{runCapped, run-capped}
 use Rattle.rules.proofs.ClauseByClause.{effects-changed}
 
 -- ---- a change that may be made before a step or after it
@@ -72,13 +74,15 @@ module _ (c : Catalogue) where
   fire-erased : (q : ℕ) (is : List ℕ) (s : Opening) → fire c q is (erased s) ≡ erased (fire c q is s)
   unfolding fire
   fire-erased q [] s = refl
-  fire-erased q (i ∷ is) s = ap (queue (requirement q (i ∷ is))) (openNames-erased (rangesOf c q) s) ∙ queue-erased (requirement q (i ∷ is)) (openNames c (rangesOf c q) s)
+  fire-erased q (i ∷ is) s =
+      ap (queue (requirement q (i ∷ is))) (openNames-erased (rangesOf c q) s) ∙ queue-erased (requirement q (i ∷ is)) (openNames c (rangesOf c q) s)
 
   owner-erased : (w : Owner) (s : Opening) → serveOwner c w (erased s) ≡ erased (serveOwner c w s)
   unfolding serveOwner
   owner-erased w s =
       unless-commutes erased _ _
-      (λ u. ap (fold queue (tasksOf c w)) (openNames-erased (rangesFirst c w) u) ∙ fold-commutes erased queue queue-erased (tasksOf c w) (openNames c (rangesFirst c w) u)) s
+      (λ u. ap (fold queue (tasksOf c w)) (openNames-erased (rangesFirst c w) u)
+      ∙ fold-commutes erased queue queue-erased (tasksOf c w) (openNames c (rangesFirst c w) u)) s
 
   naming-erased : (p : ℕ) (s : Opening) → nameForTracking c p (erased s) ≡ erased (nameForTracking c p s)
   unfolding nameForTracking
@@ -254,3 +258,23 @@ module _ (l : Limits) (c : Catalogue) where
       unlessAny-forgets (commandRefusals l c o s) (carriedOut l c o s)
       ∙ (rw (refusals-forget o s) (ap (unlessAny (commandRefusals l c o s)) (command-forgets o s))
       ∙ sym (unlessAny-forgets (commandRefusals l c o (forget s)) (carriedOut l c o (forget s))))
+
+-- ---- a run that stops at the first excess
+
+unfoldable pub forgetCapped : Capped → Capped
+forgetCapped full = full
+forgetCapped (within s) = within (forget s)
+
+pub capped-forgets : (l : Limits) (s : State) → forgetCapped (capped l s) ≡ capped l (forget s)
+unfolding capped
+capped-forgets l s = go (above l s) ∙ ap (λ b. cappedBy b (forget s)) (sym (forget-above l s))
+  where
+    go : (b : Bool) → forgetCapped (cappedBy b s) ≡ cappedBy b (forget s)
+    go true = unfold cappedBy forgetCapped in refl
+    go false = unfold cappedBy forgetCapped in refl
+
+pub stopped-forgets : (l : Limits) (c : Catalogue) (level : ℕ) (s : State) → above l s ≡ false
+    → forgetCapped (runCapped l c level s) ≡ forgetCapped (runCapped l c level (forget s))
+stopped-forgets l c level s e =
+    rw (run-capped l c level s e, run-capped l c level (forget s) (forget-above l s ∙ e), capped-forgets l (runOnce c level s),
+    capped-forgets l (runOnce c level (forget s))) (ap (capped l) (runOnce-forgets c level s))

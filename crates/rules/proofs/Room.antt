@@ -10,7 +10,7 @@ use lib.ListN.{length, length-map}
 use Rattle.rules.specs.Catalogue.{Owner, root, part, Catalogue}
 use Rattle.rules.specs.Items.{ceiling}
 use Rattle.rules.specs.Decisions.{Decision}
-use Rattle.rules.specs.Opening.{Task, Opening}
+use Rattle.rules.specs.Opening.{Task, requirement, Opening, queue, openOwner, openName, markHandled, nameForTracking, openReady}
 use Rattle.rules.specs.State.{State, decidedTrue, Run}
 use Rattle.rules.specs.Run.{begun}
 use Rattle.rules.specs.Limits.{Limits}
@@ -21,12 +21,13 @@ use Rattle.rules.proofs.Membership.{in-left, map-out, Once, empty, once
 use Rattle.rules.proofs.Reached.{Given, Reached}
 use Rattle.rules.proofs.WellFormed.{OwnerGiven, WellFormed, well-formed}
 use Rattle.rules.proofs.Line.{serveTask-opening, After, begins, serves, firstLine, firstState, runFrom}
-use Rattle.rules.proofs.Valid.{ValidOpening, ValidPoint, valid, first-valid, point-valid}
+use Rattle.rules.proofs.Valid.{TaskGiven, ValidOpening, ValidPoint, queue-valid, openOwner-valid, openName-valid, naming-valid, ready-valid, markHandled-valid, valid, first-valid, point-valid}
 use Rattle.rules.proofs.RunLaws.{Within, serveTask-within}
 use Rattle.rules.proofs.Decided.{DecidedIn, InRun, within-run, decided}
-use Rattle.rules.proofs.NamedOnce.{NamedOnce, begin-once, serve-once}
+use Rattle.rules.proofs.Queueing.{queue-keeps, openOwner-keeps, openName-keeps, ready-keeps}
+use Rattle.rules.proofs.NamedOnce.{NamedOnce, stable, naming-once, begin-once, serve-once}
 use Rattle.rules.proofs.HelperCounts.{few-below, tracked-once}
-use Rattle.rules.proofs.Unrepeated.{Unrepeated, unrepeated, unrepeated-at}
+use Rattle.rules.proofs.Unrepeated.{nameIn, Unrepeated, queue-once, openOwner-once, openName-once, tracking-once, ready-once, unrepeated, unrepeated-at}
 
 -- ---- lists without repeats, by numbers that tell the elements apart
 
@@ -108,6 +109,67 @@ fits w r =
       tracked = omega (arith, r .tracked);
     }
 
+-- ---- within a task, step by step
+
+-- an opening behind which the tasks `ts` are in the line: its numbers are given, its lists without repeats
+pub record Orderly (c : Catalogue) (ts : List Task) (o : Opening) : Type 0 where
+  pub valid : ValidOpening c o
+  pub unrepeated : Unrepeated ts o
+  pub named-once : NamedOnce o
+
+pub orderly-fits : {c : Catalogue} → WellFormed c → {ts : List Task} {o : Opening} → Orderly c ts o → Fits o
+orderly-fits w p = fits w (roomy (p .valid) (p .unrepeated) (p .named-once))
+
+module _ (c : Catalogue) (w : WellFormed c) (ts : List Task) where
+  pub queue-orderly : (t : Task) → TaskGiven c t → nameIn t ≡ [] → (o : Opening) → Orderly c ts o → Orderly c ts (queue t o)
+  queue-orderly t h e o p =
+      record {
+        valid = queue-valid c w t o h (p .valid);
+        unrepeated = queue-once ts t e o (p .unrepeated);
+        named-once = queue-keeps NamedOnce stable t o (p .named-once);
+      }
+
+  pub openOwner-orderly : (v : Owner) → OwnerGiven c v → (o : Opening) → Orderly c ts o → Orderly c ts (openOwner v o)
+  openOwner-orderly v h o p =
+      record {
+        valid = openOwner-valid c w v o h (p .valid);
+        unrepeated = openOwner-once ts v o (p .unrepeated);
+        named-once = openOwner-keeps NamedOnce stable v o (p .named-once);
+      }
+
+  pub openName-orderly : (n : ℕ) → n < length (c .names) → (o : Opening) → Orderly c ts o → Orderly c ts (openName n o)
+  openName-orderly n h o p =
+      record {
+        valid = openName-valid c w n o h (p .valid);
+        unrepeated = openName-once ts n o (p .unrepeated);
+        named-once = openName-keeps NamedOnce stable n o (p .named-once);
+      }
+
+  pub naming-orderly : (q : ℕ) → q < length (c .parts) → (o : Opening) → Orderly c ts o → Orderly c ts (nameForTracking c q o)
+  naming-orderly q h o p =
+      record {
+        valid = naming-valid c w q o h (p .valid);
+        unrepeated = tracking-once ts c q o (p .unrepeated);
+        named-once = naming-once c q o (p .named-once);
+      }
+
+  pub ready-orderly : (q : ℕ) → q < length (c .parts) → (o : Opening) → Orderly c ts o → Orderly c ts (openReady c q o)
+  ready-orderly q h o p =
+      record {
+        valid = ready-valid c w q o h (p .valid);
+        unrepeated = ready-once ts c q o (p .unrepeated);
+        named-once = ready-keeps NamedOnce stable c q o (p .named-once);
+      }
+
+  pub handled-orderly : (q : ℕ) (is : List ℕ) → TaskGiven c (requirement q is) → (o : Opening) → Orderly c ts o → Orderly c ts (markHandled q is o)
+  handled-orderly q is h o p =
+      let u = p .unrepeated in
+      record {
+        valid = markHandled-valid c w q is o h (p .valid);
+        unrepeated = unfold markHandled in record { owners = u .owners; names = u .names; added = u .added; due = u .due; opened = u .opened };
+        named-once = unfold markHandled in p .named-once;
+      }
+
 -- ---- decisions: their variables are apart, and each is below the number of variables
 
 variables-apart : {ds : List Decision} → Pairwise (λ (d e : Decision). d .variable ≢ e .variable) ds → Once (map (λ (d : Decision). d .variable) ds)
@@ -147,8 +209,11 @@ module _ {l : Limits} {c : Catalogue} {s : State} (g : Given c) (reached : Reach
     point-named-once begins = begin-once c (s .opening) named-once
     point-named-once (serves {t = t} {s = u} a) = rw (serveTask-opening c r t u) (serve-once c (decidedTrue u) t (u .opening) (point-named-once a))
 
+    pub point-orderly : {n : ℕ} {ts : List Task} {u : State} → After c r (firstLine c s) (firstState c s) n ts u → Orderly c ts (u .opening)
+    point-orderly a = record { valid = point-given a .opening; unrepeated = unrepeated-at g reached r a; named-once = point-named-once a }
+
     pub point-roomy : {n : ℕ} {ts : List Task} {u : State} → After c r (firstLine c s) (firstState c s) n ts u → Roomy c (u .opening)
-    point-roomy a = roomy (point-given a .opening) (unrepeated-at g reached r a) (point-named-once a)
+    point-roomy a = let p = point-orderly a in roomy (p .valid) (p .unrepeated) (p .named-once)
 
     pub point-fits : {n : ℕ} {ts : List Task} {u : State} → After c r (firstLine c s) (firstState c s) n ts u → Fits (u .opening)
     point-fits a = fits (well-formed g) (point-roomy a)

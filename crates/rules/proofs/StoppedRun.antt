@@ -15,7 +15,9 @@ use Rattle.rules.specs.Refusals.{levelLow, runFull, _if_, Result, ok, re
 use Rattle.rules.specs.Records.{Command}
 use Rattle.rules.specs.Decisions.{Decision, upToLevel}
 use Rattle.rules.specs.Items.{ownerOf}
-use Rattle.rules.specs.Opening.{Task, Opening, setLine, add, draw, isDrawn, joining, endRun}
+use Rattle.rules.specs.Opening.{Task, Opening, setLine, serve, add, draw, isDrawn, joining, endRun}
+use Rattle.rules.specs.Variables.{withVariables}
+use Rattle.rules.specs.Encoding.{served, taskOrigins, origins, taskClauses, clauses}
 use Rattle.rules.specs.State.{State, setOpening, setDecisions, start, decidedTrue, Run, emit, emitAll}
 use Rattle.rules.specs.Run.{joinsFrom, linksFor, lineTaken, serveTask, serveLine, joinAll, linkAll, begun, mostTasks, runOnce}
 use Rattle.rules.specs.Limits.{Limits, allowed, above}
@@ -28,7 +30,17 @@ use Rattle.rules.proofs.Grows.{whole, Grows, same, and-then, opening-gr
 use Rattle.rules.proofs.Line.{lineAfter, stateAfter, After, begins, serves, Served, done, next, firstLine, firstState, runFrom, runEnd, runOnce-is}
 use Rattle.rules.proofs.Ends.{ends}
 use Rattle.rules.proofs.Drawn.{within-limit}
-use Rattle.rules.proofs.Capped.{Capped, full, within, cappedBy, capped, afterwards, stepCapped, is-within, staged, fold-capped, same-waiting, only-waiting, begin-waiting}
+use Rattle.rules.proofs.ClauseByClause.{addClause}
+use Rattle.rules.proofs.Capped.{addVariable, emit-capped, Capped, full, within, cappedBy, capped, afterwards, stepCapped, is-within, staged, fold-capped, same-waiting, only-waiting, begin-waiting}
+
+-- ---- a task: its opening, then its event with a test after each variable and each clause
+
+pub task-capped : (l : Limits) (c : Catalogue) (r : Run) (t : Task) (s : State)
+    → let u = setOpening (serve c (decidedTrue s) t (s .opening)) s in let vs = withVariables (taskOrigins c t) (s .variables) in
+    fold (stepCapped l (addClause r)) (taskClauses c (s .variables) vs t) (fold (stepCapped l addVariable) (taskOrigins c t) (capped l u))
+    ≡ capped l (serveTask c r t s)
+unfolding serveTask origins clauses
+task-capped l c r t s = emit-capped l c r (served t) (setOpening (serve c (decidedTrue s) t (s .opening)) s)
 
 -- ---- the line
 

@@ -99,9 +99,9 @@ module _ (ts : List Task) where
           }
 
   -- a step that leaves these lists alone
-  pub naming-once : (c : Catalogue) (p : ℕ) (o : Opening) → Unrepeated ts o → Unrepeated ts (nameForTracking c p o)
+  pub tracking-once : (c : Catalogue) (p : ℕ) (o : Opening) → Unrepeated ts o → Unrepeated ts (nameForTracking c p o)
   unfolding nameForTracking
-  naming-once c p o h =
+  tracking-once c p o h =
       unless-either (Unrepeated ts) _ _ o (λ e. h) (λ e. record { owners = h .owners; names = h .names; added = h .added; due = h .due; opened = h .opened })
 
   module _ (c : Catalogue) where
@@ -139,7 +139,7 @@ module _ (ts : List Task) where
     requirement-once q is o h =
         let ps = candidates c (goalAt c q) in
         fold-keeps (Unrepeated ts) (openReady c) ps (λ p m. ready-once p) _
-        (fold-keeps (Unrepeated ts) (nameForTracking c) (ps ++ firedParts c q is) (λ p m. naming-once c p) _
+        (fold-keeps (Unrepeated ts) (nameForTracking c) (ps ++ firedParts c q is) (λ p m. tracking-once c p) _
         (record { owners = h .owners; names = h .names; added = h .added; due = h .due; opened = h .opened }))
 
 not-name : (t : Task) (ts : List Task) (o : Opening) → nameIn t ≡ [] → Unrepeated (t ∷ ts) o → Unrepeated ts o
