@@ -75,13 +75,16 @@ once-left : {A : Type 0} (xs ys : List A) → Once (xs ++ ys) → Once xs
 once-left [] ys p = empty
 once-left (x ∷ xs) ys (once n p) = once (λ m. n (in-left ys m)) (once-left xs ys p)
 
+pub several-once : {ts : List Task} {o : Opening} → Unrepeated ts o → Once (o .several)
+several-once {o = o} u = once-left (o .several) _ (u .due)
+
 pub roomy : {c : Catalogue} {ts : List Task} {o : Opening} → ValidOpening c o → Unrepeated ts o → NamedOnce o → Roomy c o
-roomy {c} {o = o} v u n =
+roomy {c} v u n =
     record {
       owners = owners-fit c (u .owners) (v .owners);
       added = owners-fit c (u .added) (v .added);
       names = pigeonhole (length (c .names)) (u .names) (v .names);
-      several = pigeonhole (length (c .names)) (once-left (o .several) _ (u .due)) (v .several);
+      several = pigeonhole (length (c .names)) (several-once u) (v .several);
       named = pigeonhole (length (c .parts)) (n .0) (v .named);
       tracked = pigeonhole (length (c .parts)) (n .1) (v .tracked);
     }
