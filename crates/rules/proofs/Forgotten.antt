@@ -27,9 +27,6 @@ use Rattle.rules.proofs.ClauseByClause.{effects-changed}
 -- ---- a change that may be made before a step or after it
 
 module _ {S : Type 0} (g : S → S) where
-  abbrev Commutes : (S → S) → Type 0
-  Commutes f = (s : S) → f (g s) ≡ g (f s)
-
   pub when-commutes : (b : Bool) (f : S → S) → ((s : S) → f (g s) ≡ g (f s)) → (s : S) → when b f (g s) ≡ g (when b f s)
   unfolding when
   when-commutes true f h s = h s
@@ -217,6 +214,21 @@ pub decide-forgets : (x value level : ℕ) (s : State) → decide x value level 
 unfolding decide
 decide-forgets x value level s = when-commutes forget _ _ (λ u. refl) s
 
+-- what comes of a command, but for what is forgotten
+unfoldable pub forgetResult : Result State → Result State
+forgetResult (ok s) = ok (forget s)
+forgetResult (refuse f) = refuse f
+
+unlessAny-forgets : (ts : List (Refusal × Bool)) (s : State) → forgetResult (unlessAny ts s) ≡ unlessAny ts (forget s)
+unfolding unlessAny
+unlessAny-forgets [] s = unfold forgetResult in refl
+unlessAny-forgets (t ∷ ts) s = go (t .1) (unlessAny-forgets ts s)
+  where
+    go : (b : Bool) → forgetResult (unlessAny ts s) ≡ unlessAny ts (forget s)
+        → forgetResult (elim b [ true ↦ refuse (t .0) | false ↦ unlessAny ts s ]) ≡ elim b [ true ↦ refuse (t .0) | false ↦ unlessAny ts (forget s) ]
+    go true h = unfold forgetResult in refl
+    go false h = h
+
 module _ (l : Limits) (c : Catalogue) where
   pub command-forgets : (o : Command) (s : State) → forget (carriedOut l c o s) ≡ forget (carriedOut l c o (forget s))
   unfolding carriedOut
@@ -232,25 +244,10 @@ module _ (l : Limits) (c : Catalogue) where
   refusals-forget (Command.draw k) s = refl
   refusals-forget (Command.run level) s =
       let same : above l (runOnce c level (forget s)) ≡ above l (runOnce c level s) =
-          sym (forget-above l (runOnce c level (forget s))) ∙ (ap (above l) (sym (runOnce-forgets c level s)) ∙ forget-above l (runOnce c level s)) in
+      sym (forget-above l (runOnce c level (forget s))) ∙ (ap (above l) (sym (runOnce-forgets c level s)) ∙ forget-above l (runOnce c level s)) in
       rw same
   refusals-forget (Command.decide x value level) s = refl
   refusals-forget (Command.undo level) s = refl
-
-  -- what comes of a command, but for what is forgotten
-  unfoldable pub forgetResult : Result State → Result State
-  forgetResult (ok s) = ok (forget s)
-  forgetResult (refuse f) = refuse f
-
-  unlessAny-forgets : (ts : List (Refusal × Bool)) (s : State) → forgetResult (unlessAny ts s) ≡ unlessAny ts (forget s)
-  unfolding unlessAny
-  unlessAny-forgets [] s = unfold forgetResult in refl
-  unlessAny-forgets (t ∷ ts) s = go (t .1) (unlessAny-forgets ts s)
-    where
-      go : (b : Bool) → forgetResult (unlessAny ts s) ≡ unlessAny ts (forget s)
-          → forgetResult (elim b [ true ↦ refuse (t .0) | false ↦ unlessAny ts s ]) ≡ elim b [ true ↦ refuse (t .0) | false ↦ unlessAny ts (forget s) ]
-      go true h = unfold forgetResult in refl
-      go false h = h
 
   pub carryOut-forgets : (o : Command) (s : State) → forgetResult (carryOut l c o s) ≡ forgetResult (carryOut l c o (forget s))
   unfolding carryOut
@@ -276,5 +273,9 @@ capped-forgets l s = go (above l s) ∙ ap (λ b. cappedBy b (forget s)) (sym (f
 pub stopped-forgets : (l : Limits) (c : Catalogue) (level : ℕ) (s : State) → above l s ≡ false
     → forgetCapped (runCapped l c level s) ≡ forgetCapped (runCapped l c level (forget s))
 stopped-forgets l c level s e =
-    rw (run-capped l c level s e, run-capped l c level (forget s) (forget-above l s ∙ e), capped-forgets l (runOnce c level s),
-    capped-forgets l (runOnce c level (forget s))) (ap (capped l) (runOnce-forgets c level s))
+    rw (
+      run-capped l c level s e,
+      run-capped l c level (forget s) (forget-above l s ∙ e),
+      capped-forgets l (runOnce c level s),
+      capped-forgets l (runOnce c level (forget s)),
+    ) (ap (capped l) (runOnce-forgets c level s))

@@ -89,7 +89,7 @@ module _ (ts : List Task) where
       new : (n ∈ o .names → ⊥) → Unrepeated ts (queue (name n) (setNames (snoc (o .names) n) o))
       new apart =
           let same : servedOrDue ts (queue (name n) (setNames (snoc (o .names) n) o)) ≡ servedOrDue ts o ++ (n ∷ []) =
-              unfold nameIn in queued-due (name n) ts (setNames (snoc (o .names) n) o) in
+          unfold nameIn in queued-due (name n) ts (setNames (snoc (o .names) n) o) in
           record {
             owners = unfold queue in p .owners;
             names = unfold queue in once-snoc (p .names) apart;
@@ -209,7 +209,7 @@ module _ (c : Catalogue) where
   point-unrepeated r h begins = h
   point-unrepeated r h (serves {t = t} {ts = ts} {s = s} a) =
       let u : Unrepeated ts ((serveTask c r t s) .opening) =
-          rw (serveTask-opening c r t s) (serve-unrepeated (decidedTrue s) t ts (s .opening) (point-unrepeated r h a)) in
+      rw (serveTask-opening c r t s) (serve-unrepeated (decidedTrue s) t ts (s .opening) (point-unrepeated r h a)) in
       taken-unrepeated ts _ u
 
   pub first-unrepeated : (s : State) → Unrepeated [] (s .opening) → Unrepeated (firstLine c s) ((firstState c s) .opening)
