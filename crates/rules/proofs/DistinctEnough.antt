@@ -9,11 +9,12 @@ use lib.Dec.{eqb}
 use borrow.Author.Tests.{eq-eqb}
 use Rattle.rules.specs.Lists.{any, all, elem, snoc, concatMap, fold, unless, distinct}
 use Rattle.rules.specs.Literal.{Literal, pos}
-use Rattle.rules.specs.Catalogue.{Owner, part, Goal, Catalogue, partAt, nameOf, rangeName, sameOwner}
+use Rattle.rules.specs.Catalogue.{Owner, part, Goal, Catalogue, partAt, nameOf, rangeName, ownerAt, goalAt, sameOwner}
 use Rattle.rules.specs.Candidates.{sorted, goalRanges, candidates}
 use Rattle.rules.specs.Decisions.{Decision, evaluate, isFalsified, allFalse}
-use Rattle.rules.specs.Variables.{Origin, known, withVariable, withVariables}
-use Rattle.rules.specs.Opening.{Opening, queue, openOwner, openName, openNames, nameForTracking, openReady}
+use Rattle.rules.specs.Variables.{Origin, chosen, known, withVariable, withVariables, partOrigin}
+use Rattle.rules.specs.Encoding.{shapeOf, shapeOrigins, taskOrigins}
+use Rattle.rules.specs.Opening.{requirement, markHandled, firedParts, serveRequirement, Opening, queue, openOwner, openName, openNames, nameForTracking, openReady}
 use Rattle.rules.proofs.Bools.{by-cases, or-true, or-right}
 use Rattle.rules.proofs.Member.{all-out, all-in}
 use Rattle.rules.proofs.ListLaws.{any-snoc}
@@ -147,10 +148,10 @@ either-still true b b′ h e = refl
 either-still false b b′ h e = h e
 
 module _ (c : Catalogue) where
-  abbrev severalServed : ℕ → Opening → Bool
+  abbrev pub severalServed : ℕ → Opening → Bool
   severalServed p s = elem (nameOf c p) (s .several)
 
-  abbrev passedOver : ℕ → Opening → Bool
+  abbrev pub passedOver : ℕ → Opening → Bool
   passedOver p s = severalServed p s || elem p (s .named)
 
   pub tracking-once : DoneOnce (nameForTracking c) (λ p s. passedOver p s ≡ true)
@@ -166,7 +167,7 @@ module _ (c : Catalogue) where
   pub tracking-distinct : (ps : List ℕ) (o : Opening) → fold (nameForTracking c) ps o ≡ fold (nameForTracking c) (distinct ps) o
   tracking-distinct = distinct-enough tracking-once
 
-  abbrev opened : Owner → Opening → Bool
+  abbrev pub opened : Owner → Opening → Bool
   opened w s = any (sameOwner w) (s .owners)
 
   opens : (w : Owner) (s : Opening) → opened w (openOwner w s) ≡ true
@@ -184,7 +185,7 @@ module _ (c : Catalogue) where
   pub owners-once : DoneOnce openOwner (λ w s. any (sameOwner w) (s .owners) ≡ true)
   owners-once = record { does = opens; keeps = stays-opened; again = opened-again }
 
-  abbrev ReadyOpened : ℕ → Opening → Type 0
+  abbrev pub ReadyOpened : ℕ → Opening → Type 0
   ReadyOpened p s = (partAt c p) .ready ≡ true → opened (part p) s ≡ true
 
   pub ready-once : DoneOnce (openReady c) ReadyOpened
@@ -199,7 +200,7 @@ module _ (c : Catalogue) where
   pub ready-distinct : (ps : List ℕ) (o : Opening) → fold (openReady c) ps o ≡ fold (openReady c) (distinct ps) o
   ready-distinct = distinct-enough ready-once
 
-  abbrev nameOpened : ℕ → Opening → Bool
+  abbrev pub nameOpened : ℕ → Opening → Bool
   nameOpened r s = elem (rangeName c r) (s .names)
 
   pub names-once : DoneOnce (λ r. openName (rangeName c r)) (λ r s. nameOpened r s ≡ true)
@@ -214,6 +215,27 @@ module _ (c : Catalogue) where
   pub names-distinct : (rs : List ℕ) (o : Opening) → openNames c rs o ≡ openNames c (distinct rs) o
   unfolding openNames
   names-distinct = distinct-enough names-once
+
+-- ---- a requirement's task, by its distinct candidates
+
+module _ (c : Catalogue) (q : ℕ) (is : List ℕ) where
+  pub requirement-opening : (o : Opening) → serveRequirement c q is o
+      ≡ fold (openReady c) (distinct (candidates c (goalAt c q)))
+      (fold (nameForTracking c) (distinct (firedParts c q is)) (fold (nameForTracking c) (distinct (candidates c (goalAt c q))) (markHandled q is o)))
+  unfolding serveRequirement
+  requirement-opening o =
+      let ps = candidates c (goalAt c q) in
+      let u = markHandled q is o in
+      rw (fold-append (nameForTracking c) ps (firedParts c q is) u, tracking-distinct c ps u, tracking-distinct c (firedParts c q is) _) (ready-distinct c ps _)
+
+  pub requirement-variables : (vs : List Origin) → withVariables (taskOrigins c (requirement q is)) vs
+      ≡ withVariables (shapeOrigins c (shapeOf c q) q is)
+      (withVariables (map partOrigin (distinct (candidates c (goalAt c q)))) (withVariable (chosen (ownerAt c q)) vs))
+  unfolding taskOrigins
+  requirement-variables vs =
+      let ps = candidates c (goalAt c q) in
+      let us = withVariable (chosen (ownerAt c q)) vs in
+      rw (← variables-distinct partOrigin ps us) (unfold withVariables fold in fold-append withVariable (map partOrigin ps) (shapeOrigins c (shapeOf c q) q is) us)
 
 -- ---- tests
 

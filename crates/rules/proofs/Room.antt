@@ -27,7 +27,7 @@ use Rattle.rules.proofs.Decided.{DecidedIn, InRun, within-run, decided}
 use Rattle.rules.proofs.Queueing.{queue-keeps, openOwner-keeps, openName-keeps, ready-keeps}
 use Rattle.rules.proofs.NamedOnce.{NamedOnce, stable, naming-once, begin-once, serve-once}
 use Rattle.rules.proofs.HelperCounts.{few-below, tracked-once}
-use Rattle.rules.proofs.Unrepeated.{nameIn, Unrepeated, queue-once, openOwner-once, openName-once, tracking-once, ready-once, unrepeated, unrepeated-at}
+use Rattle.rules.proofs.Unrepeated.{nameIn, Unrepeated, queue-unrepeated, openOwner-unrepeated, openName-unrepeated, naming-unrepeated, ready-unrepeated, unrepeated, unrepeated-at}
 
 -- ---- lists without repeats, by numbers that tell the elements apart
 
@@ -128,7 +128,7 @@ module _ (c : Catalogue) (w : WellFormed c) (ts : List Task) where
   queue-orderly t h e o p =
       record {
         valid = queue-valid c w t o h (p .valid);
-        unrepeated = queue-once ts t e o (p .unrepeated);
+        unrepeated = queue-unrepeated ts t e o (p .unrepeated);
         named-once = queue-keeps NamedOnce stable t o (p .named-once);
       }
 
@@ -136,7 +136,7 @@ module _ (c : Catalogue) (w : WellFormed c) (ts : List Task) where
   openOwner-orderly v h o p =
       record {
         valid = openOwner-valid c w v o h (p .valid);
-        unrepeated = openOwner-once ts v o (p .unrepeated);
+        unrepeated = openOwner-unrepeated ts v o (p .unrepeated);
         named-once = openOwner-keeps NamedOnce stable v o (p .named-once);
       }
 
@@ -144,7 +144,7 @@ module _ (c : Catalogue) (w : WellFormed c) (ts : List Task) where
   openName-orderly n h o p =
       record {
         valid = openName-valid c w n o h (p .valid);
-        unrepeated = openName-once ts n o (p .unrepeated);
+        unrepeated = openName-unrepeated ts n o (p .unrepeated);
         named-once = openName-keeps NamedOnce stable n o (p .named-once);
       }
 
@@ -152,7 +152,7 @@ module _ (c : Catalogue) (w : WellFormed c) (ts : List Task) where
   naming-orderly q h o p =
       record {
         valid = naming-valid c w q o h (p .valid);
-        unrepeated = tracking-once ts c q o (p .unrepeated);
+        unrepeated = naming-unrepeated ts c q o (p .unrepeated);
         named-once = naming-once c q o (p .named-once);
       }
 
@@ -160,7 +160,7 @@ module _ (c : Catalogue) (w : WellFormed c) (ts : List Task) where
   ready-orderly q h o p =
       record {
         valid = ready-valid c w q o h (p .valid);
-        unrepeated = ready-once ts c q o (p .unrepeated);
+        unrepeated = ready-unrepeated ts c q o (p .unrepeated);
         named-once = ready-keeps NamedOnce stable c q o (p .named-once);
       }
 

@@ -64,8 +64,8 @@ not-opened w ws e m = true≢false (sym (any-in (sameOwner w) ws m (owner-self e
 
 module _ (ts : List Task) where
   -- a task that is no name's
-  pub queue-once : (t : Task) → nameIn t ≡ [] → (o : Opening) → Unrepeated ts o → Unrepeated ts (queue t o)
-  queue-once t e o p =
+  pub queue-unrepeated : (t : Task) → nameIn t ≡ [] → (o : Opening) → Unrepeated ts o → Unrepeated ts (queue t o)
+  queue-unrepeated t e o p =
       let same : servedOrDue ts (queue t o) ≡ servedOrDue ts o = queued-due t ts o ∙ (ap (λ ns. servedOrDue ts o ++ ns) e ∙ append-nil (servedOrDue ts o)) in
       record {
         owners = unfold queue in p .owners;
@@ -75,16 +75,16 @@ module _ (ts : List Task) where
         opened = rw same (unfold queue in p .opened);
       }
 
-  pub openOwner-once : (w : Owner) (o : Opening) → Unrepeated ts o → Unrepeated ts (openOwner w o)
+  pub openOwner-unrepeated : (w : Owner) (o : Opening) → Unrepeated ts o → Unrepeated ts (openOwner w o)
   unfolding openOwner nameIn
-  openOwner-once w o p =
+  openOwner-unrepeated w o p =
       unless-either (Unrepeated ts) _ _ o (λ e. p)
-      (λ e. queue-once (owner w) refl (setOwners (snoc (o .owners) w) o)
+      (λ e. queue-unrepeated (owner w) refl (setOwners (snoc (o .owners) w) o)
       (record { owners = once-snoc (p .owners) (not-opened w (o .owners) e); names = p .names; added = p .added; due = p .due; opened = p .opened }))
 
-  pub openName-once : (n : ℕ) (o : Opening) → Unrepeated ts o → Unrepeated ts (openName n o)
+  pub openName-unrepeated : (n : ℕ) (o : Opening) → Unrepeated ts o → Unrepeated ts (openName n o)
   unfolding openName
-  openName-once n o p = unless-either (Unrepeated ts) _ _ o (λ e. p) (λ e. new (not-elem n (o .names) e))
+  openName-unrepeated n o p = unless-either (Unrepeated ts) _ _ o (λ e. p) (λ e. new (not-elem n (o .names) e))
     where
       new : (n ∈ o .names → ⊥) → Unrepeated ts (queue (name n) (setNames (snoc (o .names) n) o))
       new apart =
@@ -99,24 +99,24 @@ module _ (ts : List Task) where
           }
 
   -- a step that leaves these lists alone
-  pub tracking-once : (c : Catalogue) (p : ℕ) (o : Opening) → Unrepeated ts o → Unrepeated ts (nameForTracking c p o)
+  pub naming-unrepeated : (c : Catalogue) (p : ℕ) (o : Opening) → Unrepeated ts o → Unrepeated ts (nameForTracking c p o)
   unfolding nameForTracking
-  tracking-once c p o h =
+  naming-unrepeated c p o h =
       unless-either (Unrepeated ts) _ _ o (λ e. h) (λ e. record { owners = h .owners; names = h .names; added = h .added; due = h .due; opened = h .opened })
 
   module _ (c : Catalogue) where
-    pub ready-once : (p : ℕ) (o : Opening) → Unrepeated ts o → Unrepeated ts (openReady c p o)
+    pub ready-unrepeated : (p : ℕ) (o : Opening) → Unrepeated ts o → Unrepeated ts (openReady c p o)
     unfolding openReady
-    ready-once p o h = when-either (Unrepeated ts) _ _ o (λ e. openOwner-once (part p) o h) (λ e. h)
+    ready-unrepeated p o h = when-either (Unrepeated ts) _ _ o (λ e. openOwner-unrepeated (part p) o h) (λ e. h)
 
-    pub openNames-once : (rs : List ℕ) (o : Opening) → Unrepeated ts o → Unrepeated ts (openNames c rs o)
+    pub openNames-unrepeated : (rs : List ℕ) (o : Opening) → Unrepeated ts o → Unrepeated ts (openNames c rs o)
     unfolding openNames
-    openNames-once rs o h = fold-keeps (Unrepeated ts) _ rs (λ r m. openName-once (rangeName c r)) o h
+    openNames-unrepeated rs o h = fold-keeps (Unrepeated ts) _ rs (λ r m. openName-unrepeated (rangeName c r)) o h
 
-    pub fire-once : (q : ℕ) (is : List ℕ) (o : Opening) → Unrepeated ts o → Unrepeated ts (fire c q is o)
+    pub fire-unrepeated : (q : ℕ) (is : List ℕ) (o : Opening) → Unrepeated ts o → Unrepeated ts (fire c q is o)
     unfolding fire nameIn
-    fire-once q [] o h = h
-    fire-once q (i ∷ is) o h = queue-once (requirement q (i ∷ is)) refl _ (openNames-once (rangesOf c q) o h)
+    fire-unrepeated q [] o h = h
+    fire-unrepeated q (i ∷ is) o h = queue-unrepeated (requirement q (i ∷ is)) refl _ (openNames-unrepeated (rangesOf c q) o h)
 
     own-tasks : (w : Owner) (t : Task) → t ∈ tasksOf c w → nameIn t ≡ []
     unfolding tasksOf
@@ -128,18 +128,18 @@ module _ (ts : List Task) where
         either true q = unfold taskBy nameIn in refl
         either false q = unfold taskBy nameIn in refl
 
-    owner-once : (w : Owner) (o : Opening) → Unrepeated ts o → Unrepeated ts (serveOwner c w o)
+    owner-unrepeated : (w : Owner) (o : Opening) → Unrepeated ts o → Unrepeated ts (serveOwner c w o)
     unfolding serveOwner
-    owner-once w o h =
+    owner-unrepeated w o h =
         unless-either (Unrepeated ts) _ _ o (λ e. h)
-        (λ e. fold-keeps (Unrepeated ts) queue (tasksOf c w) (λ t m. queue-once t (own-tasks w t m)) _ (openNames-once (rangesFirst c w) o h))
+        (λ e. fold-keeps (Unrepeated ts) queue (tasksOf c w) (λ t m. queue-unrepeated t (own-tasks w t m)) _ (openNames-unrepeated (rangesFirst c w) o h))
 
-    requirement-once : (q : ℕ) (is : List ℕ) (o : Opening) → Unrepeated ts o → Unrepeated ts (serveRequirement c q is o)
+    requirement-unrepeated : (q : ℕ) (is : List ℕ) (o : Opening) → Unrepeated ts o → Unrepeated ts (serveRequirement c q is o)
     unfolding serveRequirement markHandled
-    requirement-once q is o h =
+    requirement-unrepeated q is o h =
         let ps = candidates c (goalAt c q) in
-        fold-keeps (Unrepeated ts) (openReady c) ps (λ p m. ready-once p) _
-        (fold-keeps (Unrepeated ts) (nameForTracking c) (ps ++ firedParts c q is) (λ p m. tracking-once c p) _
+        fold-keeps (Unrepeated ts) (openReady c) ps (λ p m. ready-unrepeated p) _
+        (fold-keeps (Unrepeated ts) (nameForTracking c) (ps ++ firedParts c q is) (λ p m. naming-unrepeated c p) _
         (record { owners = h .owners; names = h .names; added = h .added; due = h .due; opened = h .opened }))
 
 not-name : (t : Task) (ts : List Task) (o : Opening) → nameIn t ≡ [] → Unrepeated (t ∷ ts) o → Unrepeated ts o
@@ -154,9 +154,9 @@ once-without (x ∷ xs) y ys (once n p) =
 
 module _ (c : Catalogue) where
   -- a name that is served goes from those due to those served, or is due no more
-  serveName-once : (n : ℕ) (ts : List Task) (o : Opening) → Unrepeated (name n ∷ ts) o → Unrepeated ts (serveName c n o)
+  serveName-unrepeated : (n : ℕ) (ts : List Task) (o : Opening) → Unrepeated (name n ∷ ts) o → Unrepeated ts (serveName c n o)
   unfolding serveName namesIn concatMap nameIn
-  serveName-once n ts o h =
+  serveName-unrepeated n ts o h =
       when-either (Unrepeated ts) _ _ o
       (λ e. record { owners = h .owners; names = h .names; added = h .added; due = rw moved (h .due); opened = rw moved (h .opened) })
       (λ e. record {
@@ -173,12 +173,12 @@ module _ (c : Catalogue) where
   -- the line's first task is served
   pub serve-unrepeated : (f : ℕ → Bool) (t : Task) (ts : List Task) (o : Opening) → Unrepeated (t ∷ ts) o → Unrepeated ts (serve c f t o)
   unfolding serve serveCondition
-  serve-unrepeated f (owner w) ts o h = owner-once ts c w o (not-name (owner w) ts o (unfold nameIn in refl) h)
-  serve-unrepeated f (name n) ts o h = serveName-once n ts o h
+  serve-unrepeated f (owner w) ts o h = owner-unrepeated ts c w o (not-name (owner w) ts o (unfold nameIn in refl) h)
+  serve-unrepeated f (name n) ts o h = serveName-unrepeated n ts o h
   serve-unrepeated f (condition q) ts o h =
       let p = not-name (condition q) ts o (unfold nameIn in refl) h in
-      fire-once ts c q _ _ (record { owners = p .owners; names = p .names; added = p .added; due = p .due; opened = p .opened })
-  serve-unrepeated f (requirement q is) ts o h = requirement-once ts c q is o (not-name (requirement q is) ts o (unfold nameIn in refl) h)
+      fire-unrepeated ts c q _ _ (record { owners = p .owners; names = p .names; added = p .added; due = p .due; opened = p .opened })
+  serve-unrepeated f (requirement q is) ts o h = requirement-unrepeated ts c q is o (not-name (requirement q is) ts o (unfold nameIn in refl) h)
   serve-unrepeated f (constraint k) ts o h = not-name (constraint k) ts o (unfold nameIn in refl) h
 
   -- what was queued goes into the line
@@ -190,8 +190,8 @@ module _ (c : Catalogue) where
   pub begin-unrepeated : (ts : List Task) (o : Opening) → Unrepeated ts o → Unrepeated ts (beginRun c o)
   unfolding beginRun
   begin-unrepeated ts o h =
-      fold-keeps (Unrepeated ts) _ (o .drawn) (λ e m. fire-once ts c (e .0) (e .1 ∷ [])) _
-      (fold-keeps (Unrepeated ts) openOwner (o .added) (λ w m. openOwner-once ts w) _
+      fold-keeps (Unrepeated ts) _ (o .drawn) (λ e m. fire-unrepeated ts c (e .0) (e .1 ∷ [])) _
+      (fold-keeps (Unrepeated ts) openOwner (o .added) (λ w m. openOwner-unrepeated ts w) _
       (record { owners = h .owners; names = h .names; added = empty; due = h .due; opened = h .opened }))
 
   end-unrepeated : (ts : List Task) (o : Opening) → Unrepeated ts o → Unrepeated ts (endRun c o)
