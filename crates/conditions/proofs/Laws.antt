@@ -1,40 +1,26 @@
 -- The disjuncts of a condition against their code: a law for each call and each way out.
 use mathlib.Core.Path.{_≡_, refl, sym, ap, _∙_}
-use mathlib.Core.Bool.{true, false}
 use mathlib.Core.List.{List, [], _∷_, _++_, append-assoc}
-use Prim.Native.Nat.{ℕ, zero, suc, _+_, _-_, _*_, _/_, _%_, _<_, _≤_}
+use Prim.Native.Nat.{ℕ, _+_, _-_, _*_, _/_, _%_, _<_, _≤_}
 use native.Mathlib.Nat.{div-lt-iff-lt-mul, mod-lt}
 use native.Mathlib.Numerals.{add-one}
 use native.Mathlib.Omega.{arith}
-use lib.Dec.{eqb}
-use lib.ListN.{length, getD, set, take, length-append}
+use lib.ListN.{length, getD, set, length-append}
 use lib.Seq.{take-suc-set, getD-take}
-use borrow.Author.Tests.{eq-eqb, ne-eqb}
-use Rattle.rules.specs.Catalogue.{Operator, and, or, Condition, leaf, joined, noCondition}
+use Rattle.rules.specs.Catalogue.{Operator, and, or, Condition, joined, noCondition}
 use Rattle.rules.specs.Conditions.{Disjunct, combined, disjuncts}
 use Rattle.rules.specs.Items.{operatorOf}
 use Rattle.rules.proofs.DisjunctLaws.{disjuncts-leaf, disjuncts-joined, length-or, length-and, or-left, or-right, and-at}
 use Rattle.tables.specs.declared.Counts.{Counts}
 use Rattle.tables.specs.declared.Condition as C
-use Rattle.tables.specs.declared.Size as S
-use Rattle.tables.specs.Tables.{tables, Laid, conditionIs, conditionFrom, conditionBy}
+use Rattle.tables.specs.Tables.{tables, Laid, conditionIs}
 use Rattle.tables.proofs.Laws.{conditions-counted}
 use Rattle.conditions.specs.declared.Disjunct as D
 use Rattle.conditions.specs.declared.Source.{Source}
 use Rattle.conditions.specs.declared.Source.the-variants.{Range, Half, Halves}
-use Rattle.conditions.specs.Sizes.{Sized, HasSize, Counted, Earlier, rangesOf, Carries, Appended, worked, Before, AllBefore, From, Asked}
+use Rattle.conditions.specs.Sizes.{Sized, Counted, Earlier, rangesOf, Carries, Appended, worked, Before, From, Asked}
 use Rattle.conditions.proofs.Longest.{at-most-longest}
-use Rattle.conditions.proofs.Sizing.{and-when, or-when}
-
--- ---- what a row of the table says
-
-row-leaf : (x : C.Condition) → x .operator ≡ 2 → conditionIs x ≡ leaf (x .left)
-unfolding conditionIs conditionFrom conditionBy
-row-leaf x e = rw (eq-eqb (x .operator) 2 e)
-
-row-joined : (x : C.Condition) → (x .operator ≡ 2 → ⊥) → conditionIs x ≡ joined (operatorOf (x .operator)) (x .left) (x .right)
-unfolding conditionIs conditionFrom conditionBy
-row-joined x f = rw (ne-eqb (x .operator) 2 f)
+use Rattle.conditions.proofs.Sizing.{row-leaf, row-joined, and-when, or-when}
 
 -- ---- ranges behind others
 
@@ -181,7 +167,7 @@ module _ (k : Counts) (b : List ℕ) {c i : ℕ} {s : Source} (f : From (tables 
           sized = a .sized;
           given = omega (arith, halves-before .1 .earlier, a .given);
           there = halves-before .1 .there;
-          room = omega (arith, halves-room a, p .len)
+          room = omega (arith, halves-room a, p .len);
         }
 
     pub halves-is : {d q v : D.Disjunct} → Appended d first q → Appended q second v → Appended d this v

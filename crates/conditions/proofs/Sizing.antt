@@ -1,29 +1,34 @@
 -- Sized tables. For the code: the size of a condition as it is stored, and of one with given halves. For callers: what keeps tables sized, and refusal 6 by sizes.
-use mathlib.Core.Path.{_≡_, refl, sym, ap, _∙_}
-use mathlib.Core.Bool.{true, false}
-use mathlib.Core.List.{List, [], _∷_}
+use mathlib.Core.Path.{_≡_, ap, _∙_}
+use mathlib.Core.List.{List}
 use Prim.Native.Nat.{ℕ, _+_, _*_, _<_, _≤_, max}
 use native.Mathlib.Nat.{mul-le-mul}
-use native.Mathlib.Numerals.{add-one}
 use native.Mathlib.Omega.{arith}
-use lib.Dec.{eqb, ltb}
 use lib.ListN.{length, getD}
 use borrow.Author.Tests.{eq-eqb, ne-eqb}
-use Rattle.rules.specs.Lists.{snoc, upTo}
-use Rattle.rules.specs.Catalogue.{Operator, and, or, Part, Condition, leaf, joined, noCondition, Requirement, Constraint}
-use Rattle.rules.specs.Conditions.{Disjunct, combined, disjuncts, tooWide, tooManyDisjuncts}
+use Rattle.rules.specs.Lists.{snoc}
+use Rattle.rules.specs.Catalogue.{Operator, and, or, Condition, leaf, joined}
+use Rattle.rules.specs.Conditions.{Disjunct, combined, disjuncts}
 use Rattle.rules.specs.Items.{operatorOf}
-use Rattle.rules.proofs.ListLaws.{length-snoc, each-snoc}
-use Rattle.rules.proofs.DisjunctLaws.{disjuncts-old, disjuncts-new-leaf, disjuncts-new-joined, length-or, length-and}
+use Rattle.rules.proofs.DisjunctLaws.{disjuncts-new-joined, length-or, length-and}
 use Rattle.tables.specs.declared.Counts.{Counts}
 use Rattle.tables.specs.declared.Condition as C
 use Rattle.tables.specs.declared.Size as S
-use Rattle.tables.specs.Tables.{Size, noSize, Tables, listed, tables, sizeIs, sizeFrom, conditionIs, conditionFrom, conditionBy}
-use Rattle.tables.specs.Tables.{withName, withPart, withRange, withUnion, withCondition, withRequirement, withConstraint}
-use Rattle.tables.proofs.Listed.{listed-at, listed-more, listed-same}
+use Rattle.tables.specs.Tables.{Size, noSize, Tables, tables, sizeIs, sizeFrom, conditionIs, conditionFrom, conditionBy}
+use Rattle.tables.proofs.Listed.{listed-at}
 use Rattle.tables.proofs.Laws.{conditions-counted}
-use Rattle.conditions.specs.Sizes.{longest, sizeOf, sizesOf, Allowed, Earlier, Sized, HasSize}
-use Rattle.conditions.proofs.Longest.{longest-or, longest-and, too-wide, too-many}
+use Rattle.conditions.specs.Sizes.{longest, sizeOf, sizesOf, Sized, HasSize}
+use Rattle.conditions.proofs.Longest.{longest-or, longest-and}
+
+-- ---- what a row of the table says
+
+pub row-leaf : (x : C.Condition) → x .operator ≡ 2 → conditionIs x ≡ leaf (x .left)
+unfolding conditionIs conditionFrom conditionBy
+row-leaf x e = rw (eq-eqb (x .operator) 2 e)
+
+pub row-joined : (x : C.Condition) → (x .operator ≡ 2 → ⊥) → conditionIs x ≡ joined (operatorOf (x .operator)) (x .left) (x .right)
+unfolding conditionIs conditionFrom conditionBy
+row-joined x f = rw (ne-eqb (x .operator) 2 f)
 
 -- ---- a size as it is stored
 

@@ -25,7 +25,7 @@ sizeOf ds = record { count = length ds; longest = longest ds }
 unfoldable pub sizesOf : List Condition → List Size
 sizesOf cs = listed (length cs) (λ c. sizeOf (disjuncts cs c))
 
--- what refusal 6 leaves
+-- what refusal 6 leaves of conditions; none is without a disjunct
 pub record Allowed (ds : List Disjunct) : Type 0 where
   pub some : 1 ≤ length ds
   pub most : length ds ≤ 64
@@ -48,10 +48,11 @@ pub record HasSize (cs : List Condition) (c : ℕ) (z : S.Size) : Type 0 where
   pub counted : z .count ≡ length (disjuncts cs c)
   pub measured : z .longest ≡ longest (disjuncts cs c)
 
--- condition c has n disjuncts, and one at least
+-- condition c has n disjuncts
 pub record Counted (cs : List Condition) (c n : ℕ) : Type 0 where
   pub is : n ≡ length (disjuncts cs c)
   pub some : 1 ≤ n
+  pub most : n ≤ 64
 
 -- ---- the disjunct that the code carries
 

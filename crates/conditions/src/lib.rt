@@ -4,7 +4,7 @@ use tables::Counts;
 use tables::Size;
 ghost use mathlib.Core.Path.{_≡_};
 ghost use mathlib.Core.List.{[], _∷_};
-ghost use Prim.Native.Nat.{_+_, _<_, _≤_, max};
+ghost use Prim.Native.Nat.{_<_, max};
 ghost use lib.ListN.{length, getD};
 ghost use Rattle.rules.specs.Lists.{snoc};
 ghost use Rattle.rules.specs.Catalogue.{joined};
@@ -28,7 +28,7 @@ fn larger(a: u16, b: u16) -> u16
 }
 
 // The size of condition c.
-pub fn size(t: &[u8], k: Counts, c: usize) -> Size
+fn size(t: &[u8], k: Counts, c: usize) -> Size
     requires { ⌜ Laid k (length (now t)) ⌝ }
     requires { ⌜ Sized (tables k (now t)) ⌝ }
     requires { ⌜ c < k .conditions ⌝ }
@@ -37,11 +37,21 @@ pub fn size(t: &[u8], k: Counts, c: usize) -> Size
     tables::condition_size(t, k, c)
 }
 
+// How many disjuncts condition c has.
+pub fn count(t: &[u8], k: Counts, c: usize) -> usize
+    requires { ⌜ Laid k (length (now t)) ⌝ }
+    requires { ⌜ Sized (tables k (now t)) ⌝ }
+    requires { ⌜ c < k .conditions ⌝ }
+    ensures { λ r. ⌜ Counted (tables k (now (t .entry)) .conditions) c r ⌝ }
+{
+    size(t, k, c).count as usize
+}
+
 // The size of a condition with these halves.
 pub fn joined_size(t: &[u8], k: Counts, operator: u8, left: u16, right: u16) -> Size
     requires { ⌜ Laid k (length (now t)) ⌝ }
     requires { ⌜ Sized (tables k (now t)) ⌝ }
-    requires { ⌜ (left < k .conditions) × (right < k .conditions) × (operator ≤ 1) ⌝ }
+    requires { ⌜ (left < k .conditions) × (right < k .conditions) ⌝ }
     ensures { λ r. ⌜ sizeIs r ≡ sizeOf (disjuncts
         (snoc (tables k (now (t .entry)) .conditions) (joined (operatorOf operator) left right))
         (length (tables k (now (t .entry)) .conditions))) ⌝ }
@@ -89,16 +99,6 @@ enum Source {
     },
 }
 
-// How many disjuncts condition c has.
-pub fn count(t: &[u8], k: Counts, c: usize) -> usize
-    requires { ⌜ Laid k (length (now t)) ⌝ }
-    requires { ⌜ Sized (tables k (now t)) ⌝ }
-    requires { ⌜ c < k .conditions ⌝ }
-    ensures { λ r. ⌜ Counted (tables k (now (t .entry)) .conditions) c r ⌝ }
-{
-    size(t, k, c).count as usize
-}
-
 // Disjunct i of condition c: an `or` has those of its left half and then those of its right one, an `and` all those of its right half behind
 // each of its left one.
 fn source_of(t: &[u8], k: Counts, c: usize, i: usize) -> Source
@@ -116,11 +116,13 @@ fn source_of(t: &[u8], k: Counts, c: usize, i: usize) -> Source
     let right = it.right as usize;
     if it.operator == 0 {
         let count = count(t, k, right);
+        let outer = i / count;
+        let inner = i % count;
         return Source::Halves {
             left,
-            first: i / count,
+            first: outer,
             right,
-            second: i % count,
+            second: inner,
         };
     }
     let count = count(t, k, left);
@@ -164,14 +166,9 @@ pub fn disjunct_of(t: &[u8], k: Counts, c: usize, i: usize) -> Disjunct
     requires { ⌜ i < length (disjuncts (tables k (now t) .conditions) c) ⌝ }
     ensures { λ r. ⌜ Carries r (getD (disjuncts (tables k (now (t .entry)) .conditions) c) i []) ⌝ }
 {
-    disjunct_behind(
-        t,
-        k,
-        c,
-        i,
-        Disjunct {
-            ranges: [0; 16],
-            len: 0,
-        },
-    )
+    let none = Disjunct {
+        ranges: [0; 16],
+        len: 0,
+    };
+    disjunct_behind(t, k, c, i, none)
 }

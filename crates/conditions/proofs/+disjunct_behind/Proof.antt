@@ -1,168 +1,79 @@
+-- The proof of the cycle of calls {disjunct_behind}: it writes the ranges of disjunct i of condition c behind others. The measure is c: a half has a smaller number.
 use borrow.Author.Needs.{needs}
 use Prim.Native.Nat.{ℕ, _<_}
-use Rattle.conditions.proofs.Laws.{range-room, range-is, half-falls, half-asked, half-is}
-use Rattle.conditions.proofs.Laws.{left-falls, left-asked, right-falls, right-asked, halves-is}
 use borrow.Fn.Kinds.{In}
 use borrow.Fn.PlainCycle.{Measures, is, falls, and}
-use Rattle.conditions.proofs.disjunct_behind.Reads as disjunct-behind
-use Rattle.conditions.proofs.disjunct_behind.Kinds as disjunct-behind-kinds
-use Rattle.conditions.proofs.+disjunct_behind.Lts-disjunct_behind as disjunct-behind-lts
-use Rattle.conditions.proofs.pushed.Reads as pushed-reads
-use Rattle.conditions.proofs.source_of.Reads as source-of-reads
+use Rattle.conditions.proofs.Laws.{range-room, range-is, half-falls, half-asked, half-is}
+use Rattle.conditions.proofs.Laws.{left-falls, left-asked, right-falls, right-asked, halves-is}
+use Rattle.conditions.proofs.disjunct_behind.Reads as behind
+use Rattle.conditions.proofs.disjunct_behind.Kinds as kinds
+use Rattle.conditions.proofs.+disjunct_behind.Lts-disjunct_behind as lts
+use Rattle.conditions.proofs.pushed.Reads as pushed
+use Rattle.conditions.proofs.source_of.Reads as source-of
 use Rattle.conditions.proofs.+disjunct_behind.{statement}
 use Rattle.conditions.proofs.+disjunct_behind.Tie.{close}
 
-abbrev μ-disjunct-behind : Measures 1 disjunct-behind-kinds.ps ℕ
-μ-disjunct-behind κs a = a .1 .1 .0
+abbrev number : Measures 1 kinds.ps ℕ
+number κs a = a .1 .1 .0
 
-abbrev disjunct-behind-at : ℕ → In 1 disjunct-behind-kinds.ps
-disjunct-behind-at t =
-    and
-    1
-    disjunct-behind-kinds.ps
-    (is 1 disjunct-behind-kinds.ps μ-disjunct-behind t)
-    disjunct-behind.Pre
+-- what `disjunct_behind` is given at condition number t, and what a call of it asks below t
+abbrev at : ℕ → In 1 kinds.ps
+at t = and 1 kinds.ps (is 1 kinds.ps number t) behind.Pre
 
-abbrev disjunct-behind-below : ℕ → In 1 disjunct-behind-kinds.ps
-disjunct-behind-below t =
-    and
-    1
-    disjunct-behind-kinds.ps
-    (falls 1 disjunct-behind-kinds.ps _<_ μ-disjunct-behind t)
-    disjunct-behind.Pre
+abbrev below : ℕ → In 1 kinds.ps
+below t = and 1 kinds.ps (falls 1 kinds.ps _<_ number t) behind.Pre
 
-disjunct-behind-source-of-requires : (t : ℕ) → disjunct-behind-lts.Need-source-of-requires (
-  source-of-reads.Asked,
-  source-of-reads.Learnt,
-  pushed-reads.Asked,
-  pushed-reads.Learnt,
-  disjunct-behind-below t,
-  disjunct-behind.Post,
-) (disjunct-behind-at t) disjunct-behind.Post
-disjunct-behind-source-of-requires t c κs = search needs
+abbrev claims : ℕ → lts.Claims
+claims t = (source-of.Asked, source-of.Learnt, pushed.Asked, pushed.Learnt, below t, behind.Post)
 
-disjunct-behind-enum-known-r : (t : ℕ) → disjunct-behind-lts.Need-enum-known-r (
-  source-of-reads.Asked,
-  source-of-reads.Learnt,
-  pushed-reads.Asked,
-  pushed-reads.Learnt,
-  disjunct-behind-below t,
-  disjunct-behind.Post,
-) (disjunct-behind-at t) disjunct-behind.Post
-disjunct-behind-enum-known-r t c = search needs
+module _ (t : ℕ) where
+  source-of-requires : lts.Need-source-of-requires (claims t) (at t) behind.Post
+  source-of-requires c κs = search needs
 
-disjunct-behind-pushed-requires : (t : ℕ) → disjunct-behind-lts.Need-pushed-requires (
-  source-of-reads.Asked,
-  source-of-reads.Learnt,
-  pushed-reads.Asked,
-  pushed-reads.Learnt,
-  disjunct-behind-below t,
-  disjunct-behind.Post,
-) (disjunct-behind-at t) disjunct-behind.Post
-disjunct-behind-pushed-requires t c κs = search (needs, range-room)
+  enum-known-r : lts.Need-enum-known-r (claims t) (at t) behind.Post
+  enum-known-r c = search needs
 
-disjunct-behind-enum-known-condition : (t : ℕ) → disjunct-behind-lts.Need-enum-known-condition (
-  source-of-reads.Asked,
-  source-of-reads.Learnt,
-  pushed-reads.Asked,
-  pushed-reads.Learnt,
-  disjunct-behind-below t,
-  disjunct-behind.Post,
-) (disjunct-behind-at t) disjunct-behind.Post
-disjunct-behind-enum-known-condition t c = search needs
+  pushed-requires : lts.Need-pushed-requires (claims t) (at t) behind.Post
+  pushed-requires c κs = search (needs, range-room)
 
-disjunct-behind-disjunct-behind-requires :
-    (t : ℕ) → disjunct-behind-lts.Need-disjunct-behind-requires (
-      source-of-reads.Asked,
-      source-of-reads.Learnt,
-      pushed-reads.Asked,
-      pushed-reads.Learnt,
-      disjunct-behind-below t,
-      disjunct-behind.Post,
-    ) (disjunct-behind-at t) disjunct-behind.Post
-disjunct-behind-disjunct-behind-requires t c κs = (search (needs, half-falls), search (needs, half-asked))
+  enum-known-condition : lts.Need-enum-known-condition (claims t) (at t) behind.Post
+  enum-known-condition c = search needs
 
-disjunct-behind-enum-known-left : (t : ℕ) → disjunct-behind-lts.Need-enum-known-left (
-  source-of-reads.Asked,
-  source-of-reads.Learnt,
-  pushed-reads.Asked,
-  pushed-reads.Learnt,
-  disjunct-behind-below t,
-  disjunct-behind.Post,
-) (disjunct-behind-at t) disjunct-behind.Post
-disjunct-behind-enum-known-left t c = search needs
+  half-requires : lts.Need-disjunct-behind-requires (claims t) (at t) behind.Post
+  half-requires c κs = (search (needs, half-falls), search (needs, half-asked))
 
-disjunct-behind-disjunct-behind-requires-2 :
-    (t : ℕ) → disjunct-behind-lts.Need-disjunct-behind-requires-2 (
-      source-of-reads.Asked,
-      source-of-reads.Learnt,
-      pushed-reads.Asked,
-      pushed-reads.Learnt,
-      disjunct-behind-below t,
-      disjunct-behind.Post,
-    ) (disjunct-behind-at t) disjunct-behind.Post
-disjunct-behind-disjunct-behind-requires-2 t c κs = (search (needs, left-falls), search (needs, left-asked))
+  enum-known-left : lts.Need-enum-known-left (claims t) (at t) behind.Post
+  enum-known-left c = search needs
 
-disjunct-behind-disjunct-behind-requires-3 :
-    (t : ℕ) → disjunct-behind-lts.Need-disjunct-behind-requires-3 (
-      source-of-reads.Asked,
-      source-of-reads.Learnt,
-      pushed-reads.Asked,
-      pushed-reads.Learnt,
-      disjunct-behind-below t,
-      disjunct-behind.Post,
-    ) (disjunct-behind-at t) disjunct-behind.Post
-disjunct-behind-disjunct-behind-requires-3 t c κs = (search (needs, right-falls), search (needs, right-asked))
+  left-requires : lts.Need-disjunct-behind-requires-2 (claims t) (at t) behind.Post
+  left-requires c κs = (search (needs, left-falls), search (needs, left-asked))
 
-disjunct-behind-returns : (t : ℕ) → disjunct-behind-lts.Need-returns (
-  source-of-reads.Asked,
-  source-of-reads.Learnt,
-  pushed-reads.Asked,
-  pushed-reads.Learnt,
-  disjunct-behind-below t,
-  disjunct-behind.Post,
-) (disjunct-behind-at t) disjunct-behind.Post
-disjunct-behind-returns t c = search (needs, range-is)
+  right-requires : lts.Need-disjunct-behind-requires-3 (claims t) (at t) behind.Post
+  right-requires c κs = (search (needs, right-falls), search (needs, right-asked))
 
-disjunct-behind-returns-2 : (t : ℕ) → disjunct-behind-lts.Need-returns-2 (
-  source-of-reads.Asked,
-  source-of-reads.Learnt,
-  pushed-reads.Asked,
-  pushed-reads.Learnt,
-  disjunct-behind-below t,
-  disjunct-behind.Post,
-) (disjunct-behind-at t) disjunct-behind.Post
-disjunct-behind-returns-2 t c = search (needs, half-is)
+  returns : lts.Need-returns (claims t) (at t) behind.Post
+  returns c = search (needs, range-is)
 
-disjunct-behind-returns-3 : (t : ℕ) → disjunct-behind-lts.Need-returns-3 (
-  source-of-reads.Asked,
-  source-of-reads.Learnt,
-  pushed-reads.Asked,
-  pushed-reads.Learnt,
-  disjunct-behind-below t,
-  disjunct-behind.Post,
-) (disjunct-behind-at t) disjunct-behind.Post
-disjunct-behind-returns-3 t c = search (needs, halves-is)
+  returns-2 : lts.Need-returns-2 (claims t) (at t) behind.Post
+  returns-2 c = search (needs, half-is)
+
+  returns-3 : lts.Need-returns-3 (claims t) (at t) behind.Post
+  returns-3 c = search (needs, halves-is)
 
 pub +disjunct-behind-spec : {M : Type 1} → statement M
-+disjunct-behind-spec = close μ-disjunct-behind λ t. disjunct-behind-lts.spec (
-  source-of-reads.Asked,
-  source-of-reads.Learnt,
-  pushed-reads.Asked,
-  pushed-reads.Learnt,
-  disjunct-behind-below t,
-  disjunct-behind.Post,
-)
-    (disjunct-behind-at t)
-    disjunct-behind.Post
-    (disjunct-behind-source-of-requires t)
-    (disjunct-behind-enum-known-r t)
-    (disjunct-behind-pushed-requires t)
-    (disjunct-behind-enum-known-condition t)
-    (disjunct-behind-disjunct-behind-requires t)
-    (disjunct-behind-enum-known-left t)
-    (disjunct-behind-disjunct-behind-requires-2 t)
-    (disjunct-behind-disjunct-behind-requires-3 t)
-    (disjunct-behind-returns t)
-    (disjunct-behind-returns-2 t)
-    (disjunct-behind-returns-3 t)
++disjunct-behind-spec =
+    close number λ t. lts.spec
+    (claims t)
+    (at t)
+    behind.Post
+    (source-of-requires t)
+    (enum-known-r t)
+    (pushed-requires t)
+    (enum-known-condition t)
+    (half-requires t)
+    (enum-known-left t)
+    (left-requires t)
+    (right-requires t)
+    (returns t)
+    (returns-2 t)
+    (returns-3 t)

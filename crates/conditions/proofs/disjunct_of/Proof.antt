@@ -1,3 +1,4 @@
+-- `conditions::disjunct_of` starts with no range; a disjunct has 16 at most.
 use borrow.Author.Needs.{needs}
 use Rattle.conditions.proofs.Laws.{asked-alone, carried}
 use Rattle.conditions.proofs.disjunct_of.Statement.{statement}

@@ -1,3 +1,4 @@
+-- `conditions::joined_size` works the size of a joined condition out from those of its halves.
 use borrow.Author.Needs.{needs}
 use Rattle.conditions.proofs.Sizing.{joined-and, joined-or, product-fits}
 use Rattle.conditions.proofs.joined_size.Statement.{statement}

@@ -1,3 +1,4 @@
+-- `conditions::pushed` stores one range more.
 use borrow.Author.Needs.{needs}
 use Rattle.conditions.proofs.Laws.{one-more}
 use Rattle.conditions.proofs.pushed.Statement.{statement}

@@ -1,3 +1,4 @@
+-- `conditions::size` gives the size that is stored, which in sized tables is that of the condition's disjuncts.
 use borrow.Author.Needs.{needs}
 use Rattle.conditions.proofs.Sizing.{size-known}
 use Rattle.conditions.proofs.size.Statement.{statement}

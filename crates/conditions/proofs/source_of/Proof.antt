@@ -1,3 +1,4 @@
+-- `conditions::source_of` says where disjunct i of condition c comes from.
 use borrow.Author.Needs.{needs}
 use Rattle.conditions.proofs.Laws.{left-given, right-given, from-leaf, from-and, from-left, from-right}
 use Rattle.conditions.proofs.source_of.Statement.{statement}
@@ -18,11 +19,11 @@ cast-right c = search needs
 count-requires : tie.Need-count-requires
 count-requires c κs = search (needs, right-given)
 
-div-t11 : tie.Need-div-t11
-div-t11 c = search needs
+div-outer : tie.Need-div-outer
+div-outer c = search needs
 
-rem-t12 : tie.Need-rem-t12
-rem-t12 c = search needs
+rem-inner : tie.Need-rem-inner
+rem-inner c = search needs
 
 returns-2 : tie.Need-returns-2
 returns-2 c = search (needs, from-and)
@@ -45,8 +46,8 @@ source-of-spec =
     cast-left
     cast-right
     count-requires
-    div-t11
-    rem-t12
+    div-outer
+    rem-inner
     returns-2
     count-requires-2
     returns-3
