@@ -1,6 +1,6 @@
 -- For callers: refusal 6 by sizes, and what keeps tables sized: a condition put with its right size, and whatever touches no condition.
 use mathlib.Core.Path.{_≡_, refl, sym, ap, _∙_}
-use mathlib.Core.Bool.{Bool}
+use mathlib.Core.Bool.{Bool, true, false}
 use mathlib.Core.List.{List, [], _∷_}
 use Prim.Native.Nat.{ℕ, _+_, _<_, _≤_}
 use native.Mathlib.Nat.{mul-le-mul}
@@ -9,6 +9,7 @@ use native.Mathlib.Decide.{decLt}
 use native.Mathlib.Omega.{arith}
 use lib.Dec.{ltb}
 use lib.ListN.{length}
+use borrow.Author.Tests.{lt-ltb, le-ltb}
 use Rattle.rules.specs.Lists.{snoc}
 use Rattle.rules.specs.Catalogue.{Operator, and, or, Part, Condition, leaf, joined, noCondition, Requirement, Constraint}
 use Rattle.rules.specs.Conditions.{Disjunct, combined, disjuncts, tooWide, tooManyDisjuncts}
@@ -35,11 +36,27 @@ module _ (z : S.Size) (ds : List Disjunct) (e : sizeIs z ≡ sizeOf ds) where
   pub too-wide-by : tooWide ds ≡ ltb 16 (z .longest)
   too-wide-by = rw (longest-is z ds e) (too-wide ds)
 
+  pub disjuncts-over : 64 < z .count → tooManyDisjuncts ds ≡ true
+  disjuncts-over h = too-many-by ∙ lt-ltb 64 (z .count) h
+
+  pub disjuncts-within : z .count ≤ 64 → tooManyDisjuncts ds ≡ false
+  disjuncts-within h = too-many-by ∙ le-ltb 64 (z .count) h
+
+  pub ranges-over : 16 < z .longest → tooWide ds ≡ true
+  ranges-over h = too-wide-by ∙ lt-ltb 16 (z .longest) h
+
+  pub ranges-within : z .longest ≤ 16 → tooWide ds ≡ false
+  ranges-within h = too-wide-by ∙ le-ltb 16 (z .longest) h
+
 -- ---- no condition more
 
 pub sized-same : (t t′ : Tables) → t′ .conditions ≡ t .conditions → t′ .sizes ≡ t .sizes → Sized t → Sized t′
 sized-same t t′ e f s =
     record { sizes = rw (e, f) (s .sizes); allowed = λ c h. rw e (s .allowed c (rw e at h)); earlier = λ c h. rw e (s .earlier c (rw e at h)) }
+
+-- the tables after a put, by those that it says it leaves
+pub sized-put : {k r : Counts} {b : List ℕ} {t : Tables} → Added k r b t → Sized t → Sized (tables r b)
+sized-put a s = rw (a .is) s
 
 module _ (t : Tables) (s : Sized t) where
   pub sized-name : (x : Bool) → Sized (withName t x)

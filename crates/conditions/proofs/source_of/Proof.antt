@@ -17,7 +17,7 @@ cast-right : tie.Need-cast-right
 cast-right c = search needs
 
 count-requires : tie.Need-count-requires
-count-requires c κs = search (needs, right-given)
+count-requires c κs = search (needs, left-given, right-given)
 
 div-outer : tie.Need-div-outer
 div-outer c = search needs
@@ -29,7 +29,7 @@ returns-2 : tie.Need-returns-2
 returns-2 c = search (needs, from-and)
 
 count-requires-2 : tie.Need-count-requires-2
-count-requires-2 c κs = search (needs, left-given)
+count-requires-2 c κs = search (needs, left-given, right-given)
 
 returns-3 : tie.Need-returns-3
 returns-3 c = search (needs, from-left)
