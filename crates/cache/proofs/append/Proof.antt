@@ -1,43 +1,36 @@
 use borrow.Author.Needs.{needs}
+use Prim.Native.Nat.{_-_}
+use Rattle.cache.specs.Areas.{catalogue}
+use Rattle.cache.proofs.Choices.{Appending, append-start, append-room, append-step, append-end}
 use Rattle.cache.proofs.append.Statement.{statement}
 use Rattle.cache.proofs.append.Tie as tie
-use Rattle.cache.proofs.append.Reads as reads
-use Rattle.cache.proofs.append.Lts as lts
-use Rattle.cache.proofs.push_chosen.Reads as push-chosen-reads
 
 abbrev Inv-loop : tie.InvT-loop
-Inv-loop marks unions t k r w out₀ n at₀ p₀ out at p = ?
+Inv-loop marks unions t k r w out₀ n at₀ p₀ out at p = Appending (catalogue k marks unions t) r w out₀ n out at p
 
 abbrev μ-loop : tie.MeasureT-loop
-μ-loop marks unions t k r w out₀ n at₀ p₀ out at p = ?
+μ-loop marks unions t k r w out₀ n at₀ p₀ out at p = k .parts - p
 
--- src/lib.rt:113:5
 loop-holds : tie.Need-loop-holds Inv-loop μ-loop
-loop-holds c = search needs
+loop-holds c = search (needs, append-start)
 
--- src/lib.rt:114:9
 push-chosen-requires : tie.Need-push-chosen-requires Inv-loop μ-loop
-push-chosen-requires c κs = search needs
+push-chosen-requires c κs = (search needs, (search (needs, append-room), search needs))
 
--- src/lib.rt:115:9
 add-p : tie.Need-add-p Inv-loop μ-loop
 add-p c = search needs
 
--- src/lib.rt:113:5
 loop-less : tie.Need-loop-less Inv-loop μ-loop
 loop-less c = search needs
 
--- src/lib.rt:113:5
 loop-again : tie.Need-loop-again Inv-loop μ-loop
-loop-again c = search needs
+loop-again c = search (needs, append-step)
 
--- src/lib.rt:106:1
 same-length : tie.Need-same-length Inv-loop μ-loop
 same-length c = search needs
 
--- src/lib.rt:106:1
 returns : tie.Need-returns Inv-loop μ-loop
-returns c = search needs
+returns c = search (needs, append-end)
 
 pub append-spec : {M : Type 1} → statement M
 append-spec =
