@@ -33,23 +33,22 @@ choice c r w = filter (chosen c r w) (upTo 0 (length (c .parts)))
 unfoldable pub numbers : ℕ → List ℕ → List ℕ
 numbers n bytes = take n (words bytes)
 
--- how many stand in a list; no more than there are parts
+-- n is a list's length, and no more than the ceiling of parts
 pub record Counted (n : ℕ) (xs : List ℕ) : Type 0 where
   pub is : n ≡ length xs
   pub most : n ≤ 1024
 
--- the first n numbers are this list
+-- the first n numbers are the list, whole
 pub record Written (out : List ℕ) (n : ℕ) (xs : List ℕ) : Type 0 where
   pub is : numbers n out ≡ xs
-  pub count : n ≡ length xs
-  pub most : n ≤ 1024
+  pub counted : Counted n xs
 
--- there is room for xs behind the first n numbers
+-- behind the first n numbers there is room for xs
 pub record Room (n : ℕ) (xs : List ℕ) (bytes : ℕ) : Type 0 where
   pub most : n + length xs ≤ 1024
   pub fits : 2048 ≤ bytes
 
--- they were written there
+-- xs was written there
 pub record Grown (out out′ : List ℕ) (n n′ : ℕ) (xs : List ℕ) : Type 0 where
   pub count : n′ ≡ n + length xs
   pub is : numbers n′ out′ ≡ numbers n out ++ xs

@@ -1,9 +1,10 @@
 // The lists that follow from a catalogue, after cache.rs: matching, non-matching and sorted parts of a range.
 // Membership is a look-up in the marks; each list is a pass over the part records, so it keeps their order.
+// A list is written as two-byte numbers. The unions are not read here: they are part of the catalogue that the contracts speak of.
 use tables::Counts;
 ghost use mathlib.Core.Path.{_≡_};
 ghost use mathlib.Core.List.{[], _∷_};
-ghost use Prim.Native.Nat.{_+_, _*_, _<_, _≤_};
+ghost use Prim.Native.Nat.{_+_, _<_, _≤_};
 ghost use lib.ListN.{length};
 ghost use Rattle.rules.specs.Lists.{listIf};
 ghost use Rattle.rules.specs.Candidates.{member, matching, nonMatching, sorted};
@@ -25,7 +26,11 @@ pub fn member(marks: &[u8], unions: &[u8], t: &[u8], k: Counts, r: usize, p: usi
     requires { ⌜ Held k (length (now marks)) (length (now unions)) (length (now t)) ⌝ }
     ensures { λ b. ⌜ b ≡ member (catalogue k (now (marks .entry)) (now (unions .entry)) (now (t .entry))) r p ⌝ }
 {
-    if r < k.ranges { marks::marked(marks, r, p) } else { false }
+    if r < k.ranges {
+        marks::marked(marks, r, p)
+    } else {
+        false
+    }
 }
 
 // Of a part of the range's name: is it asked for?
@@ -48,23 +53,9 @@ fn chosen(marks: &[u8], unions: &[u8], t: &[u8], k: Counts, r: usize, w: Choice,
     if tables::part_name(t, k, p) != tables::range_name(t, k, r) {
         return false;
     }
-    asked(w, member(marks, unions, t, k, r, p), tables::favoured(t, k, p))
-}
-
-// How many are asked for.
-fn count(marks: &[u8], unions: &[u8], t: &[u8], k: Counts, r: usize, w: Choice) -> usize
-    requires { ⌜ Held k (length (now marks)) (length (now unions)) (length (now t)) ⌝ }
-    ensures { λ n. ⌜ Counted n (choice (catalogue k (now (marks .entry)) (now (unions .entry)) (now (t .entry))) r w) ⌝ }
-{
-    let mut n = 0;
-    let mut p = 0;
-    while p < k.parts {
-        if chosen(marks, unions, t, k, r, w, p) {
-            n += 1;
-        }
-        p += 1;
-    }
-    n
+    let listed = member(marks, unions, t, k, r, p);
+    let favoured = tables::favoured(t, k, p);
+    asked(w, listed, favoured)
 }
 
 // ---- lists
@@ -103,7 +94,16 @@ fn push_chosen(
 }
 
 // All that are asked for.
-fn append(marks: &[u8], unions: &[u8], t: &[u8], k: Counts, r: usize, w: Choice, out: &mut [u8], n: usize) -> usize
+fn append(
+    marks: &[u8],
+    unions: &[u8],
+    t: &[u8],
+    k: Counts,
+    r: usize,
+    w: Choice,
+    out: &mut [u8],
+    n: usize,
+) -> usize
     requires { ⌜ Held k (length (now marks)) (length (now unions)) (length (now t)) ⌝ }
     requires { ⌜ Room n (choice (catalogue k (now marks) (now unions) (now t)) r w) (length (now out)) ⌝ }
     ensures { λ x. ⌜ Grown (now (out .entry)) (now (out .exit)) n x (choice (catalogue k (now (marks .entry)) (now (unions .entry)) (now (t .entry))) r w) ⌝ }
@@ -127,7 +127,14 @@ pub fn matching(marks: &[u8], unions: &[u8], t: &[u8], k: Counts, r: usize, out:
 }
 
 // The rest of the range's name.
-pub fn non_matching(marks: &[u8], unions: &[u8], t: &[u8], k: Counts, r: usize, out: &mut [u8]) -> usize
+pub fn non_matching(
+    marks: &[u8],
+    unions: &[u8],
+    t: &[u8],
+    k: Counts,
+    r: usize,
+    out: &mut [u8],
+) -> usize
     requires { ⌜ Held k (length (now marks)) (length (now unions)) (length (now t)) ⌝ }
     requires { ⌜ 2048 ≤ length (now out) ⌝ }
     ensures { λ n. ⌜ Written (now (out .exit)) n (nonMatching (catalogue k (now (marks .entry)) (now (unions .entry)) (now (t .entry))) r) ⌝ }
@@ -135,7 +142,7 @@ pub fn non_matching(marks: &[u8], unions: &[u8], t: &[u8], k: Counts, r: usize, 
     append(marks, unions, t, k, r, Choice::NonMatching, out, 0)
 }
 
-// The matching parts, the favoured one first.
+// The matching parts after the favoured step: the favoured one first.
 pub fn sorted(marks: &[u8], unions: &[u8], t: &[u8], k: Counts, r: usize, out: &mut [u8]) -> usize
     requires { ⌜ Held k (length (now marks)) (length (now unions)) (length (now t)) ⌝ }
     requires { ⌜ 2048 ≤ length (now out) ⌝ }
@@ -147,6 +154,42 @@ pub fn sorted(marks: &[u8], unions: &[u8], t: &[u8], k: Counts, r: usize, out: &
 
 // ---- counts
 
+// n, and one more if part p is asked for.
+fn count_chosen(
+    marks: &[u8],
+    unions: &[u8],
+    t: &[u8],
+    k: Counts,
+    r: usize,
+    w: Choice,
+    p: usize,
+    n: usize,
+) -> usize
+    requires { ⌜ Held k (length (now marks)) (length (now unions)) (length (now t)) ⌝ }
+    requires { ⌜ n ≤ 1024 ⌝ }
+    ensures { λ x. ⌜ x ≡ n + length (listIf (chosen (catalogue k (now (marks .entry)) (now (unions .entry)) (now (t .entry))) r w p) (p ∷ [])) ⌝ }
+{
+    if chosen(marks, unions, t, k, r, w, p) {
+        return n + 1;
+    }
+    n
+}
+
+// How many are asked for.
+fn count(marks: &[u8], unions: &[u8], t: &[u8], k: Counts, r: usize, w: Choice) -> usize
+    requires { ⌜ Held k (length (now marks)) (length (now unions)) (length (now t)) ⌝ }
+    ensures { λ n. ⌜ Counted n (choice (catalogue k (now (marks .entry)) (now (unions .entry)) (now (t .entry))) r w) ⌝ }
+{
+    let mut n = 0;
+    let mut p = 0;
+    while p < k.parts {
+        n = count_chosen(marks, unions, t, k, r, w, p, n);
+        p += 1;
+    }
+    n
+}
+
+// How many matching parts range r has.
 pub fn matching_count(marks: &[u8], unions: &[u8], t: &[u8], k: Counts, r: usize) -> usize
     requires { ⌜ Held k (length (now marks)) (length (now unions)) (length (now t)) ⌝ }
     ensures { λ n. ⌜ Counted n (matching (catalogue k (now (marks .entry)) (now (unions .entry)) (now (t .entry))) r) ⌝ }
@@ -154,6 +197,7 @@ pub fn matching_count(marks: &[u8], unions: &[u8], t: &[u8], k: Counts, r: usize
     count(marks, unions, t, k, r, Choice::Matching)
 }
 
+// How many non-matching parts.
 pub fn non_matching_count(marks: &[u8], unions: &[u8], t: &[u8], k: Counts, r: usize) -> usize
     requires { ⌜ Held k (length (now marks)) (length (now unions)) (length (now t)) ⌝ }
     ensures { λ n. ⌜ Counted n (nonMatching (catalogue k (now (marks .entry)) (now (unions .entry)) (now (t .entry))) r) ⌝ }

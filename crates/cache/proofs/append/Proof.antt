@@ -1,7 +1,8 @@
+-- `cache::append` writes a choice behind the first n numbers. The invariant: what stands there and what is left from part p on are the whole.
 use borrow.Author.Needs.{needs}
 use Prim.Native.Nat.{_-_}
 use Rattle.cache.specs.Areas.{catalogue}
-use Rattle.cache.proofs.Choices.{Appending, append-start, append-room, append-step, append-end}
+use Rattle.cache.proofs.Lists.{Appending, append-start, append-room, append-step, append-end}
 use Rattle.cache.proofs.append.Statement.{statement}
 use Rattle.cache.proofs.append.Tie as tie
 

@@ -1,5 +1,6 @@
+-- `cache::asked` says whether a part of the range's name is asked for.
 use borrow.Author.Needs.{needs}
-use Rattle.cache.proofs.Choices.{asked-matching, asked-rest, asked-favoured, asked-no-favoured, asked-other, asked-no-other}
+use Rattle.cache.proofs.Lists.{asked-matching, asked-rest, asked-favoured, asked-no-favoured, asked-other, asked-no-other}
 use Rattle.cache.proofs.asked.Statement.{statement}
 use Rattle.cache.proofs.asked.Tie as tie
 

@@ -1,5 +1,6 @@
+-- `cache::chosen` says whether part p is of the range's name and asked for.
 use borrow.Author.Needs.{needs}
-use Rattle.cache.proofs.Choices.{chosen-other, chosen-here}
+use Rattle.cache.proofs.Lists.{chosen-other, chosen-here}
 use Rattle.cache.proofs.chosen.Statement.{statement}
 use Rattle.cache.proofs.chosen.Tie as tie
 

@@ -1,8 +1,8 @@
+-- `cache::count` gives the length of a choice. The invariant: what was counted and what is left from part p on are the whole.
 use borrow.Author.Needs.{needs}
 use Prim.Native.Nat.{_-_}
 use Rattle.cache.specs.Areas.{catalogue}
-use mathlib.Core.Logic.{⊎-elim}
-use Rattle.cache.proofs.Choices.{Counting, count-start, count-step, count-skip, count-end}
+use Rattle.cache.proofs.Lists.{Counting, count-start, count-step, count-end}
 use Rattle.cache.proofs.count.Statement.{statement}
 use Rattle.cache.proofs.count.Tie as tie
 
@@ -15,11 +15,8 @@ abbrev μ-loop : tie.MeasureT-loop
 loop-holds : tie.Need-loop-holds Inv-loop μ-loop
 loop-holds c = search (needs, count-start)
 
-chosen-requires : tie.Need-chosen-requires Inv-loop μ-loop
-chosen-requires c κs = search needs
-
-add-n : tie.Need-add-n Inv-loop μ-loop
-add-n c = search needs
+count-chosen-requires : tie.Need-count-chosen-requires Inv-loop μ-loop
+count-chosen-requires c κs = search needs
 
 add-p : tie.Need-add-p Inv-loop μ-loop
 add-p c = search needs
@@ -28,7 +25,7 @@ loop-less : tie.Need-loop-less Inv-loop μ-loop
 loop-less c = search needs
 
 loop-again : tie.Need-loop-again Inv-loop μ-loop
-loop-again c = ⊎-elim (λ w. search (needs, count-step)) (λ w. search (needs, count-skip)) (c .if2 .came)
+loop-again c = search (needs, count-step)
 
 returns : tie.Need-returns Inv-loop μ-loop
 returns c = search (needs, count-end)
@@ -36,4 +33,4 @@ returns c = search (needs, count-end)
 pub count-spec : {M : Type 1} → statement M
 count-spec =
     tie.close
-    (tie.spec Inv-loop μ-loop loop-holds chosen-requires add-n add-p loop-less loop-again returns)
+    (tie.spec Inv-loop μ-loop loop-holds count-chosen-requires add-p loop-less loop-again returns)

@@ -1,5 +1,6 @@
+-- `cache::matching` writes the matching parts of a range.
 use borrow.Author.Needs.{needs}
-use Rattle.cache.proofs.Choices.{first-room, matching-written}
+use Rattle.cache.proofs.Lists.{first-room, matching-written}
 use Rattle.cache.proofs.matching.Statement.{statement}
 use Rattle.cache.proofs.matching.Tie as tie
 

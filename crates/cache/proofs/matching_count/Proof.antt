@@ -1,5 +1,6 @@
+-- `cache::matching_count` counts the matching parts of a range.
 use borrow.Author.Needs.{needs}
-use Rattle.cache.proofs.Choices.{matching-counted}
+use Rattle.cache.proofs.Lists.{matching-counted}
 use Rattle.cache.proofs.matching_count.Statement.{statement}
 use Rattle.cache.proofs.matching_count.Tie as tie
 

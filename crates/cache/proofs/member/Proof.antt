@@ -1,5 +1,6 @@
+-- `cache::member` says whether part p is a member of range r; past the ranges nothing is.
 use borrow.Author.Needs.{needs}
-use Rattle.cache.proofs.Choices.{member-in, member-past}
+use Rattle.cache.proofs.Lists.{member-in, member-past}
 use Rattle.cache.proofs.member.Statement.{statement}
 use Rattle.cache.proofs.member.Tie as tie
 

@@ -1,5 +1,6 @@
+-- `cache::non_matching` writes the non-matching parts of a range.
 use borrow.Author.Needs.{needs}
-use Rattle.cache.proofs.Choices.{first-room, non-matching-written}
+use Rattle.cache.proofs.Lists.{first-room, non-matching-written}
 use Rattle.cache.proofs.non_matching.Statement.{statement}
 use Rattle.cache.proofs.non_matching.Tie as tie
 

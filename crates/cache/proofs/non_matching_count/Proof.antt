@@ -1,5 +1,6 @@
+-- `cache::non_matching_count` counts the non-matching parts of a range.
 use borrow.Author.Needs.{needs}
-use Rattle.cache.proofs.Choices.{non-matching-counted}
+use Rattle.cache.proofs.Lists.{non-matching-counted}
 use Rattle.cache.proofs.non_matching_count.Statement.{statement}
 use Rattle.cache.proofs.non_matching_count.Tie as tie
 

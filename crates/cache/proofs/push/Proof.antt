@@ -1,5 +1,6 @@
+-- `cache::push` writes one number behind the first n.
 use borrow.Author.Needs.{needs}
-use Rattle.cache.proofs.Choices.{push-is}
+use Rattle.cache.proofs.Lists.{push-is}
 use Rattle.cache.proofs.push.Statement.{statement}
 use Rattle.cache.proofs.push.Tie as tie
 

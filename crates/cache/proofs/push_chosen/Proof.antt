@@ -1,5 +1,6 @@
+-- `cache::push_chosen` writes part p behind the first n numbers where it is asked for.
 use borrow.Author.Needs.{needs}
-use Rattle.cache.proofs.Choices.{push-room, push-chosen, push-none}
+use Rattle.cache.proofs.Lists.{push-room, push-one, push-none}
 use Rattle.cache.proofs.push_chosen.Statement.{statement}
 use Rattle.cache.proofs.push_chosen.Tie as tie
 
@@ -13,7 +14,7 @@ same-length : tie.Need-same-length
 same-length c = search needs
 
 returns : tie.Need-returns
-returns c = search (needs, push-chosen)
+returns c = search (needs, push-one)
 
 returns-2 : tie.Need-returns-2
 returns-2 c = search (needs, push-none)

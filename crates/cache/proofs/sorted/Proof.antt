@@ -1,5 +1,6 @@
+-- `cache::sorted` writes the matching parts of a range, the favoured first.
 use borrow.Author.Needs.{needs}
-use Rattle.cache.proofs.Choices.{first-room, others-room, sorted-written}
+use Rattle.cache.proofs.Lists.{first-room, others-room, sorted-written}
 use Rattle.cache.proofs.sorted.Statement.{statement}
 use Rattle.cache.proofs.sorted.Tie as tie
 

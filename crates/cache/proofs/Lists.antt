@@ -1,17 +1,16 @@
--- The functions of the cache against the definitions: a law for each way out of each.
+-- The functions of the cache against the definitions: a law for each way out of each, and the two passes over the parts.
 use mathlib.Core.Path.{_≡_, refl, ap, sym, _∙_}
 use mathlib.Core.Bool.{Bool, true, false, not, _&&_}
 use mathlib.Core.List.{List, [], _∷_, _++_, append-assoc, append-nil}
-use Prim.Native.Nat.{ℕ, zero, suc, _+_, _-_, _*_, _<_, _≤_, zero-le}
-use native.Mathlib.Nat.{add-zero}
+use Prim.Native.Nat.{ℕ, suc, _+_, _-_, _<_, _≤_}
 use native.Mathlib.Numerals.{add-one}
 use native.Mathlib.Omega.{arith}
 use lib.Dec.{eqb}
-use lib.ListN.{length, getD, set, take, length-append}
+use lib.ListN.{length, getD, set, length-append}
 use lib.Seq.{take-suc-set}
 use borrow.Author.Tests.{eq-eqb, ne-eqb}
 use Rattle.rules.specs.Lists.{filter, listIf, upTo}
-use Rattle.rules.specs.Catalogue.{Catalogue, noPart, partAt, rangeAt, nameOf, rangeName}
+use Rattle.rules.specs.Catalogue.{Catalogue, noPart, partAt, nameOf, rangeName}
 use Rattle.rules.specs.Candidates.{member, partsOf, matching, nonMatching, favouredFirst, sorted}
 use Rattle.rules.proofs.ListLaws.{length-filters, length-upTo}
 use Rattle.words.specs.Words.{words, words-in}
@@ -71,7 +70,6 @@ module _ (w : Choice) (m f : Bool) where
 -- ---- the definitions' lists are choices
 
 module _ {A : Type 0} (f : A → Bool) where
-  -- one passed over
   filter-head : (x : A) (xs : List A) → filter f (x ∷ xs) ≡ listIf (f x) (x ∷ []) ++ filter f xs
   unfolding filter listIf
   filter-head x xs = go (f x)
@@ -96,25 +94,29 @@ module _ {A : Type 0} (f : A → Bool) where
       go false e = e
 
 module _ (c : Catalogue) (r : ℕ) where
-  pub matching-is : choice c r Matching ≡ matching c r
-  unfolding choice chosen asked matching partsOf
-  matching-is = sym (filter-both (member c r) (λ (p : ℕ). eqb (nameOf c p) (rangeName c r)) (upTo 0 (length (c .parts))))
+  abbrev favoured : ℕ → Bool
+  favoured p = (partAt c p) .favoured
 
-  pub non-matching-is : choice c r NonMatching ≡ nonMatching c r
-  unfolding choice chosen asked nonMatching partsOf
-  non-matching-is = sym (filter-both (λ (p : ℕ). not (member c r p)) (λ (p : ℕ). eqb (nameOf c p) (rangeName c r)) (upTo 0 (length (c .parts))))
+  -- a test on the parts of the range's name, as one on all parts
+  of-name : (f : ℕ → Bool) → filter f (partsOf c (rangeName c r)) ≡ filter (λ (p : ℕ). eqb (nameOf c p) (rangeName c r) && f p) (upTo 0 (length (c .parts)))
+  unfolding partsOf
+  of-name f = filter-both f (λ (p : ℕ). eqb (nameOf c p) (rangeName c r)) (upTo 0 (length (c .parts)))
 
-  favoured-is : choice c r Favoured ≡ filter (λ (p : ℕ). (partAt c p) .favoured) (matching c r)
-  unfolding choice chosen asked matching partsOf
-  favoured-is =
-      sym (filter-both (λ (p : ℕ). (partAt c p) .favoured) (member c r) (partsOf c (rangeName c r))
-      ∙ filter-both (λ (p : ℕ). member c r p && (partAt c p) .favoured) (λ (p : ℕ). eqb (nameOf c p) (rangeName c r)) (upTo 0 (length (c .parts))))
+  matching-is : choice c r Matching ≡ matching c r
+  unfolding choice chosen asked matching
+  matching-is = sym (of-name (member c r))
 
-  others-is : choice c r Others ≡ filter (λ (p : ℕ). not ((partAt c p) .favoured)) (matching c r)
-  unfolding choice chosen asked matching partsOf
-  others-is =
-      sym (filter-both (λ (p : ℕ). not ((partAt c p) .favoured)) (member c r) (partsOf c (rangeName c r))
-      ∙ filter-both (λ (p : ℕ). member c r p && not ((partAt c p) .favoured)) (λ (p : ℕ). eqb (nameOf c p) (rangeName c r)) (upTo 0 (length (c .parts))))
+  non-matching-is : choice c r NonMatching ≡ nonMatching c r
+  unfolding choice chosen asked nonMatching
+  non-matching-is = sym (of-name (λ (p : ℕ). not (member c r p)))
+
+  favoured-is : choice c r Favoured ≡ filter favoured (matching c r)
+  unfolding choice chosen asked matching
+  favoured-is = sym (filter-both favoured (member c r) (partsOf c (rangeName c r)) ∙ of-name (λ (p : ℕ). member c r p && favoured p))
+
+  others-is : choice c r Others ≡ filter (λ (p : ℕ). not (favoured p)) (matching c r)
+  unfolding choice chosen asked matching
+  others-is = sym (filter-both (λ (p : ℕ). not (favoured p)) (member c r) (partsOf c (rangeName c r)) ∙ of-name (λ (p : ℕ). member c r p && not (favoured p)))
 
   sorted-is : choice c r Favoured ++ choice c r Others ≡ sorted c r
   unfolding sorted favouredFirst
@@ -126,9 +128,7 @@ module _ (c : Catalogue) (r : ℕ) where
   choice-most w = omega (arith, length-filters (chosen c r w) (upTo 0 (length (c .parts))), length-upTo 0 (length (c .parts)))
 
   sorted-most : length (choice c r Favoured) + length (choice c r Others) ≤ length (c .parts)
-  sorted-most =
-      let fewer = rw matching-is at (choice-most Matching) in
-      rw (favoured-is, others-is) (omega (arith, length-filters (λ (p : ℕ). (partAt c p) .favoured) (matching c r), fewer))
+  sorted-most = rw (favoured-is, others-is) (omega (arith, length-filters favoured (matching c r), rw matching-is at (choice-most Matching)))
 
 -- ---- a pass over the parts
 
@@ -136,63 +136,63 @@ module _ (c : Catalogue) (r : ℕ) where
 pub left : Catalogue → ℕ → Choice → ℕ → List ℕ
 left c r w p = filter (chosen c r w) (upTo p (length (c .parts) - p))
 
-module _ (c : Catalogue) (r : ℕ) (w : Choice) where
-  left-start : left c r w 0 ≡ choice c r w
+module _ (k : Counts) (m u t : List ℕ) (r : ℕ) (w : Choice) where
+  abbrev held : Catalogue
+  held = catalogue k m u t
+
+  left-start : left held r w 0 ≡ choice held r w
   unfolding left choice
   left-start =
-      let e : length (c .parts) - 0 ≡ length (c .parts) = omega arith in
+      let e : length (held .parts) - 0 ≡ length (held .parts) = omega arith in
       rw e
 
-  left-step : (p : ℕ) → p < length (c .parts) → left c r w p ≡ listIf (chosen c r w p) (p ∷ []) ++ left c r w (p + 1)
+  left-step : (p : ℕ) → p < k .parts → left held r w p ≡ listIf (chosen held r w p) (p ∷ []) ++ left held r w (p + 1)
   unfolding left upTo
   left-step p h =
-      let e : length (c .parts) - p ≡ suc (length (c .parts) - (p + 1)) = omega arith in
-      rw (e, add-one p) (filter-head (chosen c r w) p (upTo (suc p) (length (c .parts) - suc p)))
+      let e : length (held .parts) - p ≡ suc (length (held .parts) - (p + 1)) = omega (arith, parts-held k m u t) in
+      rw (e, add-one p) (filter-head (chosen held r w) p (upTo (suc p) (length (held .parts) - suc p)))
 
-  left-end : (p : ℕ) → length (c .parts) ≤ p → left c r w p ≡ []
+  left-length : (p : ℕ) → p < k .parts → length (left held r w p) ≡ length (listIf (chosen held r w p) (p ∷ [])) + length (left held r w (p + 1))
+  left-length p h = ap length (left-step p h) ∙ length-append (listIf (chosen held r w p) (p ∷ [])) (left held r w (p + 1))
+
+  left-end : (p : ℕ) → k .parts ≤ p → left held r w p ≡ []
   unfolding left upTo filter
   left-end p h =
-      let e : length (c .parts) - p ≡ 0 = omega arith in
+      let e : length (held .parts) - p ≡ 0 = omega (arith, parts-held k m u t) in
       rw e
 
+  held-most : Held k (length m) (length u) (length t) → length (choice held r w) ≤ 1024
+  held-most h = omega (arith, choice-most held r w, parts-held k m u t)
+
 -- ---- counting
+
+-- a part that is asked for counts 1, and any other 0
+module _ (n p : ℕ) {b a : Bool} (e : b ≡ a) where
+  pub count-one : b ≡ true → n + 1 ≡ n + length (listIf a (p ∷ []))
+  unfolding listIf
+  count-one d = rw (← e, d, listIf)
+
+  pub count-none : b ≡ false → n ≡ n + length (listIf a (p ∷ []))
+  unfolding listIf
+  count-none d = rw (← e, d, listIf) (omega arith)
 
 -- n were counted before part p
 pub record Counting (c : Catalogue) (r : ℕ) (w : Choice) (n p : ℕ) : Type 0 where
   pub most : length (choice c r w) ≤ 1024
   pub is : n + length (left c r w p) ≡ length (choice c r w)
 
-if-length : (b : Bool) (p : ℕ) → length (listIf b (p ∷ [])) ≤ 1
-unfolding listIf
-if-length true p = omega arith
-if-length false p = zero-le
-
 module _ (k : Counts) (m u t : List ℕ) (r : ℕ) (w : Choice) where
-  abbrev held : Catalogue
-  held = catalogue k m u t
+  pub count-start : Held k (length m) (length u) (length t) → Counting (catalogue k m u t) r w 0 0
+  count-start h = record { most = held-most k m u t r w h; is = rw (left-start k m u t r w) (omega arith) }
 
-  held-most : Held k (length m) (length u) (length t) → length (choice held r w) ≤ 1024
-  held-most h = omega (arith, choice-most held r w, parts-held k m u t)
+  module _ (n p : ℕ) (x : Counting (catalogue k m u t) r w n p) where
+    pub count-step : (n′ : ℕ) → p < k .parts → n′ ≡ n + length (listIf (chosen (catalogue k m u t) r w p) (p ∷ [])) → Counting (catalogue k m u t) r w n′ (p + 1)
+    count-step n′ h e = record { most = x .most; is = omega (arith, left-length k m u t r w p h) }
 
-  pub count-start : Held k (length m) (length u) (length t) → Counting held r w 0 0
-  count-start h = record { most = held-most h; is = rw (left-start held r w) (omega arith) }
-
-  pub count-step : (b : Bool) (n n′ p : ℕ) → Counting held r w n p → p < k .parts → b ≡ chosen held r w p → b ≡ true → n′ ≡ n + 1 → Counting held r w n′ (p + 1)
-  unfolding listIf
-  count-step b n n′ p x h e d g =
-      let s : left held r w p ≡ p ∷ left held r w (p + 1) = rw (← e, d, listIf) at (left-step held r w p (rw parts-held h)) in
-      record { most = x .most; is = omega (arith, rw s at (x .is)) }
-
-  pub count-skip : (b : Bool) (n n′ p : ℕ) → Counting held r w n p → p < k .parts → b ≡ chosen held r w p → b ≡ false → n′ ≡ n → Counting held r w n′ (p + 1)
-  unfolding listIf
-  count-skip b n n′ p x h e d g =
-      let s : left held r w p ≡ left held r w (p + 1) = rw (← e, d, listIf) at (left-step held r w p (rw parts-held h)) in
-      record { most = x .most; is = omega (arith, rw s at (x .is)) }
-
-  pub count-end : (n p : ℕ) → Counting held r w n p → k .parts ≤ p → Counted n (choice held r w)
-  count-end n p x h =
-      let f : n + length {A = ℕ} [] ≡ length (choice held r w) = rw (left-end held r w p (rw parts-held h)) at (x .is) in
-      record { is = omega arith; most = omega arith }
+    pub count-end : k .parts ≤ p → Counted n (choice (catalogue k m u t) r w)
+    count-end h =
+        let e = ap length (left-end k m u t r w p h) in
+        record { is = omega arith; most = omega arith }
 
 -- ---- writing
 
@@ -208,15 +208,15 @@ module _ (n p : ℕ) {b a : Bool} (e : b ≡ a) where
   unfolding listIf
   push-room d x = rw (← e, d, listIf) at x
 
-  pub push-chosen : {out out′ : List ℕ} {n′ : ℕ} → b ≡ true → Grown out out′ n n′ (p ∷ []) → Grown out out′ n n′ (listIf a (p ∷ []))
+  pub push-one : {out out′ : List ℕ} {n′ : ℕ} → b ≡ true → Grown out out′ n n′ (p ∷ []) → Grown out out′ n n′ (listIf a (p ∷ []))
   unfolding listIf
-  push-chosen d x = rw (← e, d, listIf) x
+  push-one d x = rw (← e, d, listIf) x
 
   pub push-none : {out : List ℕ} → b ≡ false → Grown out out n n (listIf a (p ∷ []))
   unfolding listIf
   push-none {out} d = rw (← e, d, listIf) (record { count = omega arith; is = sym (append-nil (numbers n out)) })
 
--- n numbers stand there once the parts before p are passed; n₀ at the start
+-- n numbers stand in `out` once the parts before p are passed; n₀ stood in out₀
 pub record Appending (c : Catalogue) (r : ℕ) (w : Choice) (out₀ : List ℕ) (n₀ : ℕ) (out : List ℕ) (n p : ℕ) : Type 0 where
   pub same-length : length out ≡ length out₀
   pub fits : 2048 ≤ length out
@@ -227,19 +227,12 @@ pub record Appending (c : Catalogue) (r : ℕ) (w : Choice) (out₀ : List ℕ) 
 module _ (k : Counts) (m u t : List ℕ) (r : ℕ) (w : Choice) (out₀ : List ℕ) (n₀ : ℕ) where
   pub append-start : Room n₀ (choice (catalogue k m u t) r w) (length out₀) → Appending (catalogue k m u t) r w out₀ n₀ out₀ n₀ 0
   append-start x =
-      let e = left-start (catalogue k m u t) r w in
+      let e = left-start k m u t r w in
       record { same-length = refl; fits = x .fits; most = x .most; count = rw e; is = rw e }
 
   module _ (out : List ℕ) (n p : ℕ) (x : Appending (catalogue k m u t) r w out₀ n₀ out n p) where
-    split : p < k .parts → left (catalogue k m u t) r w p ≡ listIf (chosen (catalogue k m u t) r w p) (p ∷ []) ++ left (catalogue k m u t) r w (p + 1)
-    split h = left-step (catalogue k m u t) r w p (rw parts-held h)
-
-    split-length : p < k .parts
-        → length (left (catalogue k m u t) r w p) ≡ length (listIf (chosen (catalogue k m u t) r w p) (p ∷ [])) + length (left (catalogue k m u t) r w (p + 1))
-    split-length h = ap length (split h) ∙ length-append (listIf (chosen (catalogue k m u t) r w p) (p ∷ [])) (left (catalogue k m u t) r w (p + 1))
-
     pub append-room : p < k .parts → Room n (listIf (chosen (catalogue k m u t) r w p) (p ∷ [])) (length out)
-    append-room h = record { most = omega (arith, split-length h); fits = x .fits }
+    append-room h = record { most = omega (arith, left-length k m u t r w p h); fits = x .fits }
 
     pub append-step : (out′ : List ℕ) (n′ : ℕ) → p < k .parts → Grown out out′ n n′ (listIf (chosen (catalogue k m u t) r w p) (p ∷ []))
         → length out′ ≡ length out → Appending (catalogue k m u t) r w out₀ n₀ out′ n′ (p + 1)
@@ -248,49 +241,51 @@ module _ (k : Counts) (m u t : List ℕ) (r : ℕ) (w : Choice) (out₀ : List �
           same-length = e ∙ x .same-length;
           fits = omega arith;
           most = x .most;
-          count = omega (arith, split-length h);
-          is = rw (g .is, append-assoc, ← split h) (x .is)
+          count = omega (arith, left-length k m u t r w p h);
+          is = rw (g .is, append-assoc, ← left-step k m u t r w p h) (x .is);
         }
 
     pub append-end : k .parts ≤ p → Grown out₀ out n₀ n (choice (catalogue k m u t) r w)
     append-end h =
-        let e = left-end (catalogue k m u t) r w p (rw parts-held h) in
-        let f : n + length {A = ℕ} [] ≡ n₀ + length (choice (catalogue k m u t) r w) = rw e at (x .count) in
+        let e = left-end k m u t r w p h in
+        let l = ap length e in
         record { count = omega arith; is = sym (append-nil (numbers n out)) ∙ rw e at (x .is) }
 
--- ---- lists and counts
+-- ---- the lists and their counts
 
-first-written : {out out′ : List ℕ} {n : ℕ} {xs ys : List ℕ} → xs ≡ ys → length xs ≤ 1024 → Grown out out′ 0 n xs → Written out′ n ys
-unfolding numbers
-first-written e h x = rw (← e) (record { is = x .is; count = omega arith; most = omega arith })
-
-module _ (k : Counts) (m u t : List ℕ) (r : ℕ) (h : Held k (length m) (length u) (length t)) where
-  pub first-room : {bytes : ℕ} (w : Choice) → 2048 ≤ bytes → Room 0 (choice (catalogue k m u t) r w) bytes
-  first-room w f = record { most = omega (arith, held-most k m u t r w h); fits = f }
-
+module _ (k : Counts) (m u t : List ℕ) (r : ℕ) where
   pub matching-counted : {n : ℕ} → Counted n (choice (catalogue k m u t) r Matching) → Counted n (matching (catalogue k m u t) r)
   matching-counted x = rw (← matching-is (catalogue k m u t) r) x
 
   pub non-matching-counted : {n : ℕ} → Counted n (choice (catalogue k m u t) r NonMatching) → Counted n (nonMatching (catalogue k m u t) r)
   non-matching-counted x = rw (← non-matching-is (catalogue k m u t) r) x
 
-  pub matching-written : {out out′ : List ℕ} {n : ℕ} → Grown out out′ 0 n (choice (catalogue k m u t) r Matching) → Written out′ n (matching (catalogue k m u t) r)
-  matching-written x = first-written (matching-is (catalogue k m u t) r) (held-most k m u t r Matching h) x
+  module _ (h : Held k (length m) (length u) (length t)) where
+    pub first-room : {bytes : ℕ} (w : Choice) → 2048 ≤ bytes → Room 0 (choice (catalogue k m u t) r w) bytes
+    first-room w f = record { most = omega (arith, held-most k m u t r w h); fits = f }
 
-  pub non-matching-written : {out out′ : List ℕ} {n : ℕ} → Grown out out′ 0 n (choice (catalogue k m u t) r NonMatching) → Written out′ n (nonMatching (catalogue k m u t) r)
-  non-matching-written x = first-written (non-matching-is (catalogue k m u t) r) (held-most k m u t r NonMatching h) x
-
-  module _ {out out₁ : List ℕ} {n : ℕ} (x : Grown out out₁ 0 n (choice (catalogue k m u t) r Favoured)) where
-    pub others-room : 2048 ≤ length out → length out₁ ≡ length out → Room n (choice (catalogue k m u t) r Others) (length out₁)
-    others-room f e = record { most = omega (arith, sorted-most (catalogue k m u t) r, parts-held k m u t); fits = omega arith }
-
-    pub sorted-written : {out₂ : List ℕ} {n′ : ℕ} → Grown out₁ out₂ n n′ (choice (catalogue k m u t) r Others) → Written out₂ n′ (sorted (catalogue k m u t) r)
+    first-written : {out out′ : List ℕ} {n : ℕ} (w : Choice) → Grown out out′ 0 n (choice (catalogue k m u t) r w) → Written out′ n (choice (catalogue k m u t) r w)
     unfolding numbers
-    sorted-written {n′ = n′} y =
-        let f : length (choice (catalogue k m u t) r Favoured) + length (choice (catalogue k m u t) r Others) ≡ length (sorted (catalogue k m u t) r) =
-        sym (length-append (choice (catalogue k m u t) r Favoured) (choice (catalogue k m u t) r Others)) ∙ ap length (sorted-is (catalogue k m u t) r) in
-        record {
-          is = y .is ∙ rw (x .is, sorted-is (catalogue k m u t) r);
-          count = omega arith;
-          most = omega (arith, sorted-most (catalogue k m u t) r, parts-held k m u t)
-        }
+    first-written w x = record { is = x .is; counted = record { is = omega arith; most = omega (arith, held-most k m u t r w h) } }
+
+    pub matching-written : {out out′ : List ℕ} {n : ℕ} → Grown out out′ 0 n (choice (catalogue k m u t) r Matching)
+        → Written out′ n (matching (catalogue k m u t) r)
+    matching-written x = rw (← matching-is (catalogue k m u t) r) (first-written Matching x)
+
+    pub non-matching-written : {out out′ : List ℕ} {n : ℕ} → Grown out out′ 0 n (choice (catalogue k m u t) r NonMatching)
+        → Written out′ n (nonMatching (catalogue k m u t) r)
+    non-matching-written x = rw (← non-matching-is (catalogue k m u t) r) (first-written NonMatching x)
+
+    module _ {out out₁ : List ℕ} {n : ℕ} (x : Grown out out₁ 0 n (choice (catalogue k m u t) r Favoured)) where
+      together : n + length (choice (catalogue k m u t) r Others) ≤ 1024
+      together = omega (arith, sorted-most (catalogue k m u t) r, parts-held k m u t)
+
+      pub others-room : 2048 ≤ length out → length out₁ ≡ length out → Room n (choice (catalogue k m u t) r Others) (length out₁)
+      others-room f e = record { most = together; fits = omega arith }
+
+      pub sorted-written : {out₂ : List ℕ} {n′ : ℕ} → Grown out₁ out₂ n n′ (choice (catalogue k m u t) r Others) → Written out₂ n′ (sorted (catalogue k m u t) r)
+      unfolding numbers
+      sorted-written y =
+          let l = length-append (choice (catalogue k m u t) r Favoured) (choice (catalogue k m u t) r Others) in
+          rw (← sorted-is (catalogue k m u t) r)
+          (record { is = y .is ∙ rw (x .is); counted = record { is = omega arith; most = omega (arith, together) } })
