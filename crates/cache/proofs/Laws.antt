@@ -6,7 +6,7 @@ use Prim.Native.Nat.{ℕ, zero, suc, _<_, _≤_}
 use native.Mathlib.Nat.{not-suc-le-zero, le-of-suc-le-suc}
 use native.Mathlib.Decide.{decLt}
 use native.Mathlib.Omega.{arith}
-use lib.ListN.{length, getD}
+use lib.ListN.{length, getD, List·getD-eq-default}
 use lib.Seq.{getD-take}
 use Rattle.rules.specs.Catalogue.{Range, Catalogue, noPart, partAt, noRange, rangeAt, nameOf, rangeName, severalAllowed}
 use Rattle.rules.specs.Catalogue.{noCondition, noRequirement, requirementAt, noConstraint, constraintAt, union}
@@ -160,6 +160,10 @@ module _ (k : Counts) (m u t : List ℕ) (r : ℕ) where
   pub sorted-part : (i : ℕ) → i < length (sorted (catalogue k m u t) r) → getD (sorted (catalogue k m u t) r) i 0 < k .parts
   sorted-part i h = all-at Given (sorted held r) sorted-given i h
 
-pub written-at : {out : List ℕ} {n : ℕ} {xs : List ℕ} → Written out n xs → (i : ℕ) → i < n → getD (words out) i 0 ≡ getD xs i 0
-unfolding numbers
-written-at {out} {n} x i h = sym (getD-take n (words out) i 0 h) ∙ ap (λ (l : List ℕ). getD l i 0) (x .is)
+module _ {out : List ℕ} {n : ℕ} {xs : List ℕ} (w : Written out n xs) (i : ℕ) where
+  pub written-at : (x : ℕ) → i < n → x ≡ getD (words out) i 0 → x ≡ getD xs i 0
+  unfolding numbers
+  written-at x h e = e ∙ sym (getD-take n (words out) i 0 h) ∙ ap (λ (l : List ℕ). getD l i 0) (w .is)
+
+  pub written-past : n ≤ i → 0 ≡ getD xs i 0
+  written-past h = sym (List·getD-eq-default xs 0 (omega arith))
