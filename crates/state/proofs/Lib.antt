@@ -1,1 +1,3 @@
+pub mod Changed
 pub mod Laws
+pub mod Rows
