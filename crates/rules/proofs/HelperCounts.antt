@@ -52,7 +52,7 @@ equal-once m (once {x = x} n (once {x = y} k p)) h =
     absurd (n (List·Memᴰ·head (h x (List·Memᴰ·head refl) ∙ sym (h y (List·Memᴰ·tail (List·Memᴰ·head refl))))))
 
 -- numbers below m without repeats are at most m
-few-below : (m : ℕ) {xs : List ℕ} → Once xs → ((x : ℕ) → x ∈ xs → x < m) → length xs ≤ m
+pub few-below : (m : ℕ) {xs : List ℕ} → Once xs → ((x : ℕ) → x ∈ xs → x < m) → length xs ≤ m
 few-below zero empty h = zero-le
 few-below zero (once {x = x} n p) h = absurd (not-suc-le-zero (h x (List·Memᴰ·head refl)))
 few-below (suc m) {xs} p h =
