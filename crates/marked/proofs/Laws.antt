@@ -9,7 +9,7 @@ use native.Mathlib.Numerals.{add-one}
 use native.Mathlib.Decide.{decLt}
 use native.Mathlib.Omega.{arith}
 use lib.Dec.{eqb}
-use lib.ListN.{length, getD, take, set, replicate, length-set, length-replicate, List·getD-eq-default}
+use lib.ListN.{length, getD, take, set, replicate, length-replicate, List·getD-eq-default}
 use lib.Seq.{length-take-le, take-suc, take-suc-set, take-all, getD-take, getD-set-same, getD-set-other}
 use borrow.Author.Tests.{eqb-true, eqb-false, eq-eqb, ne-eqb}
 use Rattle.rules.specs.Lists.{any, elem, snoc}
@@ -24,7 +24,7 @@ use Rattle.state.specs.Layout.{held, Fits}
 use Rattle.state.specs.Changed.{Changed, Blank}
 use Rattle.state.proofs.Changed.{stored-here, stored-other, changed-stored, changed-then, held-blank}
 use Rattle.state.proofs.Laws.{fixed}
-use Rattle.state.proofs.Sizes.{length-fixed, length-stored}
+use Rattle.state.proofs.Sizes.{length-fixed, length-stored, zero-stored}
 use Rattle.marked.specs.Marked.{listed, isMarked, Marked, Free, Pushed, Emptied}
 
 -- ---- what a list's marks say
@@ -162,12 +162,6 @@ pub clear-start : {l : Limits} {r m n : ℕ} {b : List ℕ} → Fits l (length b
 unfolding any
 clear-start f k = record { fits = f; same = refl; passed = zero-le; whole = k; lengths = refl; others = λ j _. refl; marks = λ x. refl }
 
-set-none : (xs : List ℕ) (x : ℕ) → getD (set xs x 0) x 0 ≡ 0
-set-none xs x = elim (decLt x (length xs)) [
-  | yes h ↦ getD-set-same xs x 0 0 h
-  | no h ↦ List·getD-eq-default (set xs x 0) 0 (rw length-set (omega arith))
-]
-
 module _ {l : Limits} {r m n i : ℕ} {b₀ b : List ℕ} (k : Clearing l r m n b₀ b i) (h : i < n) where
   passed-more : take (i + 1) (listed n r (held l b₀)) ≡ snoc (take i (listed n r (held l b₀))) (getD (held l b r) i 0)
   unfolding listed snoc
@@ -185,7 +179,7 @@ module _ {l : Limits} {r m n i : ℕ} {b₀ b : List ℕ} (k : Clearing l r m n 
 
       go : (c : Bool) → eqb y x ≡ c
           → getD (set (held l b m) x 0) y 0 ≡ cond (elem y (take i (listed n r (held l b₀))) || c) 0 (getD (held l b₀ m) y 0)
-      go true e = rw (eqb-true y x e, or-true (elem x (take i (listed n r (held l b₀))))) (set-none (held l b m) x)
+      go true e = rw (eqb-true y x e, or-true (elem x (take i (listed n r (held l b₀))))) (zero-stored (held l b m) x)
       go false e = getD-set-other (held l b m) x y 0 0 (eqb-false y x e) ∙ (k .marks y ∙ or-none (elem y (take i (listed n r (held l b₀)))) 0 (getD (held l b₀ m) y 0))
 
   pub clear-step : (x : ℕ) (b′ : List ℕ) → x ≡ getD (held l b r) i 0 → held l b′ ≡ stored (held l b) m x 0 → length b′ ≡ length b
