@@ -73,7 +73,7 @@ place-is r s p q h l = same-test _ _ there here
         and-both _ _ (eq-eqb _ (r * 128 + p / 8) (rw (i, j))) (eq-eqb _ (p % 8) (rw j))
 
 -- one bit set in one byte
-byte-set : (m : List ℕ) (at j b : ℕ) → at < length m → WithBit j (getD m at 0) b
+pub byte-set : (m : List ℕ) (at j b : ℕ) → at < length m → WithBit j (getD m at 0) b
     → (i k : ℕ) → bit k (getD (set m at b) i 0) ≡ ((eqb i at && eqb k j) || bit k (getD m i 0))
 byte-set m at j b h w i k = go (eqb i at) refl
   where

@@ -21,7 +21,7 @@ use Rattle.state.specs.Layout.{sizes, held, Fits}
 abbrev starts : List ℕ
 starts = 0 ∷ 2881 ∷ 3906 ∷ 4931 ∷ 4995 ∷ 5059 ∷ 5123 ∷ 6148 ∷ 7173 ∷ 8197 ∷ 9221 ∷ 10245 ∷ 11269 ∷ 11333 ∷ 15429 ∷ 16453 ∷ 16965 ∷ []
 
-abbrev fixed : List ℕ
+abbrev pub fixed : List ℕ
 fixed = 2881 ∷ 1025 ∷ 1025 ∷ 64 ∷ 64 ∷ 64 ∷ 1025 ∷ 1025 ∷ 1024 ∷ 1024 ∷ 1024 ∷ 1024 ∷ 64 ∷ 4096 ∷ 1024 ∷ 512 ∷ []
 
 more : (n j : ℕ) → n ≤ j → (j ≡ n → ⊥) → suc n ≤ j

@@ -1,1 +1,4 @@
+pub mod Changed
 pub mod Laws
+pub mod Rows
+pub mod Sizes

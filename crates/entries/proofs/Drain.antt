@@ -1,0 +1,110 @@
+-- For callers: a draw. The entries that pass a test go to the drawn ones, and the others move down, both in order.
+use mathlib.Core.Path.{_≡_, refl, sym, _∙_, ap}
+use mathlib.Core.Bool.{Bool, true, false, not}
+use mathlib.Core.List.{List, [], _∷_, _++_, append-assoc, append-nil}
+use Prim.Native.Nat.{ℕ, _+_, _<_, _≤_, zero-le}
+use native.Mathlib.Nat.{le-refl}
+use native.Mathlib.Numerals.{add-one}
+use native.Mathlib.Omega.{arith}
+use lib.ListN.{length, getD, take, drop}
+use lib.Seq.{take-suc, take-all, getD-drop, drop-drop}
+use Rattle.rules.specs.Lists.{filter, snoc, upTo}
+use Rattle.rules.proofs.MemberLaws.{filter-append, filter-pass, filter-stop}
+use Rattle.state.specs.declared.Limits.{Limits}
+use Rattle.state.proofs.Rows.{length-rows}
+use Rattle.entries.specs.declared.Entry.{Entry}
+use Rattle.entries.specs.Entries.{noEntry, entryOf, rowAt, waitingIn, drawnIn, PushedDrawn, Kept}
+
+pub length-waiting : (l : Limits) (n : ℕ) (b : List ℕ) → length (waitingIn l n b) ≡ n
+unfolding waitingIn
+length-waiting l n b = length-rows (λ i. rowAt b i) n
+
+pub length-drawn : (l : Limits) (n : ℕ) (b : List ℕ) → length (drawnIn l n b) ≡ n
+unfolding drawnIn
+length-drawn l n b = length-rows (λ i. rowAt b (l .waiting + i)) n
+
+pub none-waiting : (l : Limits) (b : List ℕ) → waitingIn l 0 b ≡ []
+unfolding waitingIn upTo
+none-waiting l b = refl
+
+pub none-drawn : (l : Limits) (b : List ℕ) → drawnIn l 0 b ≡ []
+unfolding drawnIn upTo
+none-drawn l b = refl
+
+-- i of n entries are looked at: j of them are kept, and d are drawn, where d₀ were before
+pub record Draining (l : Limits) (f : ℕ × ℕ → Bool) (n d₀ : ℕ) (b₀ : List ℕ) (i j d : ℕ) (b : List ℕ) : Type 0 where
+  pub passed : i ≤ n
+  pub fewer : j ≤ i
+  pub total : d + j ≡ d₀ + i
+  pub within : d₀ + n ≤ l .waiting
+  pub kept : waitingIn l j b ≡ filter (λ e. not (f e)) (take i (waitingIn l n b₀))
+  pub rest : drop i (waitingIn l n b) ≡ drop i (waitingIn l n b₀)
+  pub drawn : drawnIn l d b ≡ drawnIn l d₀ b₀ ++ filter f (take i (waitingIn l n b₀))
+
+pub draining-start : (l : Limits) (f : ℕ × ℕ → Bool) (n d : ℕ) (b : List ℕ) → d + n ≤ l .waiting → Draining l f n d b 0 0 d b
+unfolding filter waitingIn upTo
+draining-start l f n d b h =
+    record { passed = zero-le; fewer = zero-le; total = refl; within = h; kept = refl; rest = refl; drawn = sym (append-nil (drawnIn l d b)) }
+
+-- of the last one looked at, by a test that it passes or not
+module _ {A : Type 0} (f : A → Bool) where
+  filter-snoc : (xs : List A) (x : A) → f x ≡ true → filter f (snoc xs x) ≡ snoc (filter f xs) x
+  unfolding snoc
+  filter-snoc xs x e = filter-append f xs (x ∷ []) ∙ rw (filter-pass f x e)
+
+  filter-less : (xs : List A) (x : A) → f x ≡ false → filter f (snoc xs x) ≡ filter f xs
+  unfolding snoc
+  filter-less xs x e = filter-append f xs (x ∷ []) ∙ rw (filter-stop f x e, append-nil)
+
+module _ {l : Limits} {f : ℕ × ℕ → Bool} {n d₀ i j d : ℕ} {b₀ b : List ℕ} (r : Draining l f n d₀ b₀ i j d b) (h : i < n) where
+  -- the entry at place i is still the one that stood there at first
+  pub same-entry : getD (waitingIn l n b) i noEntry ≡ getD (waitingIn l n b₀) i noEntry
+  same-entry =
+      let z : i + 0 ≡ i = omega arith in
+      ap (λ (k : ℕ). getD (waitingIn l n b) k noEntry) (sym z)
+      ∙ (sym (getD-drop i (waitingIn l n b) 0 noEntry)
+      ∙ (ap (λ (es : List (ℕ × ℕ)). getD es 0 noEntry) (r .rest) ∙ (getD-drop i (waitingIn l n b₀) 0 noEntry ∙ ap (λ (k : ℕ). getD (waitingIn l n b₀) k noEntry) z)))
+
+  looked : (x : ℕ × ℕ) → x ≡ getD (waitingIn l n b) i noEntry → take (i + 1) (waitingIn l n b₀) ≡ snoc (take i (waitingIn l n b₀)) x
+  unfolding snoc
+  looked x e = rw (add-one, e, same-entry) (take-suc (waitingIn l n b₀) i noEntry (omega (arith, length-waiting l n b₀)))
+
+  rest-less : (es : List (ℕ × ℕ)) → drop i es ≡ drop i (waitingIn l n b₀) → drop (i + 1) es ≡ drop (i + 1) (waitingIn l n b₀)
+  rest-less es e = sym (drop-drop 1 i es) ∙ (ap (drop 1) e ∙ drop-drop 1 i (waitingIn l n b₀))
+
+  pub draining-keep : (e : Entry) (j′ : ℕ) (b′ : List ℕ) → entryOf e ≡ getD (waitingIn l n b) i noEntry → f (entryOf e) ≡ false → Kept l n i j b j′ b′
+      → Draining l f n d₀ b₀ (i + 1) j′ d b′
+  draining-keep e j′ b′ q t k =
+      record {
+        passed = omega arith;
+        fewer = omega (arith, k .count, r .fewer);
+        total = omega (arith, k .count, r .total);
+        within = r .within;
+        kept = k .waiting ∙ rw (← q, r .kept, looked (entryOf e) q) (sym (filter-snoc (λ x. not (f x)) (take i (waitingIn l n b₀)) (entryOf e) (rw t)));
+        rest = k .rest ∙ rest-less (waitingIn l n b) (r .rest);
+        drawn = k .drawn d ∙ (r .drawn ∙ rw (looked (entryOf e) q, filter-less f (take i (waitingIn l n b₀)) (entryOf e) t));
+      }
+
+  pub draining-draw : (e : Entry) (d′ : ℕ) (b′ : List ℕ) → entryOf e ≡ getD (waitingIn l n b) i noEntry → f (entryOf e) ≡ true
+      → PushedDrawn l d (entryOf e) b d′ b′ → Draining l f n d₀ b₀ (i + 1) j d′ b′
+  draining-draw e d′ b′ q t k =
+      record {
+        passed = omega arith;
+        fewer = omega (arith, r .fewer);
+        total = omega (arith, k .count, r .total);
+        within = r .within;
+        kept = k .waiting j (omega (arith, r .fewer, r .within)) ∙ (r .kept ∙ rw (looked (entryOf e) q, filter-less (λ x. not (f x)) (take i (waitingIn l n b₀)) (entryOf e) (rw t)));
+        rest = ap (drop (i + 1)) (k .waiting n (omega (arith, r .within))) ∙ rest-less (waitingIn l n b) (r .rest);
+        drawn = k .drawn ∙ rw (r .drawn, looked (entryOf e) q, filter-snoc f (take i (waitingIn l n b₀)) (entryOf e) t) (unfold snoc in append-assoc (drawnIn l d₀ b₀) (filter f (take i (waitingIn l n b₀))) (entryOf e ∷ []));
+      }
+
+-- all are looked at: 01, "Draw removes exactly the entries that then hold, in order"
+pub record Drained (l : Limits) (f : ℕ × ℕ → Bool) (n d₀ : ℕ) (b₀ : List ℕ) (j d : ℕ) (b : List ℕ) : Type 0 where
+  pub total : d + j ≡ d₀ + n
+  pub waiting : waitingIn l j b ≡ filter (λ e. not (f e)) (waitingIn l n b₀)
+  pub drawn : drawnIn l d b ≡ drawnIn l d₀ b₀ ++ filter f (waitingIn l n b₀)
+
+pub draining-end : {l : Limits} {f : ℕ × ℕ → Bool} {n d₀ i j d : ℕ} {b₀ b : List ℕ} → Draining l f n d₀ b₀ i j d b → n ≤ i → Drained l f n d₀ b₀ j d b
+draining-end {l} {f} {n} {d₀} {i} {j} {d} {b₀} {b} r h =
+    let all : take i (waitingIn l n b₀) ≡ waitingIn l n b₀ = take-all i (waitingIn l n b₀) (omega (arith, length-waiting l n b₀)) in
+    record { total = omega (arith, r .total, r .passed); waiting = rw all at (r .kept); drawn = rw all at (r .drawn) }
