@@ -1,0 +1,70 @@
+-- Values of variables and literals: what one decision more changes, and a literal's value from its variable's.
+use mathlib.Core.Path.{_≡_, refl, sym, _∙_, ap}
+use mathlib.Core.Logic.{_≢_}
+use mathlib.Core.Bool.{Bool, true, false, false≢true}
+use mathlib.Core.List.{List, [], _∷_, _++_}
+use Prim.Native.Nat.{ℕ, zero, suc, _<_, _≤_}
+use native.Mathlib.Decide.{ℕ-discrete}
+use native.Mathlib.Omega.{arith}
+use lib.Dec.{eqb}
+use borrow.Author.Tests.{eq-eqb, ne-eqb}
+use Rattle.rules.specs.Truth.{same}
+use Rattle.rules.specs.Lists.{snoc}
+use Rattle.rules.specs.Literal.{Literal, pos}
+use Rattle.rules.specs.Decisions.{Decision, Evaluation, undecided, satisfied, falsified, decidedAs, evaluate, isUndecided}
+use Rattle.rules.proofs.Bools.{by-cases}
+use Rattle.rules.proofs.Each.{Each}
+use Rattle.rules.proofs.Evaluation.{Undecided, undecided-out, undecided-in}
+use Rattle.clause.specs.declared.Value.{Value}
+use Rattle.clause.specs.declared.Value.the-variants as values
+use Rattle.clause.specs.Literals.{valueOf, held}
+use Rattle.decision_tracker.specs.Tracking.{seen, numberOf}
+
+-- ---- one decision more
+
+pub evaluate-other : (ds : List Decision) (d : Decision) (l : Literal) → (l .variable ≡ d .variable → ⊥) → evaluate (snoc ds d) l ≡ evaluate ds l
+unfolding evaluate snoc
+evaluate-other [] d l n = rw (ne-eqb (l .variable) (d .variable) n, evaluate)
+evaluate-other (e ∷ ds) d l n =
+    by-cases (eqb (l .variable) (e .variable)) (λ q. rw (q, evaluate)) (λ q. rw (q, evaluate) (evaluate-other ds d l n))
+
+pub evaluate-new : {ds : List Decision} (d : Decision) (l : Literal) → Undecided ds (l .variable) → l .variable ≡ d .variable
+    → evaluate (snoc ds d) l ≡ decidedAs (same (l .positive) (d .value)) (d .level)
+unfolding evaluate snoc
+evaluate-new d l Each.nil e = rw (eq-eqb (l .variable) (d .variable) e, evaluate)
+evaluate-new d l (Each.cons {x} n ns) e = rw (ne-eqb (l .variable) (x .variable) (λ q. n (sym q)), evaluate) (evaluate-new d l ns e)
+
+-- ---- without the level
+
+pub seen-decided : (b : Bool) (k : ℕ) → seen (decidedAs b k) ≡ valueOf b
+unfolding seen decidedAs
+seen-decided true k = refl
+seen-decided false k = refl
+
+held-value : (l : Literal) (b : Bool) → held l (valueOf b) ≡ valueOf (same (l .positive) b)
+unfolding held
+held-value l true = refl
+held-value l false = refl
+
+-- a literal has its variable's value, or the opposite one
+pub literal-value : (ds : List Decision) (l : Literal) → held l (seen (evaluate ds (pos (l .variable)))) ≡ seen (evaluate ds l)
+unfolding evaluate
+literal-value [] l = unfold seen held in refl
+literal-value (d ∷ ds) l =
+    by-cases (eqb (l .variable) (d .variable))
+    (λ q. rw (q, evaluate, seen-decided (d .value) (d .level), seen-decided (same (l .positive) (d .value)) (d .level)) (held-value l (d .value)))
+    (λ q. rw (q, evaluate) (literal-value ds l))
+
+-- ---- for callers: what a value that was read says
+
+module _ (e : Evaluation) where
+  pub seen-undecided : seen e ≡ values.Undecided → isUndecided e ≡ true
+  seen-undecided = go e
+    where
+      not-one : _≡_ {A = ℕ} 0 1 → ⊥
+      not-one z = omega arith
+
+      go : (e : Evaluation) → seen e ≡ values.Undecided → isUndecided e ≡ true
+      go undecided q = refl
+      go (satisfied k) q = unfold seen in (let z : _≡_ {A = ℕ} 0 1 = cc in absurd (not-one z))
+      go (falsified k) q = unfold seen in (let z : _≡_ {A = ℕ} 0 1 = cc in absurd (not-one z))
