@@ -3,6 +3,7 @@ use mathlib.Core.Path.{_≡_, refl, sym, _∙_, ap, subst}
 use mathlib.Core.Logic.{_≢_}
 use mathlib.Core.Bool.{Bool, true, false}
 use mathlib.Core.List.{List, [], _∷_, map}
+use mathlib.Core.Option.{none, some}
 use Prim.Native.Nat.{ℕ, zero, suc, _+_, _*_, _-_, _<_, _≤_}
 use native.Mathlib.Numerals.{add-one}
 use native.Mathlib.Decide.{decLt, ℕ-discrete}
@@ -29,7 +30,7 @@ use Rattle.state.specs.Changed.{Changed, Blank}
 use Rattle.state.proofs.Changed.{stored-here, stored-other, changed-stored, changed-none, changed-then, changed-within, length-values, length-decisions}
 use Rattle.state.proofs.Rows.{length-rows, row-at, rows-more, rows-same}
 use Rattle.decision_tracker.specs.declared.Decision as code
-use Rattle.decision_tracker.specs.Tracking.{decisionBy, decisionOf, decisionIn, decisions, noDecision, seen, numberOf, Kept, Free, Rowed, Told, Dropped}
+use Rattle.decision_tracker.specs.Tracking.{clauseBy, decisionBy, decisionOf, decisionIn, decisions, noDecision, seen, numberOf, Kept, Free, Rowed, Told, Dropped}
 use Rattle.decision_tracker.proofs.Lists.{filter-all, filter-last, each-first, pairwise-first, pairwise-last, few}
 use Rattle.decision_tracker.proofs.Values.{evaluate-other, evaluate-new, seen-decided, literal-value}
 
@@ -54,6 +55,26 @@ module _ {js : List ℕ} {st st′ : ℕ → List ℕ} (c : Changed js st st′)
 pub kept-none : (l : Limits) (st : ℕ → List ℕ) → Blank 17 st → Kept l 0 st
 unfolding decisions upTo evaluate seen numberOf
 kept-none l st z = record { room = omega arith; values = z .zeros; below = Each.nil; once = Pairwise.nil }
+
+pub decisions-none : (st : ℕ → List ℕ) → decisions 0 st ≡ []
+unfolding decisions upTo
+decisions-none st = refl
+
+-- the clause i, as a row has it
+pub clause-some : (i : ℕ) → clauseBy (i + 1) ≡ some i
+unfolding clauseBy
+clause-some i = rw add-one
+
+pub clause-none : clauseBy 0 ≡ none
+unfolding clauseBy
+clause-none = refl
+
+-- one step after another
+pub told-then : {l : Limits} {d e : ℕ} {ds es : List Decision} {st st′ st″ : ℕ → List ℕ} → Told l d ds st st′ → Told l e es st′ st″ → Told l e es st st″
+told-then g h = record { kept = h .kept; is = h .is; rest = changed-then (g .rest) (h .rest) }
+
+pub told-count : {l : Limits} {d : ℕ} {ds : List Decision} {st st′ : ℕ → List ℕ} → Told l d ds st st′ → d ≡ length ds
+told-count {d = d} {st′ = st′} g = sym (count d st′) ∙ ap length (g .is)
 
 -- while a variable below n is undecided, there are fewer than n decisions
 pub fewer : (n x : ℕ) {ds : List Decision} → Each (λ (e : Decision). e .variable < n) ds → Pairwise (λ (e f : Decision). e .variable ≢ f .variable) ds

@@ -11,14 +11,14 @@ use borrow.Author.Tests.{eq-eqb, ne-eqb}
 use Rattle.rules.specs.Truth.{same}
 use Rattle.rules.specs.Lists.{snoc}
 use Rattle.rules.specs.Literal.{Literal, pos}
-use Rattle.rules.specs.Decisions.{Decision, Evaluation, undecided, satisfied, falsified, decidedAs, evaluate, isUndecided}
+use Rattle.rules.specs.Decisions.{Decision, Evaluation, undecided, satisfied, falsified, decidedAs, evaluate, isUndecided, isFalsified, isSatisfied}
 use Rattle.rules.proofs.Bools.{by-cases}
 use Rattle.rules.proofs.Each.{Each}
 use Rattle.rules.proofs.Evaluation.{Undecided, undecided-out, undecided-in}
 use Rattle.clause.specs.declared.Value.{Value}
 use Rattle.clause.specs.declared.Value.the-variants as values
 use Rattle.clause.specs.Literals.{valueOf, held}
-use Rattle.decision_tracker.specs.Tracking.{seen, numberOf}
+use Rattle.decision_tracker.specs.Tracking.{seen, saysUndecided, saysFalse, saysTrue}
 
 -- ---- one decision more
 
@@ -55,16 +55,26 @@ literal-value (d ∷ ds) l =
     (λ q. rw (q, evaluate, seen-decided (d .value) (d .level), seen-decided (same (l .positive) (d .value)) (d .level)) (held-value l (d .value)))
     (λ q. rw (q, evaluate) (literal-value ds l))
 
--- ---- for callers: what a value that was read says
+-- ---- for callers: the tests on an evaluation, by the value that was read
 
-module _ (e : Evaluation) where
-  pub seen-undecided : seen e ≡ values.Undecided → isUndecided e ≡ true
-  seen-undecided = go e
-    where
-      not-one : _≡_ {A = ℕ} 0 1 → ⊥
-      not-one z = omega arith
+pub undecided-seen : (e : Evaluation) → isUndecided e ≡ saysUndecided (seen e)
+unfolding seen
+undecided-seen undecided = refl
+undecided-seen (satisfied k) = refl
+undecided-seen (falsified k) = refl
 
-      go : (e : Evaluation) → seen e ≡ values.Undecided → isUndecided e ≡ true
-      go undecided q = refl
-      go (satisfied k) q = unfold seen in (let z : _≡_ {A = ℕ} 0 1 = cc in absurd (not-one z))
-      go (falsified k) q = unfold seen in (let z : _≡_ {A = ℕ} 0 1 = cc in absurd (not-one z))
+pub falsified-seen : (e : Evaluation) → isFalsified e ≡ saysFalse (seen e)
+unfolding seen
+falsified-seen undecided = refl
+falsified-seen (satisfied k) = refl
+falsified-seen (falsified k) = refl
+
+pub satisfied-seen : (e : Evaluation) → isSatisfied e ≡ saysTrue (seen e)
+unfolding seen
+satisfied-seen undecided = refl
+satisfied-seen (satisfied k) = refl
+satisfied-seen (falsified k) = refl
+
+-- a variable that reads as undecided
+pub reads-undecided : (ds : List Decision) (x : ℕ) (v : Value) → v ≡ seen (evaluate ds (pos x)) → v ≡ values.Undecided → isUndecided (evaluate ds (pos x)) ≡ true
+reads-undecided ds x v e q = undecided-seen (evaluate ds (pos x)) ∙ rw (← e, q)

@@ -51,6 +51,22 @@ numberOf Undecided = 0
 numberOf False = 1
 numberOf True = 2
 
+-- what a value says
+abbrev pub saysUndecided : Value → Bool
+saysUndecided Undecided = true
+saysUndecided False = false
+saysUndecided True = false
+
+abbrev pub saysFalse : Value → Bool
+saysFalse Undecided = false
+saysFalse False = true
+saysFalse True = false
+
+abbrev pub saysTrue : Value → Bool
+saysTrue Undecided = false
+saysTrue False = false
+saysTrue True = true
+
 -- there are d decisions, each of another variable, and every variable has its value
 pub record Kept (l : Limits) (d : ℕ) (st : ℕ → List ℕ) : Type 0 where
   pub room : d ≤ l .variables
