@@ -4,17 +4,17 @@ use mathlib.Core.Logic.{_≢_}
 use mathlib.Core.Bool.{Bool, true, false}
 use mathlib.Core.List.{List, [], _∷_, map}
 use mathlib.Core.Option.{none, some}
-use Prim.Native.Nat.{ℕ, zero, suc, _+_, _*_, _-_, _<_, _≤_}
+use Prim.Native.Nat.{ℕ, _+_, _*_, _-_, _<_, _≤_}
 use native.Mathlib.Numerals.{add-one}
 use native.Mathlib.Decide.{decLt, ℕ-discrete}
 use native.Mathlib.Omega.{arith}
 use lib.Dec.{eqb, leb}
 use lib.ListN.{length, getD, set, length-set, length-map, List·getD-eq-default}
-use lib.Seq.{getD-set-same, getD-set-other, set-out}
+use lib.Seq.{getD-set-same, getD-set-other}
 use borrow.Author.Tests.{le-leb, lt-leb}
-use Rattle.rules.specs.Lists.{any, all, elem, snoc, upTo, filter}
+use Rattle.rules.specs.Lists.{any, all, elem, snoc, upTo}
 use Rattle.rules.specs.Literal.{Literal, pos}
-use Rattle.rules.specs.Decisions.{Decision, undecided, evaluate, isUndecided, lastLevel, upToLevel}
+use Rattle.rules.specs.Decisions.{Decision, evaluate, isUndecided, lastLevel, upToLevel}
 use Rattle.rules.proofs.Each.{Each, each-imp, each-snoc, each-map, Pairwise, pairwise-snoc}
 use Rattle.rules.proofs.Evaluation.{Undecided, undecided-out, undecided-in}
 use Rattle.rules.proofs.Levels.{Rising, last-highest}
@@ -27,7 +27,7 @@ use Rattle.clause.specs.Literals as literals
 use Rattle.state.specs.declared.Limits.{Limits}
 use Rattle.state.specs.Layout.{held, Fits}
 use Rattle.state.specs.Changed.{Changed, Blank}
-use Rattle.state.proofs.Changed.{stored-here, stored-other, changed-stored, changed-none, changed-then, changed-within, length-values, length-decisions}
+use Rattle.state.proofs.Changed.{stored-here, changed-stored, changed-none, changed-then, changed-within, length-values, length-decisions}
 use Rattle.state.proofs.Rows.{length-rows, row-at, rows-more, rows-same}
 use Rattle.decision_tracker.specs.declared.Decision as code
 use Rattle.decision_tracker.specs.Tracking.{clauseBy, decisionBy, decisionOf, decisionIn, decisions, noDecision, seen, numberOf, Kept, Free, Rowed, Told, Dropped}
@@ -81,8 +81,8 @@ pub fewer : (n x : ℕ) {ds : List Decision} → Each (λ (e : Decision). e .var
     → x < n → isUndecided (evaluate ds (pos x)) ≡ true → length ds < n
 fewer n x {ds} b o h u =
     let e : length (x ∷ map (λ (d : Decision). d .variable) ds) ≤ n =
-        few n (x ∷ map (λ (d : Decision). d .variable) ds) (Each.cons h (each-map (λ (d : Decision). d .variable) ds b))
-        (Pairwise.cons (each-map (λ (d : Decision). d .variable) ds (each-imp (λ d n q. n (sym q)) (undecided-out ds (pos x) u))) (variables o)) in
+    few n (x ∷ map (λ (d : Decision). d .variable) ds) (Each.cons h (each-map (λ (d : Decision). d .variable) ds b))
+    (Pairwise.cons (each-map (λ (d : Decision). d .variable) ds (each-imp (λ d n q. n (sym q)) (undecided-out ds (pos x) u))) (variables o)) in
     omega (arith, e, length-map ds (λ (d : Decision). d .variable))
   where
     variables : {ds : List Decision} → Pairwise (λ (e f : Decision). e .variable ≢ f .variable) ds → Pairwise (λ (x y : ℕ). x ≢ y) (map (λ (d : Decision). d .variable) ds)
@@ -208,8 +208,13 @@ module _ (w w′ : List ℕ) (d x y k c : ℕ) (e : w′ ≡ four w (4 * d) x y 
   row-before : (i : ℕ) → i < d → decisionIn w′ i ≡ decisionIn w i
   unfolding decisionIn
   row-before i g =
-      rw (e, four-before w (4 * d) _ _ _ _ (4 * i) (omega arith), four-before w (4 * d) _ _ _ _ (4 * i + 1) (omega arith),
-          four-before w (4 * d) _ _ _ _ (4 * i + 2) (omega arith), four-before w (4 * d) _ _ _ _ (4 * i + 3) (omega arith))
+      rw (
+        e,
+        four-before w (4 * d) _ _ _ _ (4 * i) (omega arith),
+        four-before w (4 * d) _ _ _ _ (4 * i + 1) (omega arith),
+        four-before w (4 * d) _ _ _ _ (4 * i + 2) (omega arith),
+        four-before w (4 * d) _ _ _ _ (4 * i + 3) (omega arith),
+      )
 
   row-new : decisionIn w′ d ≡ decisionBy x (eqb y 1) k c
   unfolding decisionIn
@@ -220,8 +225,16 @@ module _ (l : Limits) (d x y k c : ℕ) (b b₁ b₂ b₃ b₄ : List ℕ) (fits
     (e₃ : held l b₃ ≡ stored (held l b₂) 18 (4 * d + 2) k) (e₄ : held l b₄ ≡ stored (held l b₃) 18 (4 * d + 3) c) where
   at-18 : held l b₄ 18 ≡ four (held l b 18) (4 * d) x y k c
   at-18 =
-      rw (e₄, stored-here (held l b₃) 18 (4 * d + 3) c, e₃, stored-here (held l b₂) 18 (4 * d + 2) k, e₂, stored-here (held l b₁) 18 (4 * d + 1) y, e₁,
-          stored-here (held l b) 18 (4 * d) x)
+      rw (
+        e₄,
+        stored-here (held l b₃) 18 (4 * d + 3) c,
+        e₃,
+        stored-here (held l b₂) 18 (4 * d + 2) k,
+        e₂,
+        stored-here (held l b₁) 18 (4 * d + 1) y,
+        e₁,
+        stored-here (held l b) 18 (4 * d) x,
+      )
 
   in-region : 4 * d + 3 < length (held l b 18)
   in-region = rw (length-decisions l b fits) (omega arith)
@@ -230,17 +243,19 @@ module _ (l : Limits) (d x y k c : ℕ) (b b₁ b₂ b₃ b₄ : List ℕ) (fits
   unfolding decisions
   one-more =
       rows-more (decisionIn (held l b₄ 18)) d
-      ∙ rw (rows-same (decisionIn (held l b₄ 18)) (decisionIn (held l b 18)) d (row-before (held l b 18) (held l b₄ 18) d x y k c at-18 in-region),
-            row-new (held l b 18) (held l b₄ 18) d x y k c at-18 in-region)
+      ∙ rw (
+        rows-same (decisionIn (held l b₄ 18)) (decisionIn (held l b 18)) d (row-before (held l b 18) (held l b₄ 18) d x y k c at-18 in-region),
+        row-new (held l b 18) (held l b₄ 18) d x y k c at-18 in-region,
+      )
 
   pub row-pushed : Rowed d (decisionBy x (eqb y 1) k c) (held l b) (held l b₄)
   row-pushed =
       record {
         is = one-more;
         rest =
-          changed-then (changed-stored 18 (4 * d) x e₁ (unfold any in refl))
-          (changed-then (changed-stored 18 (4 * d + 1) y e₂ (unfold any in refl))
-          (changed-then (changed-stored 18 (4 * d + 2) k e₃ (unfold any in refl)) (changed-stored 18 (4 * d + 3) c e₄ (unfold any in refl))));
+            changed-then (changed-stored 18 (4 * d) x e₁ (unfold any in refl))
+            (changed-then (changed-stored 18 (4 * d + 1) y e₂ (unfold any in refl))
+            (changed-then (changed-stored 18 (4 * d + 2) k e₃ (unfold any in refl)) (changed-stored 18 (4 * d + 3) c e₄ (unfold any in refl))));
       }
 
 -- ---- one decision more
@@ -271,12 +286,12 @@ module _ (l : Limits) (d y n : ℕ) (new : code.Decision) (b b₁ b₂ : List �
   decided =
       let r = room-for f in
       let kept : Kept l (d + 1) (held l b₂) =
-          record {
-            room = omega arith;
-            values = λ x. rw (at-17, is-now) (value-now x (ℕ-discrete x (new .variable)));
-            below = rw is-now (each-snoc (f .kept .below) (unfold decisionOf decisionBy in f .exists));
-            once = rw is-now (pairwise-snoc (f .kept .once) (unfold decisionOf decisionBy in free));
-          } in
+      record {
+        room = omega arith;
+        values = λ x. rw (at-17, is-now) (value-now x (ℕ-discrete x (new .variable)));
+        below = rw is-now (each-snoc (f .kept .below) (unfold decisionOf decisionBy in f .exists));
+        once = rw is-now (pairwise-snoc (f .kept .once) (unfold decisionOf decisionBy in free));
+      } in
       record {
         kept = kept;
         is = is-now;

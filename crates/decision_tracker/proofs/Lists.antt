@@ -2,17 +2,17 @@
 use mathlib.Core.Path.{_≡_, refl, sym, _∙_, ap}
 use mathlib.Core.Logic.{_≢_}
 use mathlib.Core.Bool.{Bool, true, false, not}
-use mathlib.Core.List.{List, [], _∷_, _++_, map}
-use Prim.Native.Nat.{ℕ, zero, suc, _+_, _<_, _≤_}
+use mathlib.Core.List.{List, [], _∷_}
+use Prim.Native.Nat.{ℕ, zero, suc, _<_, _≤_}
 use native.Mathlib.Nat.{not-suc-le-zero}
 use native.Mathlib.Decide.{ℕ-discrete}
 use native.Mathlib.Omega.{arith}
 use lib.Dec.{eqb}
-use lib.ListN.{length, length-map}
-use borrow.Author.Tests.{eq-eqb, ne-eqb, eqb-true, eqb-false}
+use lib.ListN.{length}
+use borrow.Author.Tests.{eq-eqb, ne-eqb, eqb-false}
 use Rattle.rules.specs.Lists.{filter, snoc}
 use Rattle.rules.proofs.Bools.{by-cases}
-use Rattle.rules.proofs.Each.{Each, each-append, each-left, each-right, each-imp, each-map, each-filter, each-passes, Pairwise, pairwise-filter}
+use Rattle.rules.proofs.Each.{Each, each-left, each-imp, each-filter, each-passes, Pairwise, pairwise-filter}
 
 module _ {A : Type 0} where
   pub filter-all : (f : A → Bool) {xs : List A} → Each (λ x. f x ≡ true) xs → filter f xs ≡ xs

@@ -1,11 +1,8 @@
 -- Values of variables and literals: what one decision more changes, and a literal's value from its variable's.
-use mathlib.Core.Path.{_≡_, refl, sym, _∙_, ap}
-use mathlib.Core.Logic.{_≢_}
-use mathlib.Core.Bool.{Bool, true, false, false≢true}
-use mathlib.Core.List.{List, [], _∷_, _++_}
-use Prim.Native.Nat.{ℕ, zero, suc, _<_, _≤_}
-use native.Mathlib.Decide.{ℕ-discrete}
-use native.Mathlib.Omega.{arith}
+use mathlib.Core.Path.{_≡_, refl, sym, _∙_}
+use mathlib.Core.Bool.{Bool, true, false}
+use mathlib.Core.List.{List, [], _∷_}
+use Prim.Native.Nat.{ℕ}
 use lib.Dec.{eqb}
 use borrow.Author.Tests.{eq-eqb, ne-eqb}
 use Rattle.rules.specs.Truth.{same}
@@ -14,7 +11,7 @@ use Rattle.rules.specs.Literal.{Literal, pos}
 use Rattle.rules.specs.Decisions.{Decision, Evaluation, undecided, satisfied, falsified, decidedAs, evaluate, isUndecided, isFalsified, isSatisfied}
 use Rattle.rules.proofs.Bools.{by-cases}
 use Rattle.rules.proofs.Each.{Each}
-use Rattle.rules.proofs.Evaluation.{Undecided, undecided-out, undecided-in}
+use Rattle.rules.proofs.Evaluation.{Undecided}
 use Rattle.clause.specs.declared.Value.{Value}
 use Rattle.clause.specs.declared.Value.the-variants as values
 use Rattle.clause.specs.Literals.{valueOf, held}

@@ -55,7 +55,12 @@ pub fn decision_at(s: &[u8], l: Limits, d: usize, i: usize) -> Decision
     let value = state::get(s, l, state::DECISIONS, 4 * i + 1) == 1;
     let level = state::get(s, l, state::DECISIONS, 4 * i + 2);
     let clause = state::get(s, l, state::DECISIONS, 4 * i + 3);
-    Decision { variable, value, level, clause }
+    Decision {
+        variable,
+        value,
+        level,
+        clause,
+    }
 }
 
 // The level of the last decision, or 0.
@@ -103,7 +108,13 @@ pub fn decide(s: &mut [u8], l: Limits, d: usize, new: Decision) -> usize
     ensures { λ r. ⌜ Told l r (snoc (decisions d (held l (now (s .entry)))) (decisionOf new)) (held l (now (s .entry))) (held l (now (s .exit))) ⌝ }
 {
     push_row(s, l, d, new.variable, bit(new.value), new.level, new.clause);
-    state::set(s, l, state::VALUES, new.variable as usize, number(new.value));
+    state::set(
+        s,
+        l,
+        state::VALUES,
+        new.variable as usize,
+        number(new.value),
+    );
     d + 1
 }
 

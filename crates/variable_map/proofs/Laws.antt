@@ -1,14 +1,14 @@
 -- The map against its code: a law for each way out of each function; and what callers use.
 use mathlib.Core.Path.{_≡_, refl, sym, _∙_, ap}
 use mathlib.Core.Bool.{true, false, false≢true}
-use mathlib.Core.List.{List, [], _∷_, map}
-use Prim.Native.Nat.{ℕ, zero, suc, _+_, _*_, _-_, _<_, _≤_}
+use mathlib.Core.List.{List, [], _∷_}
+use Prim.Native.Nat.{ℕ, suc, _+_, _*_, _-_, _<_, _≤_}
 use native.Mathlib.Omega.{arith}
 use lib.ListN.{length, getD, set, length-set, List·getD-eq-default}
 use lib.Seq.{getD-set-same, getD-set-other}
 use Rattle.rules.specs.Lists.{any, all, elem, snoc, upTo}
 use Rattle.rules.specs.Catalogue.{root}
-use Rattle.rules.specs.Variables.{Origin, chosen, sameOrigin, known, variableOf, withVariable}
+use Rattle.rules.specs.Variables.{Origin, chosen, sameOrigin, known, variableOf}
 use Rattle.rules.proofs.Bools.{by-cases}
 use Rattle.rules.proofs.Member.{not-one}
 use Rattle.rules.proofs.ListLaws.{length-snoc}
@@ -17,14 +17,13 @@ use Rattle.regions.specs.Regions.{stored}
 use Rattle.state.specs.declared.Limits.{Limits}
 use Rattle.state.specs.Layout.{held, Fits}
 use Rattle.state.specs.Changed.{Changed, Blank}
-use Rattle.state.proofs.Changed.{stored-here, stored-other, changed-stored, changed-none, changed-then, changed-within, length-slots, length-variables}
+use Rattle.state.proofs.Changed.{stored-here, changed-stored, changed-none, changed-then, changed-within, length-slots, length-variables}
 use Rattle.state.proofs.Rows.{length-rows, row-at, rows-more, rows-same}
 use Rattle.variable_map.specs.declared.Origin as code
-use Rattle.variable_map.specs.declared.Named.{Named}
 use Rattle.variable_map.specs.declared.Named.the-variants.{Variable, Full}
 use Rattle.variable_map.specs.Mapping.{originBy, originOf, inTables, slotOf, originIn, variables, place, Mapped, Free, Rowed, Grown, Made, Lacking, Naming}
 use Rattle.variable_map.proofs.Slots.{slot-apart, slot-below}
-use Rattle.variable_map.proofs.Places.{variable-new, place-new, place-other, place-known, place-unknown, placed, unplaced, with-known, with-new}
+use Rattle.variable_map.proofs.Places.{variable-new, place-new, place-other, place-known, placed, unplaced, with-known, with-new}
 
 -- ---- for callers
 
@@ -98,8 +97,12 @@ module _ (w w′ : List ℕ) (n : ℕ) (o : code.Origin) (e : w′ ≡ three w (
   row-before : (i : ℕ) → i < n → originIn w′ i ≡ originIn w i
   unfolding originIn
   row-before i g =
-      rw (e, three-before w (3 * n) _ _ _ (3 * i) (omega arith), three-before w (3 * n) _ _ _ (3 * i + 1) (omega arith),
-          three-before w (3 * n) _ _ _ (3 * i + 2) (omega arith))
+      rw (
+        e,
+        three-before w (3 * n) _ _ _ (3 * i) (omega arith),
+        three-before w (3 * n) _ _ _ (3 * i + 1) (omega arith),
+        three-before w (3 * n) _ _ _ (3 * i + 2) (omega arith),
+      )
 
   row-new : originIn w′ n ≡ originOf o
   unfolding originIn originOf
@@ -110,8 +113,14 @@ module _ (l : Limits) (n : ℕ) (o : code.Origin) (b b₁ b₂ b₃ : List ℕ) 
     (e₃ : held l b₃ ≡ stored (held l b₂) 16 (3 * n + 2) (o .bit)) where
   at-16 : held l b₃ 16 ≡ three (held l b 16) (3 * n) (o .kind) (o .number) (o .bit)
   at-16 =
-      rw (e₃, stored-here (held l b₂) 16 (3 * n + 2) (o .bit), e₂, stored-here (held l b₁) 16 (3 * n + 1) (o .number), e₁,
-          stored-here (held l b) 16 (3 * n) (o .kind))
+      rw (
+        e₃,
+        stored-here (held l b₂) 16 (3 * n + 2) (o .bit),
+        e₂,
+        stored-here (held l b₁) 16 (3 * n + 1) (o .number),
+        e₁,
+        stored-here (held l b) 16 (3 * n) (o .kind),
+      )
 
   in-region : 3 * n + 2 < length (held l b 16)
   in-region = rw (length-variables l b fits) (omega arith)
@@ -120,16 +129,18 @@ module _ (l : Limits) (n : ℕ) (o : code.Origin) (b b₁ b₂ b₃ : List ℕ) 
   unfolding variables
   one-more =
       rows-more (originIn (held l b₃ 16)) n
-      ∙ rw (rows-same (originIn (held l b₃ 16)) (originIn (held l b 16)) n (row-before (held l b 16) (held l b₃ 16) n o at-16 in-region),
-            row-new (held l b 16) (held l b₃ 16) n o at-16 in-region)
+      ∙ rw (
+        rows-same (originIn (held l b₃ 16)) (originIn (held l b 16)) n (row-before (held l b 16) (held l b₃ 16) n o at-16 in-region),
+        row-new (held l b 16) (held l b₃ 16) n o at-16 in-region,
+      )
 
   pub row-pushed : Rowed n (originOf o) (held l b) (held l b₃)
   row-pushed =
       record {
         is = one-more;
         rest =
-          changed-then (changed-stored 16 (3 * n) (o .kind) e₁ (unfold any in refl))
-          (changed-then (changed-stored 16 (3 * n + 1) (o .number) e₂ (unfold any in refl)) (changed-stored 16 (3 * n + 2) (o .bit) e₃ (unfold any in refl)));
+            changed-then (changed-stored 16 (3 * n) (o .kind) e₁ (unfold any in refl))
+            (changed-then (changed-stored 16 (3 * n + 1) (o .number) e₂ (unfold any in refl)) (changed-stored 16 (3 * n + 2) (o .bit) e₃ (unfold any in refl)));
       }
 
 -- ---- and its slot
@@ -161,7 +172,7 @@ module _ (l : Limits) (n k : ℕ) (o : Origin) (b b₁ b₂ : List ℕ) (fits : 
   pub pushed : Grown l (n + 1) (snoc (variables n (held l b)) o) (held l b) (held l b₂)
   pushed =
       let slots : (a : Origin) → inTables a ≡ true → getD (held l b₂ 0) (slotOf a) 0 ≡ place (variables (n + 1) (held l b₂)) a =
-          λ a h. rw (at-0, is-now) (by-cases (sameOrigin a o) (slot-same a h) (slot-other a h)) in
+      λ a h. rw (at-0, is-now) (by-cases (sameOrigin a o) (slot-same a h) (slot-other a h)) in
       record {
         mapped = record { room = omega (arith, f .room); slots = slots };
         is = is-now;

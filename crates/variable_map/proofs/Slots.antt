@@ -1,10 +1,10 @@
 -- Every origin that a catalogue can give has a slot of its own.
 use mathlib.Core.Path.{_≡_, refl, sym, _∙_, ap}
-use mathlib.Core.Bool.{Bool, true, false, _&&_, cond}
-use Prim.Native.Nat.{ℕ, _+_, _*_, _-_, _/_, _%_, _<_, _≤_}
+use mathlib.Core.Bool.{true, cond}
+use Prim.Native.Nat.{ℕ, _+_, _*_, _-_, _/_, _%_, _<_}
 use native.Mathlib.Omega.{arith}
-use lib.Dec.{eqb, ltb}
-use borrow.Author.Tests.{eq-eqb, ne-eqb, lt-ltb, le-ltb, ltb-true}
+use lib.Dec.{ltb}
+use borrow.Author.Tests.{ne-eqb, lt-ltb, le-ltb, ltb-true}
 use Rattle.rules.specs.Catalogue.{root, part, range, union}
 use Rattle.rules.specs.Variables.{Origin, chosen, forbid, one, violation, gate}
 use Rattle.rules.proofs.Bools.{and-left, and-right}
@@ -84,16 +84,31 @@ module _ (s n : ℕ) where
   unfolding unslot
   from-union e h =
       let q : s - 2113 ≡ n = omega arith in
-      rw (le-ltb s 1 (omega arith), le-ltb s 1025 (omega arith), le-ltb s 1089 (omega arith), le-ltb s 1601 (omega arith), le-ltb s 2113 (omega arith),
-          lt-ltb s 2241 (omega arith), q)
+      rw (
+        le-ltb s 1 (omega arith),
+        le-ltb s 1025 (omega arith),
+        le-ltb s 1089 (omega arith),
+        le-ltb s 1601 (omega arith),
+        le-ltb s 2113 (omega arith),
+        lt-ltb s 2241 (omega arith),
+        q,
+      )
 
   from-forbid : (j : ℕ) → s ≡ 2241 + 10 * n + j → j < 10 → unslot s ≡ forbid n j
   unfolding unslot
   from-forbid j e h =
       let q : (s - 2241) / 10 ≡ n = omega arith in
       let r : (s - 2241) % 10 ≡ j = omega arith in
-      rw (le-ltb s 1 (omega arith), le-ltb s 1025 (omega arith), le-ltb s 1089 (omega arith), le-ltb s 1601 (omega arith), le-ltb s 2113 (omega arith),
-          le-ltb s 2241 (omega arith), q, r)
+      rw (
+        le-ltb s 1 (omega arith),
+        le-ltb s 1025 (omega arith),
+        le-ltb s 1089 (omega arith),
+        le-ltb s 1601 (omega arith),
+        le-ltb s 2113 (omega arith),
+        le-ltb s 2241 (omega arith),
+        q,
+        r,
+      )
 
 unslot-slot : (o : Origin) → inTables o ≡ true → unslot (slotOf o) ≡ o
 unfolding inTables slotOf

@@ -21,10 +21,7 @@ pub struct Origin {
 }
 
 pub enum Named {
-    Variable {
-        count: usize,
-        variable: u16,
-    },
+    Variable { count: usize, variable: u16 },
     Full,
 }
 
@@ -66,7 +63,11 @@ pub fn origin_at(s: &[u8], l: Limits, n: usize, v: usize) -> Origin
         let bit = state::get(s, l, state::VARIABLES, 3 * v + 2);
         Origin { kind, number, bit }
     } else {
-        Origin { kind: 0, number: 0, bit: 0 }
+        Origin {
+            kind: 0,
+            number: 0,
+            bit: 0,
+        }
     }
 }
 
@@ -101,11 +102,17 @@ pub fn name(s: &mut [u8], l: Limits, n: usize, o: Origin) -> Named
 {
     let place = variable(s, l, n, o);
     if place > 0 {
-        return Named::Variable { count: n, variable: place - 1 };
+        return Named::Variable {
+            count: n,
+            variable: place - 1,
+        };
     }
     if n < l.variables {
         let count = push(s, l, n, o);
-        return Named::Variable { count, variable: n as u16 };
+        return Named::Variable {
+            count,
+            variable: n as u16,
+        };
     }
     Named::Full
 }
@@ -117,5 +124,14 @@ pub fn start(s: &mut [u8], l: Limits) -> usize
     requires { ⌜ 0 < l .variables ⌝ }
     ensures { λ r. ⌜ Grown l r (rules.start .variables) (held l (now (s .entry))) (held l (now (s .exit))) ⌝ }
 {
-    push(s, l, 0, Origin { kind: 0, number: 0, bit: 0 })
+    push(
+        s,
+        l,
+        0,
+        Origin {
+            kind: 0,
+            number: 0,
+            bit: 0,
+        },
+    )
 }
