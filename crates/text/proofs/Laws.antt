@@ -1,0 +1,250 @@
+-- Laws of what was written: one behind another, stopped, in two passes, and the pieces of a line.
+use mathlib.Core.Path.{_≡_, refl, ap, sym, _∙_}
+use mathlib.Core.Bool.{Bool, true, false, cond}
+use mathlib.Core.List.{List, [], _∷_, _++_, append-assoc, append-nil}
+use Prim.Native.Nat.{ℕ, zero, suc, _+_, _-_, _*_, _/_, _%_, _<_, _≤_}
+use native.Mathlib.Omega.{arith}
+use native.Mathlib.Numerals.{add-one}
+use native.Mathlib.Nat.{add-zero}
+use native.Mathlib.Decide.{decLt}
+use lib.Dec.{ltb, leb}
+use borrow.Author.Tests.{lt-ltb, le-ltb, ltb-true, ltb-false}
+use lib.ListN.{length, getD, set, take, drop, length-append, length-take}
+use lib.Seq.{sets, sets-eq, set-out, take-all, length-take-le, take-nil, take-suc}
+use Rattle.rules.specs.Lists.{concatMap}
+use Rattle.rules.specs.Listing.{digits, decimal, line, signed, ascii}
+use Rattle.text.specs.Text.{Wrote, fields, literalOf}
+
+-- ---- parts of lists
+
+take-append : (n : ℕ) (us vs : List ℕ) → take n (us ++ vs) ≡ take n us ++ take (n - length us) vs
+take-append zero us vs = let e : 0 - length us ≡ 0 = omega arith in rw e
+take-append (suc n) [] vs = let e : suc n - 0 ≡ suc n = omega arith in rw e
+take-append (suc n) (u ∷ us) vs =
+    let e : suc n - suc (length us) ≡ n - length us = omega arith in
+    rw e (ap (λ (l : List ℕ). u ∷ l) (take-append n us vs))
+
+sets-append : (o : List ℕ) (at : ℕ) (us vs : List ℕ) → sets o at (us ++ vs) ≡ sets (sets o at us) (at + length us) vs
+sets-append o at [] vs = rw add-zero
+sets-append o at (u ∷ us) vs =
+    let e : at + suc (length us) ≡ suc at + length us = omega arith in
+    rw e (sets-append (set o at u) (suc at) us vs)
+
+-- what is left of n places behind a list
+left : (n : ℕ) (l : List ℕ) → n - length (take n l) ≡ n - length l
+left n l = elim (decLt n (length l)) [
+  | yes h ↦ omega (arith, length-take-le n l (omega arith))
+  | no h ↦ rw (take-all n l (omega arith))
+]
+
+-- at most n are taken
+taken-within : (n : ℕ) (l : List ℕ) → length (take n l) ≤ n
+taken-within n l = elim (decLt n (length l)) [
+  | yes h ↦ omega (arith, length-take-le n l (omega arith))
+  | no h ↦ rw (take-all n l (omega arith)) (omega arith)
+]
+
+next-then : (room at r s : ℕ) (us vs : List ℕ) → r ≡ at + length (take (suc room - at) us) → s ≡ r + length (take (suc room - r) vs) → s ≡ at + length (take (suc room - at) (us ++ vs))
+next-then room at r s us vs e f =
+    let d : suc room - r ≡ suc room - at - length us = omega (arith, e, left (suc room - at) us) in
+    rw (take-append, length-append) (omega (arith, rw d at f, e))
+
+is-then : (room at r : ℕ) (us vs o : List ℕ) → r ≡ at + length (take (suc room - at) us) → sets (sets o at (take (room - at) us)) r (take (room - r) vs) ≡ sets o at (take (room - at) (us ++ vs))
+is-then room at r us vs o e = elim (decLt (length us) (room - at)) [
+  | yes h ↦
+      let q : take (room - at) us ≡ us = take-all (room - at) us (omega arith) in
+      let p : take (suc room - at) us ≡ us = take-all (suc room - at) us (omega arith) in
+      let d : r ≡ at + length us = e ∙ rw p in
+      let c : room - r ≡ room - at - length us = omega arith in
+      rw (take-append, c, q, d) (sym (sets-append o at us (take (room - at - length us) vs)))
+  | no h ↦
+      let c : room - at - length us ≡ 0 = omega arith in
+      let d : room - r ≡ 0 = omega (arith, left (suc room - at) us, e) in
+      rw (take-append, c, d, append-nil)
+]
+
+-- ---- one behind another
+
+module _ {room at r : ℕ} {o o1 us : List ℕ} where
+  pub then : {s : ℕ} {o2 vs : List ℕ} → Wrote room o at us r o1 → Wrote room o1 r vs s o2 → Wrote room o at (us ++ vs) s o2
+  then {s} {o2} {vs} f g = record { next = next-then room at r s us vs (f .next) (g .next); is = g .is ∙ rw (f .is) (is-then room at r us vs o (f .next)) }
+
+  -- once over, no byte more counts
+  pub stopped : (vs : List ℕ) → Wrote room o at us r o1 → room < r → Wrote room o at (us ++ vs) r o1
+  stopped vs f h =
+      let e : suc room - r ≡ 0 = omega arith in
+      let d : room - r ≡ 0 = omega arith in
+      record { next = next-then room at r r us vs (f .next) (rw e (omega arith)); is = f .is ∙ rw d at (is-then room at r us vs o (f .next)) }
+
+pub nothing : (room at : ℕ) (o : List ℕ) → Wrote room o at [] at o
+nothing room at o = record { next = rw take-nil (omega arith); is = rw take-nil }
+
+-- ---- a byte
+
+module _ (room at b : ℕ) (o : List ℕ) where
+  pub put-over : room < at → Wrote room o at (b ∷ []) at o
+  put-over h =
+      let e : suc room - at ≡ 0 = omega arith in
+      let d : room - at ≡ 0 = omega arith in
+      record { next = rw e (omega arith); is = rw d }
+
+  pub put-last : room ≤ at → at ≤ room → Wrote room o at (b ∷ []) (at + 1) o
+  put-last h k =
+      let e : suc room - at ≡ 1 = omega arith in
+      let d : room - at ≡ 0 = omega arith in
+      record { next = rw e (omega arith); is = rw d }
+
+  module _ (h : at < room) where
+    kept : (n : ℕ) → 0 < n → take n (b ∷ []) ≡ b ∷ []
+    kept n k = take-all n (b ∷ []) (omega arith)
+
+    pub put-in : Wrote room o at (b ∷ []) (at + 1) (set o at b)
+    put-in = record { next = rw (kept (suc room - at) (omega arith)) (omega arith); is = rw (kept (room - at) (omega arith)) }
+
+    pub put-out : length o ≤ at → Wrote room o at (b ∷ []) (at + 1) o
+    put-out k = record { next = put-in .next; is = sym (set-out o at b k) ∙ put-in .is }
+
+-- ---- a word, byte by byte
+
+-- at the head of the loop: i bytes of the word are written
+pub record Writing (room : ℕ) (bytes o₀ : List ℕ) (at₀ : ℕ) (o : List ℕ) (i a : ℕ) : Type 0 where
+  pub within : i ≤ length bytes
+  pub same : length o ≡ length o₀
+  pub wrote : Wrote room o₀ at₀ (take i bytes) a o
+
+module _ {room at : ℕ} {bytes o : List ℕ} where
+  pub word-start : Writing room bytes o at o 0 at
+  word-start = record { within = omega arith; same = refl; wrote = nothing room at o }
+
+  module _ {i a : ℕ} {o1 : List ℕ} where
+    pub word-step : {r b : ℕ} {o2 : List ℕ} → Writing room bytes o at o1 i a → i < length bytes → b ≡ getD bytes i 0 → length o2 ≡ length o1 → Wrote room o1 a (b ∷ []) r o2 → Writing room bytes o at o2 (i + 1) r
+    word-step {r} {b} {o2} f h e q g = record { within = omega arith; same = q ∙ f .same; wrote = rw (add-one, take-suc bytes i 0, ← e) (then (f .wrote) g) }
+
+    pub word-end : Writing room bytes o at o1 i a → length bytes ≤ i → Wrote room o at bytes a o1
+    word-end f h = rw (take-all i bytes h) at (f .wrote)
+
+-- ---- numbers in decimal
+
+by-ten : (n : ℕ) (P : Type 0) → (n < 10 → P) → (10 ≤ n → P) → P
+by-ten n P f g = elim (decLt n 10) [ yes h ↦ f h | no h ↦ g (omega arith) ]
+
+digits-one : (k n : ℕ) (acc : List ℕ) → n < 10 → digits (suc k) n acc ≡ (48 + n) ∷ acc
+unfolding digits
+digits-one k n acc h = rw (lt-ltb n 10 h, digits)
+
+digits-more : (k n : ℕ) (acc : List ℕ) → 10 ≤ n → digits (suc k) n acc ≡ digits k (n / 10) ((48 + n % 10) ∷ acc)
+unfolding digits
+digits-more k n acc h = rw (le-ltb n 10 h, digits)
+
+digits-append : (k n : ℕ) (acc : List ℕ) → digits k n acc ≡ digits k n [] ++ acc
+digits-append zero n acc = unfold digits in refl
+digits-append (suc k) n acc =
+    by-ten n _ (λ h. rw (digits-one k n acc h, digits-one k n [] h))
+    (λ h.
+      rw (digits-more k n acc h, digits-more k n [] h, digits-append k (n / 10) ((48 + n % 10) ∷ acc), digits-append k (n / 10) ((48 + n % 10) ∷ []), append-assoc))
+
+-- enough digits are enough
+digits-enough : (k j n : ℕ) (acc : List ℕ) → n < k → n < j → digits k n acc ≡ digits j n acc
+digits-enough zero j n acc p q = let no-such : ⊥ = omega arith in absurd no-such
+digits-enough (suc k) zero n acc p q = let no-such : ⊥ = omega arith in absurd no-such
+digits-enough (suc k) (suc j) n acc p q =
+    by-ten n _ (λ h. rw (digits-one k n acc h, digits-one j n acc h))
+    (λ h. rw (digits-more k n acc h, digits-more j n acc h) (digits-enough k j (n / 10) ((48 + n % 10) ∷ acc) (omega arith) (omega arith)))
+
+pub decimal-digit : (n : ℕ) → n < 10 → decimal n ≡ (48 + n) ∷ []
+unfolding decimal
+decimal-digit n h = digits-one n n [] h
+
+pub decimal-digits : (n : ℕ) → 10 ≤ n → decimal n ≡ decimal (n / 10) ++ ((48 + n % 10) ∷ [])
+unfolding decimal
+decimal-digits n h =
+    rw (digits-more n n [] h, digits-append n (n / 10) ((48 + n % 10) ∷ []), digits-enough n (suc (n / 10)) (n / 10) [] (omega arith) (omega arith))
+
+module _ {room at n r : ℕ} {o o1 : List ℕ} where
+  pub decimal-one : n < 10 → Wrote room o at ((48 + n) ∷ []) r o1 → Wrote room o at (decimal n) r o1
+  decimal-one h f = rw (decimal-digit n h) f
+
+  pub decimal-more : {s : ℕ} {o2 : List ℕ} → 10 ≤ n → Wrote room o at (decimal (n / 10)) r o1 → Wrote room o1 r ((48 + n % 10) ∷ []) s o2 → Wrote room o at (decimal n) s o2
+  decimal-more h f g = rw (decimal-digits n h) (then f g)
+
+-- ---- fields and lines
+
+pub field-is : {room at r s : ℕ} {o o1 o2 bs : List ℕ} → Wrote room o at (32 ∷ []) r o1 → Wrote room o1 r bs s o2 → Wrote room o at (32 ∷ bs) s o2
+field-is f g = then f g
+
+module _ {room at r a s : ℕ} {o o1 o2 o3 : List ℕ} (x : ℕ) (b : Bool) (f : Wrote room o at (32 ∷ []) r o1) where
+  pub literal-plus : b ≡ true → Wrote room o1 r (43 ∷ []) a o2 → Wrote room o2 a (decimal x) s o3 → Wrote room o at (32 ∷ signed (literalOf x b)) s o3
+  unfolding signed
+  literal-plus e g h = rw e (then f (then g h))
+
+  pub literal-minus : b ≡ false → Wrote room o1 r (45 ∷ []) a o2 → Wrote room o2 a (decimal x) s o3 → Wrote room o at (32 ∷ signed (literalOf x b)) s o3
+  unfolding signed
+  literal-minus e g h = rw e (then f (then g h))
+
+pub line-of : (f : List ℕ) (fs : List (List ℕ)) → line (f ∷ fs) ≡ f ++ (fields fs ++ (10 ∷ []))
+unfolding line fields concatMap
+line-of f [] = refl
+line-of f (g ∷ fs) = ap (λ (l : List ℕ). f ++ (32 ∷ l)) (line-of g fs ∙ sym (append-assoc g (fields fs) (10 ∷ [])))
+
+pub fields-append : (fs gs : List (List ℕ)) → fields (fs ++ gs) ≡ fields fs ++ fields gs
+unfolding fields concatMap
+fields-append [] gs = refl
+fields-append (f ∷ fs) gs = ap (λ (l : List ℕ). 32 ∷ l) (ap (λ (l : List ℕ). f ++ l) (fields-append fs gs) ∙ sym (append-assoc f (fields fs) (fields gs)))
+
+pub fields-none : (room at : ℕ) (o : List ℕ) → Wrote room o at (fields []) at o
+unfolding fields concatMap
+fields-none room at o = nothing room at o
+
+pub fields-one : {room at r : ℕ} {o o1 f : List ℕ} → Wrote room o at (32 ∷ f) r o1 → Wrote room o at (fields (f ∷ [])) r o1
+unfolding fields concatMap
+fields-one w = rw append-nil w
+
+module _ {room at r : ℕ} {o o1 : List ℕ} where
+  module _ {s : ℕ} {o2 f : List ℕ} (fs : List (List ℕ)) where
+    pub fields-first : Wrote room o at (32 ∷ f) r o1 → Wrote room o1 r (fields fs) s o2 → Wrote room o at (fields (f ∷ fs)) s o2
+    unfolding fields concatMap
+    fields-first v w = then v w
+
+    pub fields-last : Wrote room o at (fields fs) r o1 → Wrote room o1 r (32 ∷ f) s o2 → Wrote room o at (fields (fs ++ (f ∷ []))) s o2
+    fields-last v w = rw (fields-append fs (f ∷ [])) (then v (fields-one w))
+
+    pub line-is : {t : ℕ} {o3 : List ℕ} → Wrote room o at f r o1 → Wrote room o1 r (fields fs) s o2 → Wrote room o2 s (10 ∷ []) t o3 → Wrote room o at (line (f ∷ fs)) t o3
+    line-is u v w = rw (line-of f fs) (then u (then v w))
+
+  pub fields-then : {s : ℕ} {o2 : List ℕ} (fs gs : List (List ℕ)) → Wrote room o at (fields fs) r o1 → Wrote room o1 r (fields gs) s o2 → Wrote room o at (fields (fs ++ gs)) s o2
+  fields-then fs gs v w = rw (fields-append fs gs) (then v w)
+
+-- ---- two passes
+
+-- what the two passes over the same bytes leave: the pass that measures says whether they fit and gives their number, the other the area
+pub record Passed (area bs : List ℕ) (n : ℕ) (area′ : List ℕ) : Type 0 where
+  pub fits : n ≤ length area → length bs ≤ length area
+  pub tight : length bs ≤ length area → n ≤ length area
+  pub count : n ≤ length area → n ≡ length bs
+  pub is : n ≤ length area → area′ ≡ bs ++ drop (length bs) area
+
+module _ (room : ℕ) (bs z z′ : List ℕ) (n : ℕ) (f : Wrote room z 0 bs n z′) where
+  pub measured : length bs ≤ room → n ≡ length bs
+  measured h = f .next ∙ rw (take-all (suc room - 0) bs (omega arith)) (omega arith)
+
+  pub measured-over : room < length bs → n ≡ suc room
+  measured-over h = omega (arith, f .next, length-take-le (suc room - 0) bs (omega arith))
+
+  pub fits : n ≤ room → length bs ≤ room
+  fits h = elim (decLt room (length bs)) [ yes g ↦ let no-such : ⊥ = omega (arith, measured-over g) in absurd no-such | no g ↦ omega arith ]
+
+pub written : (area bs area′ : List ℕ) (r : ℕ) → Wrote (length area) area 0 bs r area′ → length bs ≤ length area → area′ ≡ bs ++ drop (length bs) area
+written area bs area′ r g h =
+    let q : 0 + length bs ≤ length area = omega arith in
+    let d : 0 + length bs ≡ length bs = omega arith in
+    g .is ∙ rw (take-all (length area - 0) bs (omega arith)) (sets-eq bs area 0 q ∙ rw d)
+
+pub two-passes : {bs z z′ area area′ : List ℕ} {n r : ℕ} → Wrote (length area) z 0 bs n z′ → Wrote (length area) area 0 bs r area′ → Passed area bs n area′
+two-passes {bs} {z} {z′} {area} {area′} {n} {r} f g =
+    let k = fits (length area) bs z z′ n f in
+    record {
+      fits = k;
+      tight = λ h. omega (arith, measured (length area) bs z z′ n f h);
+      count = λ h. measured (length area) bs z z′ n f (k h);
+      is = λ h. written area bs area′ r g (k h)
+    }
