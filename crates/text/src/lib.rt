@@ -3,14 +3,13 @@
 // Once the bytes no longer fit, the place is room + 1, nothing more is written, and the place stays.
 ghost use mathlib.Core.Path.{_≡_};
 ghost use mathlib.Core.List.{_∷_, []};
-ghost use Prim.Native.Nat.{_+_, _<_};
 ghost use lib.Dec.{ltb};
 ghost use Rattle.rules.specs.Listing.{decimal, signed};
-ghost use Rattle.text.specs.Text.{Wrote, literalOf};
+ghost use Rattle.text.specs.Text.{Addressable, Wrote, literalOf};
 
 // One byte.
 pub fn put(out: &mut [u8], room: usize, at: usize, b: u8) -> usize
-    requires { ⌜ room < 0x7FFF_FFFF_FFFF_FFFF ⌝ }
+    requires { ⌜ Addressable room ⌝ }
     ensures { λ r. ⌜ Wrote room (now (out .entry)) at (b ∷ []) r (now (out .exit)) ⌝ }
 {
     if room < at {
@@ -28,7 +27,7 @@ pub fn put(out: &mut [u8], room: usize, at: usize, b: u8) -> usize
 
 // The bytes of a word.
 pub fn word(out: &mut [u8], room: usize, at: usize, bytes: &[u8]) -> usize
-    requires { ⌜ room < 0x7FFF_FFFF_FFFF_FFFF ⌝ }
+    requires { ⌜ Addressable room ⌝ }
     ensures { λ r. ⌜ Wrote room (now (out .entry)) at (now (bytes .entry)) r (now (out .exit)) ⌝ }
 {
     let mut a = at;
@@ -43,7 +42,7 @@ pub fn word(out: &mut [u8], room: usize, at: usize, bytes: &[u8]) -> usize
 
 // A number in decimal.
 pub fn decimal(out: &mut [u8], room: usize, at: usize, n: usize) -> usize
-    requires { ⌜ room < 0x7FFF_FFFF_FFFF_FFFF ⌝ }
+    requires { ⌜ Addressable room ⌝ }
     ensures { λ r. ⌜ Wrote room (now (out .entry)) at (decimal n) r (now (out .exit)) ⌝ }
 {
     if n < 10 {
@@ -55,14 +54,14 @@ pub fn decimal(out: &mut [u8], room: usize, at: usize, n: usize) -> usize
 }
 
 pub fn space(out: &mut [u8], room: usize, at: usize) -> usize
-    requires { ⌜ room < 0x7FFF_FFFF_FFFF_FFFF ⌝ }
+    requires { ⌜ Addressable room ⌝ }
     ensures { λ r. ⌜ Wrote room (now (out .entry)) at (32 ∷ []) r (now (out .exit)) ⌝ }
 {
     put(out, room, at, b' ')
 }
 
 pub fn line_feed(out: &mut [u8], room: usize, at: usize) -> usize
-    requires { ⌜ room < 0x7FFF_FFFF_FFFF_FFFF ⌝ }
+    requires { ⌜ Addressable room ⌝ }
     ensures { λ r. ⌜ Wrote room (now (out .entry)) at (10 ∷ []) r (now (out .exit)) ⌝ }
 {
     put(out, room, at, b'\n')
@@ -70,7 +69,7 @@ pub fn line_feed(out: &mut [u8], room: usize, at: usize) -> usize
 
 // A space and a number.
 pub fn field_number(out: &mut [u8], room: usize, at: usize, n: usize) -> usize
-    requires { ⌜ room < 0x7FFF_FFFF_FFFF_FFFF ⌝ }
+    requires { ⌜ Addressable room ⌝ }
     ensures { λ r. ⌜ Wrote room (now (out .entry)) at (32 ∷ decimal n) r (now (out .exit)) ⌝ }
 {
     let a = space(out, room, at);
@@ -79,7 +78,7 @@ pub fn field_number(out: &mut [u8], room: usize, at: usize, n: usize) -> usize
 
 // A space and a word.
 pub fn field_word(out: &mut [u8], room: usize, at: usize, bytes: &[u8]) -> usize
-    requires { ⌜ room < 0x7FFF_FFFF_FFFF_FFFF ⌝ }
+    requires { ⌜ Addressable room ⌝ }
     ensures { λ r. ⌜ Wrote room (now (out .entry)) at (32 ∷ now (bytes .entry)) r (now (out .exit)) ⌝ }
 {
     let a = space(out, room, at);
@@ -88,7 +87,7 @@ pub fn field_word(out: &mut [u8], room: usize, at: usize, bytes: &[u8]) -> usize
 
 // A space, a sign and a variable.
 pub fn field_literal(out: &mut [u8], room: usize, at: usize, variable: usize, positive: bool) -> usize
-    requires { ⌜ room < 0x7FFF_FFFF_FFFF_FFFF ⌝ }
+    requires { ⌜ Addressable room ⌝ }
     ensures { λ r. ⌜ Wrote room (now (out .entry)) at (32 ∷ signed (literalOf variable positive)) r (now (out .exit)) ⌝ }
 {
     let a = space(out, room, at);
