@@ -9,11 +9,11 @@ use native.Mathlib.Nat.{add-zero}
 use native.Mathlib.Decide.{decLt}
 use lib.Dec.{ltb, leb}
 use borrow.Author.Tests.{lt-ltb, le-ltb, ltb-true, ltb-false}
-use lib.ListN.{length, getD, set, take, drop, length-append, length-take}
-use lib.Seq.{sets, sets-eq, set-out, take-all, length-take-le, take-nil, take-suc}
+use lib.ListN.{length, getD, set, take, drop, length-append, drop-of-length-le}
+use lib.Seq.{sets, sets-eq, set-out, take-all, length-take-le, take-nil, drop-cons}
 use Rattle.rules.specs.Lists.{concatMap}
 use Rattle.rules.specs.Listing.{digits, decimal, line, signed, ascii}
-use Rattle.text.specs.Text.{Wrote, fields, literalOf}
+use Rattle.text.specs.Text.{Wrote, wrote, WroteBut, wroteBut, fields, literalOf}
 
 -- ---- parts of lists
 
@@ -65,63 +65,87 @@ is-then room at r us vs o e = elim (decLt (length us) (room - at)) [
 
 -- ---- one behind another
 
+module _ {room at r : ℕ} {o bs o′ : List ℕ} where
+  pub next : Wrote at r bs room o o′ → r ≡ at + length (take (suc room - at) bs)
+  next (wrote e f) = e
+
+  pub is : Wrote at r bs room o o′ → o′ ≡ sets o at (take (room - at) bs)
+  is (wrote e f) = f
+
 module _ {room at r : ℕ} {o o1 us : List ℕ} where
-  pub then : {s : ℕ} {o2 vs : List ℕ} → Wrote room o at us r o1 → Wrote room o1 r vs s o2 → Wrote room o at (us ++ vs) s o2
-  then {s} {o2} {vs} f g = record { next = next-then room at r s us vs (f .next) (g .next); is = g .is ∙ rw (f .is) (is-then room at r us vs o (f .next)) }
+  pub then : {s : ℕ} {o2 vs : List ℕ} → Wrote at r us room o o1 → Wrote r s vs room o1 o2 → Wrote at s (us ++ vs) room o o2
+  then {s} {o2} {vs} f g = wrote (next-then room at r s us vs (next f) (next g)) (is g ∙ rw (is f) (is-then room at r us vs o (next f)))
 
   -- once over, no byte more counts
-  pub stopped : (vs : List ℕ) → Wrote room o at us r o1 → room < r → Wrote room o at (us ++ vs) r o1
+  pub stopped : (vs : List ℕ) → Wrote at r us room o o1 → room < r → Wrote at r (us ++ vs) room o o1
   stopped vs f h =
       let e : suc room - r ≡ 0 = omega arith in
       let d : room - r ≡ 0 = omega arith in
-      record { next = next-then room at r r us vs (f .next) (rw e (omega arith)); is = f .is ∙ rw d at (is-then room at r us vs o (f .next)) }
+      wrote (next-then room at r r us vs (next f) (rw e (omega arith))) (is f ∙ rw d at (is-then room at r us vs o (next f)))
 
-pub nothing : (room at : ℕ) (o : List ℕ) → Wrote room o at [] at o
-nothing room at o = record { next = rw take-nil (omega arith); is = rw take-nil }
+pub nothing : (room at : ℕ) (o : List ℕ) → Wrote at at [] room o o
+nothing room at o = wrote (rw take-nil (omega arith)) (rw take-nil)
+
+-- ---- in a loop: begun, one piece more, ended, stopped
+
+pub but-all : {at room : ℕ} {bs o : List ℕ} → WroteBut at at bs bs room o o
+but-all {at} {room} {bs} {o} = wroteBut [] refl (nothing room at o)
+
+module _ {at r room : ℕ} {bs o o1 : List ℕ} where
+  pub but-less : {s : ℕ} {o2 : List ℕ} (left us rest : List ℕ) → WroteBut at r left bs room o o1 → left ≡ us ++ rest → Wrote r s us room o1 o2 → WroteBut at s rest bs room o o2
+  but-less left us rest (wroteBut done e f) d g = wroteBut (done ++ us) (e ∙ rw (d, append-assoc)) (then f g)
+
+  pub but-none : WroteBut at r [] bs room o o1 → Wrote at r bs room o o1
+  but-none (wroteBut done e f) = rw (e, append-nil) f
+
+  pub but-over : {left : List ℕ} → WroteBut at r left bs room o o1 → room < r → Wrote at r bs room o o1
+  but-over {left} (wroteBut done e f) h = rw e (stopped left f h)
+
+pub over-is : {b : Bool} (room r : ℕ) → b ≡ ltb room r → b ≡ true → room < r
+over-is room r e t = ltb-true room r (sym e ∙ t)
 
 -- ---- a byte
 
 module _ (room at b : ℕ) (o : List ℕ) where
-  pub put-over : room < at → Wrote room o at (b ∷ []) at o
+  pub put-over : room < at → Wrote at at (b ∷ []) room o o
   put-over h =
       let e : suc room - at ≡ 0 = omega arith in
       let d : room - at ≡ 0 = omega arith in
-      record { next = rw e (omega arith); is = rw d }
+      wrote (rw e (omega arith)) (rw d)
 
-  pub put-last : room ≤ at → at ≤ room → Wrote room o at (b ∷ []) (at + 1) o
+  pub put-last : room ≤ at → at ≤ room → Wrote at (at + 1) (b ∷ []) room o o
   put-last h k =
       let e : suc room - at ≡ 1 = omega arith in
       let d : room - at ≡ 0 = omega arith in
-      record { next = rw e (omega arith); is = rw d }
+      wrote (rw e (omega arith)) (rw d)
 
   module _ (h : at < room) where
     kept : (n : ℕ) → 0 < n → take n (b ∷ []) ≡ b ∷ []
     kept n k = take-all n (b ∷ []) (omega arith)
 
-    pub put-in : Wrote room o at (b ∷ []) (at + 1) (set o at b)
-    put-in = record { next = rw (kept (suc room - at) (omega arith)) (omega arith); is = rw (kept (room - at) (omega arith)) }
+    pub put-in : Wrote at (at + 1) (b ∷ []) room o (set o at b)
+    put-in = wrote (rw (kept (suc room - at) (omega arith)) (omega arith)) (rw (kept (room - at) (omega arith)))
 
-    pub put-out : length o ≤ at → Wrote room o at (b ∷ []) (at + 1) o
-    put-out k = record { next = put-in .next; is = sym (set-out o at b k) ∙ put-in .is }
+    pub put-out : length o ≤ at → Wrote at (at + 1) (b ∷ []) room o o
+    put-out k = wrote (next put-in) (sym (set-out o at b k) ∙ is put-in)
 
 -- ---- a word, byte by byte
 
 -- at the head of the loop: i bytes of the word are written
 pub record Writing (room : ℕ) (bytes o₀ : List ℕ) (at₀ : ℕ) (o : List ℕ) (i a : ℕ) : Type 0 where
-  pub within : i ≤ length bytes
   pub same : length o ≡ length o₀
-  pub wrote : Wrote room o₀ at₀ (take i bytes) a o
+  pub so-far : WroteBut at₀ a (drop i bytes) bytes room o₀ o
 
 module _ {room at : ℕ} {bytes o : List ℕ} where
   pub word-start : Writing room bytes o at o 0 at
-  word-start = record { within = omega arith; same = refl; wrote = nothing room at o }
+  word-start = record { same = refl; so-far = but-all }
 
-  module _ {i a : ℕ} {o1 : List ℕ} where
-    pub word-step : {r b : ℕ} {o2 : List ℕ} → Writing room bytes o at o1 i a → i < length bytes → b ≡ getD bytes i 0 → length o2 ≡ length o1 → Wrote room o1 a (b ∷ []) r o2 → Writing room bytes o at o2 (i + 1) r
-    word-step {r} {b} {o2} f h e q g = record { within = omega arith; same = q ∙ f .same; wrote = rw (add-one, take-suc bytes i 0, ← e) (then (f .wrote) g) }
+  module _ {i a : ℕ} {o1 : List ℕ} (f : Writing room bytes o at o1 i a) where
+    pub word-step : {r : ℕ} {o2 : List ℕ} → i < length bytes → length o2 ≡ length o1 → Wrote a r (getD bytes i 0 ∷ []) room o1 o2 → Writing room bytes o at o2 (i + 1) r
+    word-step h e g = record { same = e ∙ f .same; so-far = but-less (drop i bytes) (getD bytes i 0 ∷ []) (drop (i + 1) bytes) (f .so-far) (rw (add-one, drop-cons bytes i 0)) g }
 
-    pub word-end : Writing room bytes o at o1 i a → length bytes ≤ i → Wrote room o at bytes a o1
-    word-end f h = rw (take-all i bytes h) at (f .wrote)
+    pub word-end : length bytes ≤ i → Wrote at a bytes room o o1
+    word-end h = but-none (rw (drop-of-length-le bytes h) at (f .so-far))
 
 -- ---- numbers in decimal
 
@@ -161,23 +185,23 @@ decimal-digits n h =
     rw (digits-more n n [] h, digits-append n (n / 10) ((48 + n % 10) ∷ []), digits-enough n (suc (n / 10)) (n / 10) [] (omega arith) (omega arith))
 
 module _ {room at n r : ℕ} {o o1 : List ℕ} where
-  pub decimal-one : n < 10 → Wrote room o at ((48 + n) ∷ []) r o1 → Wrote room o at (decimal n) r o1
+  pub decimal-one : n < 10 → Wrote at r ((48 + n) ∷ []) room o o1 → Wrote at r (decimal n) room o o1
   decimal-one h f = rw (decimal-digit n h) f
 
-  pub decimal-more : {s : ℕ} {o2 : List ℕ} → 10 ≤ n → Wrote room o at (decimal (n / 10)) r o1 → Wrote room o1 r ((48 + n % 10) ∷ []) s o2 → Wrote room o at (decimal n) s o2
+  pub decimal-more : {s : ℕ} {o2 : List ℕ} → 10 ≤ n → Wrote at r (decimal (n / 10)) room o o1 → Wrote r s ((48 + n % 10) ∷ []) room o1 o2 → Wrote at s (decimal n) room o o2
   decimal-more h f g = rw (decimal-digits n h) (then f g)
 
 -- ---- fields and lines
 
-pub field-is : {room at r s : ℕ} {o o1 o2 bs : List ℕ} → Wrote room o at (32 ∷ []) r o1 → Wrote room o1 r bs s o2 → Wrote room o at (32 ∷ bs) s o2
+pub field-is : {room at r s : ℕ} {o o1 o2 bs : List ℕ} → Wrote at r (32 ∷ []) room o o1 → Wrote r s bs room o1 o2 → Wrote at s (32 ∷ bs) room o o2
 field-is f g = then f g
 
-module _ {room at r a s : ℕ} {o o1 o2 o3 : List ℕ} (x : ℕ) (b : Bool) (f : Wrote room o at (32 ∷ []) r o1) where
-  pub literal-plus : b ≡ true → Wrote room o1 r (43 ∷ []) a o2 → Wrote room o2 a (decimal x) s o3 → Wrote room o at (32 ∷ signed (literalOf x b)) s o3
+module _ {room at r a s : ℕ} {o o1 o2 o3 : List ℕ} (x : ℕ) (b : Bool) (f : Wrote at r (32 ∷ []) room o o1) where
+  pub literal-plus : b ≡ true → Wrote r a (43 ∷ []) room o1 o2 → Wrote a s (decimal x) room o2 o3 → Wrote at s (32 ∷ signed (literalOf x b)) room o o3
   unfolding signed
   literal-plus e g h = rw e (then f (then g h))
 
-  pub literal-minus : b ≡ false → Wrote room o1 r (45 ∷ []) a o2 → Wrote room o2 a (decimal x) s o3 → Wrote room o at (32 ∷ signed (literalOf x b)) s o3
+  pub literal-minus : b ≡ false → Wrote r a (45 ∷ []) room o1 o2 → Wrote a s (decimal x) room o2 o3 → Wrote at s (32 ∷ signed (literalOf x b)) room o o3
   unfolding signed
   literal-minus e g h = rw e (then f (then g h))
 
@@ -191,27 +215,27 @@ unfolding fields concatMap
 fields-append [] gs = refl
 fields-append (f ∷ fs) gs = ap (λ (l : List ℕ). 32 ∷ l) (ap (λ (l : List ℕ). f ++ l) (fields-append fs gs) ∙ sym (append-assoc f (fields fs) (fields gs)))
 
-pub fields-none : (room at : ℕ) (o : List ℕ) → Wrote room o at (fields []) at o
+pub fields-none : (room at : ℕ) (o : List ℕ) → Wrote at at (fields []) room o o
 unfolding fields concatMap
 fields-none room at o = nothing room at o
 
-pub fields-one : {room at r : ℕ} {o o1 f : List ℕ} → Wrote room o at (32 ∷ f) r o1 → Wrote room o at (fields (f ∷ [])) r o1
+pub fields-one : {room at r : ℕ} {o o1 f : List ℕ} → Wrote at r (32 ∷ f) room o o1 → Wrote at r (fields (f ∷ [])) room o o1
 unfolding fields concatMap
 fields-one w = rw append-nil w
 
 module _ {room at r : ℕ} {o o1 : List ℕ} where
   module _ {s : ℕ} {o2 f : List ℕ} (fs : List (List ℕ)) where
-    pub fields-first : Wrote room o at (32 ∷ f) r o1 → Wrote room o1 r (fields fs) s o2 → Wrote room o at (fields (f ∷ fs)) s o2
+    pub fields-first : Wrote at r (32 ∷ f) room o o1 → Wrote r s (fields fs) room o1 o2 → Wrote at s (fields (f ∷ fs)) room o o2
     unfolding fields concatMap
     fields-first v w = then v w
 
-    pub fields-last : Wrote room o at (fields fs) r o1 → Wrote room o1 r (32 ∷ f) s o2 → Wrote room o at (fields (fs ++ (f ∷ []))) s o2
+    pub fields-last : Wrote at r (fields fs) room o o1 → Wrote r s (32 ∷ f) room o1 o2 → Wrote at s (fields (fs ++ (f ∷ []))) room o o2
     fields-last v w = rw (fields-append fs (f ∷ [])) (then v (fields-one w))
 
-    pub line-is : {t : ℕ} {o3 : List ℕ} → Wrote room o at f r o1 → Wrote room o1 r (fields fs) s o2 → Wrote room o2 s (10 ∷ []) t o3 → Wrote room o at (line (f ∷ fs)) t o3
+    pub line-is : {t : ℕ} {o3 : List ℕ} → Wrote at r f room o o1 → Wrote r s (fields fs) room o1 o2 → Wrote s t (10 ∷ []) room o2 o3 → Wrote at t (line (f ∷ fs)) room o o3
     line-is u v w = rw (line-of f fs) (then u (then v w))
 
-  pub fields-then : {s : ℕ} {o2 : List ℕ} (fs gs : List (List ℕ)) → Wrote room o at (fields fs) r o1 → Wrote room o1 r (fields gs) s o2 → Wrote room o at (fields (fs ++ gs)) s o2
+  pub fields-then : {s : ℕ} {o2 : List ℕ} (fs gs : List (List ℕ)) → Wrote at r (fields fs) room o o1 → Wrote r s (fields gs) room o1 o2 → Wrote at s (fields (fs ++ gs)) room o o2
   fields-then fs gs v w = rw (fields-append fs gs) (then v w)
 
 -- ---- two passes
@@ -223,23 +247,23 @@ pub record Passed (area bs : List ℕ) (n : ℕ) (area′ : List ℕ) : Type 0 w
   pub count : n ≤ length area → n ≡ length bs
   pub is : n ≤ length area → area′ ≡ bs ++ drop (length bs) area
 
-module _ (room : ℕ) (bs z z′ : List ℕ) (n : ℕ) (f : Wrote room z 0 bs n z′) where
+module _ (room : ℕ) (bs z z′ : List ℕ) (n : ℕ) (f : Wrote 0 n bs room z z′) where
   pub measured : length bs ≤ room → n ≡ length bs
-  measured h = f .next ∙ rw (take-all (suc room - 0) bs (omega arith)) (omega arith)
+  measured h = next f ∙ rw (take-all (suc room - 0) bs (omega arith)) (omega arith)
 
   pub measured-over : room < length bs → n ≡ suc room
-  measured-over h = omega (arith, f .next, length-take-le (suc room - 0) bs (omega arith))
+  measured-over h = omega (arith, next f, length-take-le (suc room - 0) bs (omega arith))
 
   pub fits : n ≤ room → length bs ≤ room
   fits h = elim (decLt room (length bs)) [ yes g ↦ let no-such : ⊥ = omega (arith, measured-over g) in absurd no-such | no g ↦ omega arith ]
 
-pub written : (area bs area′ : List ℕ) (r : ℕ) → Wrote (length area) area 0 bs r area′ → length bs ≤ length area → area′ ≡ bs ++ drop (length bs) area
+pub written : (area bs area′ : List ℕ) (r : ℕ) → Wrote 0 r bs (length area) area area′ → length bs ≤ length area → area′ ≡ bs ++ drop (length bs) area
 written area bs area′ r g h =
     let q : 0 + length bs ≤ length area = omega arith in
     let d : 0 + length bs ≡ length bs = omega arith in
-    g .is ∙ rw (take-all (length area - 0) bs (omega arith)) (sets-eq bs area 0 q ∙ rw d)
+    is g ∙ rw (take-all (length area - 0) bs (omega arith)) (sets-eq bs area 0 q ∙ rw d)
 
-pub two-passes : {bs z z′ area area′ : List ℕ} {n r : ℕ} → Wrote (length area) z 0 bs n z′ → Wrote (length area) area 0 bs r area′ → Passed area bs n area′
+pub two-passes : {bs z z′ area area′ : List ℕ} {n r : ℕ} → Wrote 0 n bs (length area) z z′ → Wrote 0 r bs (length area) area area′ → Passed area bs n area′
 two-passes {bs} {z} {z′} {area} {area′} {n} {r} f g =
     let k = fits (length area) bs z z′ n f in
     record {

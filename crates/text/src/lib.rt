@@ -10,7 +10,7 @@ ghost use Rattle.text.specs.Text.{Addressable, Wrote, literalOf};
 // One byte.
 pub fn put(out: &mut [u8], room: usize, at: usize, b: u8) -> usize
     requires { ⌜ Addressable room ⌝ }
-    ensures { λ r. ⌜ Wrote room (now (out .entry)) at (b ∷ []) r (now (out .exit)) ⌝ }
+    ensures { λ r. ⌜ Wrote at r (b ∷ []) room (now (out .entry)) (now (out .exit)) ⌝ }
 {
     if room < at {
         return at;
@@ -28,7 +28,7 @@ pub fn put(out: &mut [u8], room: usize, at: usize, b: u8) -> usize
 // The bytes of a word.
 pub fn word(out: &mut [u8], room: usize, at: usize, bytes: &[u8]) -> usize
     requires { ⌜ Addressable room ⌝ }
-    ensures { λ r. ⌜ Wrote room (now (out .entry)) at (now (bytes .entry)) r (now (out .exit)) ⌝ }
+    ensures { λ r. ⌜ Wrote at r (now (bytes .entry)) room (now (out .entry)) (now (out .exit)) ⌝ }
 {
     let mut a = at;
     let mut i = 0;
@@ -43,7 +43,7 @@ pub fn word(out: &mut [u8], room: usize, at: usize, bytes: &[u8]) -> usize
 // A number in decimal.
 pub fn decimal(out: &mut [u8], room: usize, at: usize, n: usize) -> usize
     requires { ⌜ Addressable room ⌝ }
-    ensures { λ r. ⌜ Wrote room (now (out .entry)) at (decimal n) r (now (out .exit)) ⌝ }
+    ensures { λ r. ⌜ Wrote at r (decimal n) room (now (out .entry)) (now (out .exit)) ⌝ }
 {
     if n < 10 {
         put(out, room, at, (48 + n) as u8)
@@ -55,14 +55,14 @@ pub fn decimal(out: &mut [u8], room: usize, at: usize, n: usize) -> usize
 
 pub fn space(out: &mut [u8], room: usize, at: usize) -> usize
     requires { ⌜ Addressable room ⌝ }
-    ensures { λ r. ⌜ Wrote room (now (out .entry)) at (32 ∷ []) r (now (out .exit)) ⌝ }
+    ensures { λ r. ⌜ Wrote at r (32 ∷ []) room (now (out .entry)) (now (out .exit)) ⌝ }
 {
     put(out, room, at, b' ')
 }
 
 pub fn line_feed(out: &mut [u8], room: usize, at: usize) -> usize
     requires { ⌜ Addressable room ⌝ }
-    ensures { λ r. ⌜ Wrote room (now (out .entry)) at (10 ∷ []) r (now (out .exit)) ⌝ }
+    ensures { λ r. ⌜ Wrote at r (10 ∷ []) room (now (out .entry)) (now (out .exit)) ⌝ }
 {
     put(out, room, at, b'\n')
 }
@@ -70,7 +70,7 @@ pub fn line_feed(out: &mut [u8], room: usize, at: usize) -> usize
 // A space and a number.
 pub fn field_number(out: &mut [u8], room: usize, at: usize, n: usize) -> usize
     requires { ⌜ Addressable room ⌝ }
-    ensures { λ r. ⌜ Wrote room (now (out .entry)) at (32 ∷ decimal n) r (now (out .exit)) ⌝ }
+    ensures { λ r. ⌜ Wrote at r (32 ∷ decimal n) room (now (out .entry)) (now (out .exit)) ⌝ }
 {
     let a = space(out, room, at);
     decimal(out, room, a, n)
@@ -79,7 +79,7 @@ pub fn field_number(out: &mut [u8], room: usize, at: usize, n: usize) -> usize
 // A space and a word.
 pub fn field_word(out: &mut [u8], room: usize, at: usize, bytes: &[u8]) -> usize
     requires { ⌜ Addressable room ⌝ }
-    ensures { λ r. ⌜ Wrote room (now (out .entry)) at (32 ∷ now (bytes .entry)) r (now (out .exit)) ⌝ }
+    ensures { λ r. ⌜ Wrote at r (32 ∷ now (bytes .entry)) room (now (out .entry)) (now (out .exit)) ⌝ }
 {
     let a = space(out, room, at);
     word(out, room, a, bytes)
@@ -88,7 +88,7 @@ pub fn field_word(out: &mut [u8], room: usize, at: usize, bytes: &[u8]) -> usize
 // A space, a sign and a variable.
 pub fn field_literal(out: &mut [u8], room: usize, at: usize, variable: usize, positive: bool) -> usize
     requires { ⌜ Addressable room ⌝ }
-    ensures { λ r. ⌜ Wrote room (now (out .entry)) at (32 ∷ signed (literalOf variable positive)) r (now (out .exit)) ⌝ }
+    ensures { λ r. ⌜ Wrote at r (32 ∷ signed (literalOf variable positive)) room (now (out .entry)) (now (out .exit)) ⌝ }
 {
     let a = space(out, room, at);
     if positive {
