@@ -1,3 +1,4 @@
+-- `text::field_literal` meets its contract, by the literal's sign.
 use borrow.Author.Needs.{needs}
 use Rattle.text.proofs.Laws.{literal-plus, literal-minus}
 use Rattle.text.proofs.field_literal.Statement.{statement}

@@ -1,3 +1,4 @@
+-- `text::put` meets its contract: a law for each of the four places that `at` can be in.
 use borrow.Author.Needs.{needs}
 use Rattle.text.proofs.Laws.{put-over, put-in, put-out, put-last}
 use Rattle.text.proofs.put.Statement.{statement}

@@ -1,3 +1,4 @@
+-- `text::word` meets its contract. The invariant: all bytes are written but those from the i-th on.
 use borrow.Author.Needs.{needs}
 use Prim.Native.Nat.{_-_}
 use lib.ListN.{length}
