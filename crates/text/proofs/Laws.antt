@@ -74,7 +74,7 @@ digits-append zero n acc = unfold digits in refl
 digits-append (suc k) n acc =
     by-ten n _ (λ h. rw (digits-one k n acc h, digits-one k n [] h))
     (λ h.
-      rw (digits-more k n acc h, digits-more k n [] h, digits-append k (n / 10) ((48 + n % 10) ∷ acc), digits-append k (n / 10) ((48 + n % 10) ∷ []), append-assoc))
+    rw (digits-more k n acc h, digits-more k n [] h, digits-append k (n / 10) ((48 + n % 10) ∷ acc), digits-append k (n / 10) ((48 + n % 10) ∷ []), append-assoc))
 
 -- enough digits are enough
 digits-enough : (k j n : ℕ) (acc : List ℕ) → n < k → n < j → digits k n acc ≡ digits j n acc

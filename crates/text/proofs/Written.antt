@@ -163,5 +163,5 @@ two-passes {bs} {z} {z′} {area} {area′} {n} {r} f g =
       fits = k;
       tight = λ h. omega (arith, measured (length area) bs z z′ n f h);
       count = λ h. measured (length area) bs z z′ n f (k h);
-      is = λ h. written area bs area′ r g (k h)
+      is = λ h. written area bs area′ r g (k h);
     }

@@ -86,7 +86,13 @@ pub fn field_word(out: &mut [u8], room: usize, at: usize, bytes: &[u8]) -> usize
 }
 
 // A space, a sign and a variable.
-pub fn field_literal(out: &mut [u8], room: usize, at: usize, variable: usize, positive: bool) -> usize
+pub fn field_literal(
+    out: &mut [u8],
+    room: usize,
+    at: usize,
+    variable: usize,
+    positive: bool,
+) -> usize
     requires { ⌜ Addressable room ⌝ }
     ensures { λ r. ⌜ Wrote at r (32 ∷ signed (literalOf variable positive)) room (now (out .entry)) (now (out .exit)) ⌝ }
 {
