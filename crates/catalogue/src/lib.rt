@@ -2,14 +2,20 @@
 use refusal::Contradiction;
 use refusal::Refusal;
 use refusal::Thing;
+use tables::ConditionalRequirement;
+use tables::Constraint;
 use tables::Counts;
+use unions::Member;
 ghost use mathlib.Core.Path.{_≡_};
+ghost use mathlib.Core.Bool.{not, _&&_};
 ghost use Prim.Native.Nat.{_+_, _*_, _<_, _≤_};
-ghost use lib.ListN.{length};
+ghost use lib.Dec.{eqb, leb};
+ghost use Rattle.rules.specs.AtMostOne.{bit};
+ghost use Rattle.rules.specs.Catalogue.{partAt, unknownOwner};
 ghost use Rattle.rules.specs.Records.{Item};
-ghost use Rattle.rules.specs.Items.{addItem};
-ghost use Rattle.cache.specs.Areas.{catalogue, Held};
-ghost use Rattle.catalogue.specs.Reading.{Entered};
+ghost use Rattle.rules.specs.Items.{ownerOf, ofSameName};
+ghost use Rattle.cache.specs.Areas.{catalogue};
+ghost use Rattle.catalogue.specs.Reading.{isLocked, isFavoured, noSuch, Kept, Entered};
 
 // After an item: the counts of the catalogue with it, or why it is refused.
 pub enum Added {
@@ -18,9 +24,9 @@ pub enum Added {
 }
 
 pub fn add_name(marks: &[u8], unions: &[u8], t: &mut [u8], k: Counts, flags: u8) -> Added
-    requires { ⌜ Held k (length (now marks)) (length (now unions)) (length (now t)) ⌝ }
-    ensures { λ r. ⌜ Entered r (now (marks .entry)) (now (unions .entry)) (now (t .exit))
-        (addItem (catalogue k (now (marks .entry)) (now (unions .entry)) (now (t .entry))) (Item.name flags)) ⌝ }
+    requires { ⌜ Kept k (now marks) (now unions) (now t) ⌝ }
+    ensures { λ r. ⌜ Entered k (catalogue k (now (marks .entry)) (now (unions .entry)) (now (t .entry))) (Item.name flags)
+        r (now (marks .entry)) (now (unions .entry)) (now (t .exit)) ⌝ }
 {
     if 64 <= k.names {
         return Added::Refused(Refusal::TooMany(Thing::Name));
@@ -31,10 +37,120 @@ pub fn add_name(marks: &[u8], unions: &[u8], t: &mut [u8], k: Counts, flags: u8)
     Added::Counted(tables::put_name(t, k, flags))
 }
 
+// ---- parts: a second locked or favoured one of a name
+
+fn locked_of(marks: &[u8], unions: &[u8], t: &[u8], k: Counts, name: u16, p: usize) -> bool
+    requires { ⌜ Kept k (now marks) (now unions) (now t) ⌝ }
+    ensures { λ r. ⌜ r ≡ (eqb ((partAt (catalogue k (now (marks .entry)) (now (unions .entry)) (now (t .entry))) p) .name) name
+        && isLocked (partAt (catalogue k (now (marks .entry)) (now (unions .entry)) (now (t .entry))) p)) ⌝ }
+{
+    if tables::part_name(t, k, p) == name {
+        tables::locked(t, k, p)
+    } else {
+        false
+    }
+}
+
+fn favoured_of(marks: &[u8], unions: &[u8], t: &[u8], k: Counts, name: u16, p: usize) -> bool
+    requires { ⌜ Kept k (now marks) (now unions) (now t) ⌝ }
+    ensures { λ r. ⌜ r ≡ (eqb ((partAt (catalogue k (now (marks .entry)) (now (unions .entry)) (now (t .entry))) p) .name) name
+        && isFavoured (partAt (catalogue k (now (marks .entry)) (now (unions .entry)) (now (t .entry))) p)) ⌝ }
+{
+    if tables::part_name(t, k, p) == name {
+        tables::favoured(t, k, p)
+    } else {
+        false
+    }
+}
+
+fn has_locked(marks: &[u8], unions: &[u8], t: &[u8], k: Counts, name: u16) -> bool
+    requires { ⌜ Kept k (now marks) (now unions) (now t) ⌝ }
+    ensures { λ r. ⌜ r ≡ ofSameName (catalogue k (now (marks .entry)) (now (unions .entry)) (now (t .entry))) isLocked name ⌝ }
+{
+    let mut p = 0;
+    while p < k.parts {
+        if locked_of(marks, unions, t, k, name, p) {
+            return true;
+        }
+        p += 1;
+    }
+    false
+}
+
+fn has_favoured(marks: &[u8], unions: &[u8], t: &[u8], k: Counts, name: u16) -> bool
+    requires { ⌜ Kept k (now marks) (now unions) (now t) ⌝ }
+    ensures { λ r. ⌜ r ≡ ofSameName (catalogue k (now (marks .entry)) (now (unions .entry)) (now (t .entry))) isFavoured name ⌝ }
+{
+    let mut p = 0;
+    while p < k.parts {
+        if favoured_of(marks, unions, t, k, name, p) {
+            return true;
+        }
+        p += 1;
+    }
+    false
+}
+
+fn second_locked(marks: &[u8], unions: &[u8], t: &[u8], k: Counts, name: u16, flags: u8) -> bool
+    requires { ⌜ Kept k (now marks) (now unions) (now t) ⌝ }
+    ensures { λ r. ⌜ r ≡ (bit 2 flags && ofSameName (catalogue k (now (marks .entry)) (now (unions .entry)) (now (t .entry))) isLocked name) ⌝ }
+{
+    if tables::has_bit(words::wide(flags), 4) {
+        has_locked(marks, unions, t, k, name)
+    } else {
+        false
+    }
+}
+
+fn second_favoured(marks: &[u8], unions: &[u8], t: &[u8], k: Counts, name: u16, flags: u8) -> bool
+    requires { ⌜ Kept k (now marks) (now unions) (now t) ⌝ }
+    ensures { λ r. ⌜ r ≡ (bit 3 flags && ofSameName (catalogue k (now (marks .entry)) (now (unions .entry)) (now (t .entry))) isFavoured name) ⌝ }
+{
+    if tables::has_bit(words::wide(flags), 8) {
+        has_favoured(marks, unions, t, k, name)
+    } else {
+        false
+    }
+}
+
+pub fn add_part(
+    marks: &[u8],
+    unions: &[u8],
+    t: &mut [u8],
+    k: Counts,
+    name: u16,
+    flags: u8,
+    unknown: u16,
+    exclusion: u16,
+) -> Added
+    requires { ⌜ Kept k (now marks) (now unions) (now t) ⌝ }
+    ensures { λ r. ⌜ Entered k (catalogue k (now (marks .entry)) (now (unions .entry)) (now (t .entry))) (Item.part name flags unknown exclusion)
+        r (now (marks .entry)) (now (unions .entry)) (now (t .exit)) ⌝ }
+{
+    if 1024 <= k.parts {
+        return Added::Refused(Refusal::TooMany(Thing::Part));
+    }
+    if k.names <= name as usize {
+        return Added::Refused(Refusal::Missing(Thing::Name, 1));
+    }
+    if 31 < flags {
+        return Added::Refused(Refusal::Contradicts(Contradiction::OtherBits));
+    }
+    if second_locked(marks, unions, t, k, name, flags) {
+        return Added::Refused(Refusal::Contradicts(Contradiction::SecondLocked));
+    }
+    if second_favoured(marks, unions, t, k, name, flags) {
+        return Added::Refused(Refusal::Contradicts(Contradiction::SecondFavoured));
+    }
+    Added::Counted(tables::put_part(t, k, name, flags, unknown, exclusion))
+}
+
+// ---- ranges and unions
+
 pub fn add_range(marks: &mut [u8], unions: &[u8], t: &mut [u8], k: Counts, name: u16) -> Added
-    requires { ⌜ Held k (length (now marks)) (length (now unions)) (length (now t)) ⌝ }
-    ensures { λ r. ⌜ Entered r (now (marks .exit)) (now (unions .entry)) (now (t .exit))
-        (addItem (catalogue k (now (marks .entry)) (now (unions .entry)) (now (t .entry))) (Item.range name)) ⌝ }
+    requires { ⌜ Kept k (now marks) (now unions) (now t) ⌝ }
+    ensures { λ r. ⌜ Entered k (catalogue k (now (marks .entry)) (now (unions .entry)) (now (t .entry))) (Item.range name)
+        r (now (marks .exit)) (now (unions .entry)) (now (t .exit)) ⌝ }
 {
     if 512 <= k.ranges {
         return Added::Refused(Refusal::TooMany(Thing::Range));
@@ -44,4 +160,174 @@ pub fn add_range(marks: &mut [u8], unions: &[u8], t: &mut [u8], k: Counts, name:
     }
     marks::clear_row(marks, k.ranges);
     Added::Counted(tables::put_range(t, k, name))
+}
+
+pub fn add_member(
+    marks: &mut [u8],
+    unions: &[u8],
+    t: &[u8],
+    k: Counts,
+    range: u16,
+    part: u16,
+) -> Added
+    requires { ⌜ Kept k (now marks) (now unions) (now t) ⌝ }
+    ensures { λ r. ⌜ Entered k (catalogue k (now (marks .entry)) (now (unions .entry)) (now (t .entry))) (Item.member range part)
+        r (now (marks .exit)) (now (unions .entry)) (now (t .entry)) ⌝ }
+{
+    if k.ranges <= range as usize {
+        return Added::Refused(Refusal::Missing(Thing::Range, 1));
+    }
+    if k.parts <= part as usize {
+        return Added::Refused(Refusal::Missing(Thing::Part, 3));
+    }
+    if tables::part_name(t, k, part as usize) != tables::range_name(t, k, range as usize) {
+        return Added::Refused(Refusal::Contradicts(Contradiction::PartOfAnotherName));
+    }
+    if marks::marked(marks, range as usize, part as usize) {
+        return Added::Refused(Refusal::Contradicts(Contradiction::MemberTwice));
+    }
+    marks::mark(marks, range as usize, part as usize);
+    Added::Counted(k)
+}
+
+pub fn add_union(marks: &[u8], unions: &[u8], t: &[u8], k: Counts) -> Added
+    requires { ⌜ Kept k (now marks) (now unions) (now t) ⌝ }
+    ensures { λ r. ⌜ Entered k (catalogue k (now (marks .entry)) (now (unions .entry)) (now (t .entry))) Item.union
+        r (now (marks .entry)) (now (unions .entry)) (now (t .entry)) ⌝ }
+{
+    if 128 <= k.unions {
+        return Added::Refused(Refusal::TooMany(Thing::Union));
+    }
+    Added::Counted(tables::put_union(t, k))
+}
+
+pub fn add_union_member(
+    marks: &[u8],
+    unions: &mut [u8],
+    t: &[u8],
+    k: Counts,
+    union: u16,
+    range: u16,
+) -> Added
+    requires { ⌜ Kept k (now marks) (now unions) (now t) ⌝ }
+    requires { ⌜ k .members < 13107 ⌝ }
+    ensures { λ r. ⌜ Entered k (catalogue k (now (marks .entry)) (now (unions .entry)) (now (t .entry))) (Item.unionMember union range)
+        r (now (marks .entry)) (now (unions .exit)) (now (t .entry)) ⌝ }
+{
+    if k.unions <= union as usize {
+        return Added::Refused(Refusal::Missing(Thing::Union, 1));
+    }
+    if k.ranges <= range as usize {
+        return Added::Refused(Refusal::Missing(Thing::Range, 3));
+    }
+    let mut more = k;
+    more.members = unions::push(unions, k.members, Member { union, range });
+    Added::Counted(more)
+}
+
+// ---- requirements and constraints
+
+// A number other than 65,535 that is not below the count: an owner or a condition that was not given.
+fn no_such(count: usize, n: u16) -> bool
+    ensures { λ r. ⌜ r ≡ noSuch count n ⌝ }
+{
+    if n == 65535 {
+        false
+    } else {
+        count <= n as usize
+    }
+}
+
+// The goal is of this form, and its number is not below the count.
+fn no_goal(form: u8, this: u8, count: usize, n: u16) -> bool
+    ensures { λ r. ⌜ r ≡ (eqb form this && leb count n) ⌝ }
+{
+    if form == this {
+        count <= n as usize
+    } else {
+        false
+    }
+}
+
+fn owner_unknown(marks: &[u8], unions: &[u8], t: &[u8], k: Counts, owner: u16) -> bool
+    requires { ⌜ Kept k (now marks) (now unions) (now t) ⌝ }
+    ensures { λ r. ⌜ r ≡ unknownOwner (catalogue k (now (marks .entry)) (now (unions .entry)) (now (t .entry))) (ownerOf owner) ⌝ }
+{
+    if owner == 65535 {
+        false
+    } else {
+        tables::unknown(t, k, owner as usize)
+    }
+}
+
+pub fn add_requirement(
+    marks: &[u8],
+    unions: &[u8],
+    t: &mut [u8],
+    k: Counts,
+    owner: u16,
+    form: u8,
+    number: u16,
+    condition: u16,
+) -> Added
+    requires { ⌜ Kept k (now marks) (now unions) (now t) ⌝ }
+    ensures { λ r. ⌜ Entered k (catalogue k (now (marks .entry)) (now (unions .entry)) (now (t .entry))) (Item.requirement owner form number condition)
+        r (now (marks .entry)) (now (unions .entry)) (now (t .exit)) ⌝ }
+{
+    if 1024 <= k.requirements {
+        return Added::Refused(Refusal::TooMany(Thing::Requirement));
+    }
+    if no_such(k.parts, owner) {
+        return Added::Refused(Refusal::Missing(Thing::Part, 1));
+    }
+    if no_goal(form, 0, k.ranges, number) {
+        return Added::Refused(Refusal::Missing(Thing::Range, 4));
+    }
+    if no_goal(form, 1, k.unions, number) {
+        return Added::Refused(Refusal::Missing(Thing::Union, 4));
+    }
+    if no_such(k.conditions, condition) {
+        return Added::Refused(Refusal::Missing(Thing::Condition, 6));
+    }
+    if 1 < form {
+        return Added::Refused(Refusal::Contradicts(Contradiction::OtherForm));
+    }
+    if owner_unknown(marks, unions, t, k, owner) {
+        return Added::Refused(Refusal::Contradicts(Contradiction::OwnerUnknown));
+    }
+    let form = form as u16;
+    let q = ConditionalRequirement {
+        owner,
+        form,
+        number,
+        condition,
+    };
+    Added::Counted(tables::put_requirement(t, k, q))
+}
+
+pub fn add_constraint(
+    marks: &[u8],
+    unions: &[u8],
+    t: &mut [u8],
+    k: Counts,
+    owner: u16,
+    range: u16,
+) -> Added
+    requires { ⌜ Kept k (now marks) (now unions) (now t) ⌝ }
+    ensures { λ r. ⌜ Entered k (catalogue k (now (marks .entry)) (now (unions .entry)) (now (t .entry))) (Item.constraint owner range)
+        r (now (marks .entry)) (now (unions .entry)) (now (t .exit)) ⌝ }
+{
+    if 512 <= k.constraints {
+        return Added::Refused(Refusal::TooMany(Thing::Constraint));
+    }
+    if no_such(k.parts, owner) {
+        return Added::Refused(Refusal::Missing(Thing::Part, 1));
+    }
+    if k.ranges <= range as usize {
+        return Added::Refused(Refusal::Missing(Thing::Range, 3));
+    }
+    if owner_unknown(marks, unions, t, k, owner) {
+        return Added::Refused(Refusal::Contradicts(Contradiction::OwnerUnknown));
+    }
+    Added::Counted(tables::put_constraint(t, k, Constraint { owner, range }))
 }
