@@ -11,6 +11,8 @@ use Rattle.rules.specs.Records.{Item}
 use Rattle.rules.specs.Items.{addItem}
 use Rattle.refusal.specs.Refusing.{refusalOf}
 use Rattle.tables.specs.declared.Counts.{Counts}
+use Rattle.tables.specs.Tables.{tables}
+use Rattle.conditions.specs.Sizes.{Sized}
 use Rattle.unions.specs.Unions.{Row, rows, rangesOf}
 use Rattle.cache.specs.Areas.{catalogue, Held}
 use Rattle.catalogue.specs.declared.Added.{Added}
@@ -34,6 +36,7 @@ pub record Given (unions : ℕ) (rs : List Row) : Type 0 where
 pub record Kept (k : Counts) (m u t : List ℕ) : Type 0 where
   pub held : Held k (length m) (length u) (length t)
   pub given : Given (k .unions) (rows (k .members) u)
+  pub sized : Sized (tables k t)
 
 -- the rows of union members that an item takes
 unfoldable pub rowsOf : Item → ℕ

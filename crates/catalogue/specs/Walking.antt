@@ -1,14 +1,15 @@
 -- Reading a catalogue, record by record: what is left of the definitions' walks, those of `run` and of `check`.
 use mathlib.Core.Path.{_≡_}
-use mathlib.Core.Bool.{true}
+use mathlib.Core.Bool.{true, false}
 use mathlib.Core.List.{List}
-use Prim.Native.Nat.{ℕ, _*_, _<_, _≤_}
+use Prim.Native.Nat.{ℕ, _+_, _*_, _<_, _≤_}
 use lib.ListN.{length, getD, drop}
 use Rattle.rules.specs.Catalogue.{emptyCatalogue}
-use Rattle.rules.specs.Refusals.{numberAndPlace}
-use Rattle.rules.specs.Records.{kindOf}
+use Rattle.rules.specs.Refusals.{ok, numberAndPlace}
+use Rattle.rules.specs.Records.{kindOf, Item, read}
+use Rattle.rules.specs.Records as rules
 use Rattle.rules.specs.Limits.{Terms}
-use Rattle.rules.specs.Job.{Progress, reading, stopped, walk, runStep, checkStep, startsSheet}
+use Rattle.rules.specs.Job.{Progress, reading, stopped, bodyOf, walk, runStep, checkStep, startsSheet}
 use Rattle.refusal.specs.Refusing.{refusalOf}
 use Rattle.tables.specs.declared.Counts.{Counts}
 use Rattle.cache.specs.Areas.{catalogue}
@@ -29,6 +30,13 @@ pub record Ready (at : ℕ) (k : Counts) (m u t : List ℕ) : Type 0 where
   pub few : 5 * k .members ≤ at
 
 -- ---- after a record
+
+-- item i stands at `at`, whole, and `next` is past it
+pub record ItemAt (job : List ℕ) (at next : ℕ) (i : Item) : Type 0 where
+  pub there : at < length job
+  pub kind : startsSheet (getD job at 0) (kindOf (getD job at 0)) ≡ false
+  pub is : read false (getD job at 0) (drop (at + 1) job) ≡ ok (rules.catalogue i)
+  pub behind : next ≡ at + 1 + bodyOf (kindOf (getD job at 0))
 
 module _ (job : List ℕ) (at : ℕ) (k : Counts) where
   unfoldable pub placeAfter : Step → ℕ
