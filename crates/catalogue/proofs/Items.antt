@@ -33,7 +33,8 @@ use Rattle.marks.proofs.Laws.{marked-row, marked-other, cleared-row, cleared-ot
 use Rattle.marks.proofs.Bits.{bit-is}
 use Rattle.unions.specs.Unions.{rows, rowOf, pushed}
 use Rattle.unions.specs.declared.Member.{Member}
-use Rattle.conditions.specs.Sizes.{longest, sizeOf, sizesOf, Allowed, Earlier, Sized}
+use Rattle.conditions.specs.Sizes.{Sized}
+use Rattle.conditions.proofs.Kept.{sized-same}
 use Rattle.cache.specs.Areas.{assembled, catalogue, Held}
 use Rattle.catalogue.specs.declared.Added.the-variants.{Counted, Refused}
 use Rattle.catalogue.specs.Reading.{isLocked, isFavoured, noSuch, Given, Kept, rowsOf, answered, After, Entered}
@@ -41,10 +42,6 @@ use Rattle.tables.proofs.Laws.{ranges-counted, unions-counted}
 use Rattle.tables.proofs.Listed.{listed-at}
 use Rattle.catalogue.proofs.Fields.{full, not-full, none-such, one-such, put-is, unions-are, range-more, member-more, union-more, row-more, given-more}
 use Rattle.catalogue.proofs.Fields.{names-given, parts-given, ranges-given, unions-given, conditions-given, requirements-given, constraints-given}
-
--- sizes are a matter of the conditions
-sized-still : {x y : T.Tables} → Sized x → y .conditions ≡ x .conditions → y .sizes ≡ x .sizes → Sized y
-sized-still s e f = record { sizes = rw (e, f) (s .sizes); allowed = rw e (s .allowed); earlier = rw e (s .earlier) }
 
 -- an item that changes only the tables
 pub table-kept : {k r : Counts} {m u t t′ : List ℕ} {x : T.Tables} {e : Item} → Kept k m u t → T.Added k r t′ x → x .unions ≡ k .unions → Sized x → rowsOf e ≡ 0
@@ -131,7 +128,7 @@ module _ (k : Counts) (m u t : List ℕ) where
     name-entered r t′ h g a =
         record {
           is = rw (not-full c rules.Thing.name (names-given k m u t) l, le-ltb 1 f g, unlessAny) (ap rules.ok (put-is m u a ∙ with-name k m u t f));
-          still = table-kept h a (unions-counted k t) (sized-still (h .sized) refl refl) refl;
+          still = table-kept h a (unions-counted k t) (sized-same (tables k t) _ refl refl (h .sized)) refl;
         }
 
   -- ---- part
@@ -185,7 +182,7 @@ module _ (k : Counts) (m u t : List ℕ) where
                 let g : (bit 3 f && ofSameName c (λ (q : Part). q .favoured) n) ≡ false = sym v ∙ z in
                 record {
                   is = rw (room, named, le-ltb 31 f o, once, g, unlessAny) (ap rules.ok (put-is m u y ∙ with-part k m u t n f x e));
-                  still = table-kept h y (unions-counted k t) (sized-still (h .sized) refl refl) refl;
+                  still = table-kept h y (unions-counted k t) (sized-same (tables k t) _ refl refl (h .sized)) refl;
                 }
 
   -- ---- range
@@ -210,7 +207,7 @@ module _ (k : Counts) (m u t : List ℕ) where
             is =
                 rw (not-full c rules.Thing.range (ranges-given k m u t) l, one-such c rules.Thing.name (names-given k m u t) i, unlessAny)
                 (ap rules.ok (put-is m′ u a ∙ with-range k m u t m′ n z));
-            still = table-kept kept a (unions-counted k t) (sized-still (h .sized) refl refl) refl;
+            still = table-kept kept a (unions-counted k t) (sized-same (tables k t) _ refl refl (h .sized)) refl;
           }
 
   -- ---- member
@@ -282,7 +279,7 @@ module _ (k : Counts) (m u t : List ℕ) where
           kept = record {
             held = record { laid = a .laid; marks-fit = h .held .marks-fit; unions-fit = h .held .unions-fit };
             given = rw (a .members, more) (record { none-yet = λ v g. h .given .none-yet v (omega arith) });
-            sized = rw (a .is) (sized-still (h .sized) refl refl);
+            sized = rw (a .is) (sized-same (tables k t) _ refl refl (h .sized));
           };
           members = rw (a .members, add-zero);
         };
@@ -312,7 +309,7 @@ module _ (k : Counts) (m u t : List ℕ) where
               kept = record {
                 held = record { laid = laid; marks-fit = h .held .marks-fit; unions-fit = rw q (h .held .unions-fit) };
                 given = rw f (given-more (k .unions) (rows (k .members) u) (record { union = x; range = r }) l (h .given));
-                sized = unfold tables tablesIn in sized-still (h .sized) refl refl;
+                sized = unfold tables tablesIn in sized-same (tables k t) _ refl refl (h .sized);
               };
               members = e;
             };
@@ -397,7 +394,7 @@ module _ (k : Counts) (m u t : List ℕ) where
                       is =
                           rw (space, owned, over-ranges, v, over-unions, s, conditioned, le-ltb 1 f b, ← e, h, unlessAny)
                           (ap rules.ok (put-is m u y ∙ with-requirement k m u t o f n q));
-                      still = table-kept kept y (unions-counted k t) (sized-still (kept .sized) refl refl) refl;
+                      still = table-kept kept y (unions-counted k t) (sized-same (tables k t) _ refl refl (kept .sized)) refl;
                     }
 
   module _ (o n : ℕ) where
@@ -435,7 +432,7 @@ module _ (k : Counts) (m u t : List ℕ) where
           constraint-entered h r t′ kept y =
               record {
                 is = rw (place, owner-is o, ← d, w, given-range, ← e, h, unlessAny) (ap rules.ok (put-is m u y ∙ with-constraint k m u t o n));
-                still = table-kept kept y (unions-counted k t) (sized-still (kept .sized) refl refl) refl;
+                still = table-kept kept y (unions-counted k t) (sized-same (tables k t) _ refl refl (kept .sized)) refl;
               }
 
 -- ---- tests

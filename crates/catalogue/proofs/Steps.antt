@@ -35,7 +35,7 @@ use Rattle.tables.specs.declared.Counts.{Counts}
 use Rattle.tables.specs.Tables.{listed, tables, tablesIn, Laid}
 use Rattle.tables.proofs.Rows.{counts}
 use Rattle.unions.specs.Unions.{rows, rangesOf}
-use Rattle.conditions.specs.Sizes.{sizesOf, Sized}
+use Rattle.conditions.proofs.Kept.{sized-none}
 use Rattle.cache.specs.Areas.{assembled, catalogue}
 use Rattle.catalogue.specs.declared.Added.{Added}
 use Rattle.catalogue.specs.declared.Added.the-variants.{Counted, Refused}
@@ -287,15 +287,12 @@ left-start job m u t f g h =
             unions-fit = g
           };
           given = record { none-yet = λ v l. unfold rows upTo rangesOf filter in refl };
-          sized = unfold tables tablesIn listed upTo sizesOf in record { sizes = refl; allowed = λ c l. absurd (no-such c l); earlier = λ c l. absurd (no-such c l) }
+          sized = sized-none none-yet t refl
         };
         few = zero-le
       };
       same = unfold catalogue assembled tables tablesIn listed upTo in same-refl job 0 (reading emptyCatalogue)
     }
-  where
-    no-such : (c : ℕ) → c < 0 → ⊥
-    no-such c l = omega arith
 
 module _ (job m₀ u₀ t₀ : List ℕ) (at : ℕ) (k : Counts) (m u t : List ℕ) (x : Left job m₀ u₀ t₀ at k m u t) where
   module _ (s : _) (m′ u′ t′ : List ℕ) (g : Stepped job at k m u t s m′ u′ t′) where
