@@ -76,7 +76,7 @@ module _ (k : Counts) (m u t : List ℕ) where
           let b : T.Added k q t′ (withCondition (tables k t) (leaf r) (sizeIs (record { count = 1; longest = 1 }))) = rw (leaf-is r) at a in
           record {
             is = rw (space l, one-such c rules.Thing.range (ranges-given k m u t) i, unlessAny) (ap rules.ok (put-is m u b ∙ with-leaf r _));
-            still = table-kept h b (unfold withCondition in unions-counted k t) (leaf-sized r (h .sized)) refl
+            still = table-kept h b (unfold withCondition in unions-counted k t) (leaf-sized r (h .sized)) refl;
           }
 
   -- ---- joined
@@ -151,7 +151,7 @@ module _ (k : Counts) (m u t : List ℕ) where
                     is =
                         rw (space f, left-there, right-there, le-ltb 1 o g, many, le-ltb 64 (z .count) y, wide, le-ltb 16 (z .longest) w, unlessAny)
                         (ap rules.ok (put-is m u b ∙ with-joined));
-                    still = table-kept h b (unfold withCondition in unions-counted k t) sized refl
+                    still = table-kept h b (unfold withCondition in unions-counted k t) sized refl;
                   }
                 where
                   n : length (tables k t .conditions) ≡ k .conditions

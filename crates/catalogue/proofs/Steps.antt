@@ -191,7 +191,7 @@ module _ (job : List ℕ) (at : ℕ) (k : Counts) (m u t : List ℕ) (y : Ready 
     step-command o q =
         record {
           same = same-refl job at _;
-          then = record { kept = y .kept; starts = read-sheet false (getD job at 0) (drop (at + 1) job) (commandOf o) (sym (rw q at e)) }
+          then = record { kept = y .kept; starts = read-sheet false (getD job at 0) (drop (at + 1) job) (commandOf o) (sym (rw q at e)) };
         }
 
     pub step-unread : (f : Refusal) → x ≡ R.Refused f → Stepped job at k m u t (Step.Refused f) m u t
@@ -201,9 +201,9 @@ module _ (job : List ℕ) (at : ℕ) (k : Counts) (m u t : List ℕ) (y : Ready 
         record {
           same = record {
             run = λ z. stopping job at _ h (runStep z job) _ (run-reads z job) (run-reads z job .refused _ at _ _ (refusalOf f) catalogue-kind g);
-            check = λ z. stopping job at _ h (checkStep z job) _ (check-reads z job) (check-reads z job .refused _ at _ _ (refusalOf f) catalogue-kind g)
+            check = λ z. stopping job at _ h (checkStep z job) _ (check-reads z job) (check-reads z job .refused _ at _ _ (refusalOf f) catalogue-kind g);
           };
-          then = tt
+          then = tt;
         }
 
 pub item-at : (job : List ℕ) (at n : ℕ) (b : Bool) (x : Record) (i : D.Item) → at < length job → b ≡ startsSheet (getD job at 0) (kindOf (getD job at 0)) → b ≡ false
@@ -236,9 +236,9 @@ module _ (job : List ℕ) (at next : ℕ) (k : Counts) (m u t : List ℕ) (i : I
         record {
           same = record {
             run = λ z. stopping job at _ (x .there) (runStep z job) _ (run-reads z job) (run-reads z job .item-refused _ at _ _ i (refusalOf f) (x .kind) (x .is) v);
-            check = λ z. stopping job at _ (x .there) (checkStep z job) _ (check-reads z job) (check-reads z job .item-refused _ at _ _ i (refusalOf f) (x .kind) (x .is) v)
+            check = λ z. stopping job at _ (x .there) (checkStep z job) _ (check-reads z job) (check-reads z job .item-refused _ at _ _ i (refusalOf f) (x .kind) (x .is) v);
           };
-          then = tt
+          then = tt;
         }
 
     pub item-next : (r : Counts) → a ≡ Counted r → Stepped job at k m u t (Step.Next next r) m′ u′ t′
@@ -249,13 +249,13 @@ module _ (job : List ℕ) (at next : ℕ) (k : Counts) (m u t : List ℕ) (i : I
         record {
           same = record {
             run = λ z. going job at _ (x .there) (runStep z job) _ next (x .behind) (run-reads z job .item _ _ at _ _ i (x .kind) (x .is) v);
-            check = λ z. going job at _ (x .there) (checkStep z job) _ next (x .behind) (check-reads z job .item _ _ at _ _ i (x .kind) (x .is) v)
+            check = λ z. going job at _ (x .there) (checkStep z job) _ next (x .behind) (check-reads z job .item _ _ at _ _ i (x .kind) (x .is) v);
           };
           then = record {
             onward = omega (arith, x .behind);
             inside = whole;
-            ready = record { kept = w .kept; few = omega (arith, w .members, y .few, light, x .behind) }
-          }
+            ready = record { kept = w .kept; few = omega (arith, w .members, y .few, light, x .behind) };
+          };
         }
 
 -- ---- the loop
@@ -284,14 +284,14 @@ left-start job m u t f g h =
           held = record {
             laid = record { names = zero-le; parts = zero-le; ranges = zero-le; unions = zero-le; members = zero-le; conditions = zero-le; requirements = zero-le; constraints = zero-le; fits = h };
             marks-fit = f;
-            unions-fit = g
+            unions-fit = g;
           };
           given = record { none-yet = λ v l. unfold rows upTo rangesOf filter in refl };
-          sized = sized-none none-yet t refl
+          sized = sized-none none-yet t refl;
         };
-        few = zero-le
+        few = zero-le;
       };
-      same = unfold catalogue assembled tables tablesIn listed upTo in same-refl job 0 (reading emptyCatalogue)
+      same = unfold catalogue assembled tables tablesIn listed upTo in same-refl job 0 (reading emptyCatalogue);
     }
 
 module _ (job m₀ u₀ t₀ : List ℕ) (at : ℕ) (k : Counts) (m u t : List ℕ) (x : Left job m₀ u₀ t₀ at k m u t) where
@@ -306,7 +306,7 @@ module _ (job m₀ u₀ t₀ : List ℕ) (at : ℕ) (k : Counts) (m u t : List �
           tables-same = v ∙ x .tables-same;
           inside = w .inside;
           ready = w .ready;
-          same = same-then (x .same) (rw e at (g .same))
+          same = same-then (x .same) (rw e at (g .same));
         }
 
     pub left-less : (a : ℕ) (r : Counts) → s ≡ Step.Next a r → at < length job → length job - a < length job - at

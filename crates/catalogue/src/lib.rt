@@ -32,24 +32,15 @@ pub enum Added {
 
 // After the record at a place: the place and the counts after it, or the place is that of the first sheet record, or why it is refused.
 pub enum Step {
-    Next {
-        at: usize,
-        counts: Counts,
-    },
+    Next { at: usize, counts: Counts },
     Sheet,
     Refused(Refusal),
 }
 
 // A whole catalogue, up to the first sheet record or the end; or why and where it is refused.
 pub enum Read {
-    Sheet {
-        at: usize,
-        counts: Counts,
-    },
-    Refused {
-        refusal: Refusal,
-        at: usize,
-    },
+    Sheet { at: usize, counts: Counts },
+    Refused { refusal: Refusal, at: usize },
 }
 
 pub fn add_name(marks: &[u8], unions: &[u8], t: &mut [u8], k: Counts, flags: u8) -> Added
@@ -267,11 +258,31 @@ pub fn add_leaf(marks: &[u8], unions: &[u8], t: &mut [u8], k: Counts, range: u16
     if k.ranges <= range as usize {
         return Added::Refused(Refusal::Missing(Thing::Range, 1));
     }
-    let c = Condition { operator: 2, left: range, right: 0 };
-    Added::Counted(tables::put_condition(t, k, c, Size { count: 1, longest: 1 }))
+    let c = Condition {
+        operator: 2,
+        left: range,
+        right: 0,
+    };
+    Added::Counted(tables::put_condition(
+        t,
+        k,
+        c,
+        Size {
+            count: 1,
+            longest: 1,
+        },
+    ))
 }
 
-pub fn add_joined(marks: &[u8], unions: &[u8], t: &mut [u8], k: Counts, operator: u8, left: u16, right: u16) -> Added
+pub fn add_joined(
+    marks: &[u8],
+    unions: &[u8],
+    t: &mut [u8],
+    k: Counts,
+    operator: u8,
+    left: u16,
+    right: u16,
+) -> Added
     requires { ⌜ Kept k (now marks) (now unions) (now t) ⌝ }
     ensures { λ r. ⌜ Entered k (catalogue k (now (marks .entry)) (now (unions .entry)) (now (t .entry))) (Item.joined operator left right)
         r (now (marks .entry)) (now (unions .entry)) (now (t .exit)) ⌝ }
@@ -296,7 +307,16 @@ pub fn add_joined(marks: &[u8], unions: &[u8], t: &mut [u8], k: Counts, operator
         return Added::Refused(Refusal::RangesOver);
     }
     let operator = operator as u16;
-    Added::Counted(tables::put_condition(t, k, Condition { operator, left, right }, size))
+    Added::Counted(tables::put_condition(
+        t,
+        k,
+        Condition {
+            operator,
+            left,
+            right,
+        },
+        size,
+    ))
 }
 
 // ---- requirements and constraints
@@ -408,7 +428,13 @@ pub fn add_constraint(
 
 // ---- a catalogue
 
-pub fn add_item(marks: &mut [u8], unions: &mut [u8], t: &mut [u8], k: Counts, item: reader::Item) -> Added
+pub fn add_item(
+    marks: &mut [u8],
+    unions: &mut [u8],
+    t: &mut [u8],
+    k: Counts,
+    item: reader::Item,
+) -> Added
     requires { ⌜ Kept k (now marks) (now unions) (now t) ⌝ }
     requires { ⌜ k .members + rowsOf (itemOf item) ≤ 13107 ⌝ }
     ensures { λ r. ⌜ Entered k (catalogue k (now (marks .entry)) (now (unions .entry)) (now (t .entry))) (itemOf item)
@@ -416,15 +442,43 @@ pub fn add_item(marks: &mut [u8], unions: &mut [u8], t: &mut [u8], k: Counts, it
 {
     match item {
         reader::Item::Name(flags) => add_name(marks, unions, t, k, flags),
-        reader::Item::Part { name, flags, unknown, exclusion } => add_part(marks, unions, t, k, name, flags, unknown, exclusion),
+        reader::Item::Part {
+            name,
+            flags,
+            unknown,
+            exclusion,
+        } => add_part(marks, unions, t, k, name, flags, unknown, exclusion),
         reader::Item::Range(name) => add_range(marks, unions, t, k, name),
         reader::Item::Member { range, part } => add_member(marks, unions, t, k, range, part),
         reader::Item::Union => add_union(marks, unions, t, k),
-        reader::Item::UnionMember { union, range } => add_union_member(marks, unions, t, k, union, range),
+        reader::Item::UnionMember { union, range } => add_union_member(
+            marks,
+            unions,
+            t,
+            k,
+            union,
+            range,
+        ),
         reader::Item::Leaf(range) => add_leaf(marks, unions, t, k, range),
-        reader::Item::Joined { operator, left, right } => add_joined(marks, unions, t, k, operator, left, right),
-        reader::Item::Requirement { owner, form, number, condition } => add_requirement(marks, unions, t, k, owner, form, number, condition),
-        reader::Item::Constraint { owner, range } => add_constraint(marks, unions, t, k, owner, range),
+        reader::Item::Joined {
+            operator,
+            left,
+            right,
+        } => add_joined(marks, unions, t, k, operator, left, right),
+        reader::Item::Requirement {
+            owner,
+            form,
+            number,
+            condition,
+        } => add_requirement(marks, unions, t, k, owner, form, number, condition),
+        reader::Item::Constraint { owner, range } => add_constraint(
+            marks,
+            unions,
+            t,
+            k,
+            owner,
+            range,
+        ),
     }
 }
 
@@ -442,7 +496,16 @@ pub fn starts_sheet(kind: u8) -> bool
 }
 
 // The item of the record at `at`, the next record being at `next`.
-fn enter(job: &[u8], at: usize, next: usize, marks: &mut [u8], unions: &mut [u8], t: &mut [u8], k: Counts, item: reader::Item) -> Step
+fn enter(
+    job: &[u8],
+    at: usize,
+    next: usize,
+    marks: &mut [u8],
+    unions: &mut [u8],
+    t: &mut [u8],
+    k: Counts,
+    item: reader::Item,
+) -> Step
     requires { ⌜ length (now job) ≤ 65536 ⌝ }
     requires { ⌜ Ready at k (now marks) (now unions) (now t) ⌝ }
     requires { ⌜ ItemAt (now job) at next (itemOf item) ⌝ }
@@ -457,7 +520,14 @@ fn enter(job: &[u8], at: usize, next: usize, marks: &mut [u8], unions: &mut [u8]
 }
 
 // The record at `at`. A sheet record is left as it is, its body not looked at.
-pub fn read_record(job: &[u8], at: usize, marks: &mut [u8], unions: &mut [u8], t: &mut [u8], k: Counts) -> Step
+pub fn read_record(
+    job: &[u8],
+    at: usize,
+    marks: &mut [u8],
+    unions: &mut [u8],
+    t: &mut [u8],
+    k: Counts,
+) -> Step
     requires { ⌜ (at < length (now job)) × (length (now job) ≤ 65536) ⌝ }
     requires { ⌜ Ready at k (now marks) (now unions) (now t) ⌝ }
     ensures { λ r. ⌜ Stepped (now (job .entry)) at k (now (marks .entry)) (now (unions .entry)) (now (t .entry))
@@ -494,7 +564,10 @@ pub fn read_catalogue(job: &[u8], marks: &mut [u8], unions: &mut [u8], t: &mut [
     };
     while at < job.len() {
         match read_record(job, at, marks, unions, t, counts) {
-            Step::Next { at: next, counts: more } => {
+            Step::Next {
+                at: next,
+                counts: more,
+            } => {
                 at = next;
                 counts = more;
             }

@@ -98,7 +98,7 @@ ceilings l x f g =
       variables = leb-true _ _ (and-right (ltb 0 (l .variables)) _ a);
       clauses = leb-true _ _ (and-right (ltb 0 (l .clauses)) _ b);
       literals = leb-true _ _ (and-right (ltb 0 (l .literals)) _ c);
-      waiting = leb-true _ _ (and-right (ltb 0 (l .waiting)) _ d)
+      waiting = leb-true _ _ (and-right (ltb 0 (l .waiting)) _ d);
     }
 
 module _ (l : Limits) (x : Lent) where
@@ -189,7 +189,7 @@ numbered n at refusals.Refusal.listingFull e = omega arith
 
 pub gives-refused : (n at number place : ℕ) (f : Refusal) → (number, place) ≡ numberAndPlace n at (refusalOf f)
     → Gives (record { number = number; place = place; length = 0; variables = 0; clauses = 0 })
-      (refuses ((numberAndPlace n at (refusalOf f)) .0) ((numberAndPlace n at (refusalOf f)) .1))
+    (refuses ((numberAndPlace n at (refusalOf f)) .0) ((numberAndPlace n at (refusalOf f)) .1))
 unfolding numbersOf answerOf answerBy
 gives-refused n at number place f e =
     let z : number ≡ 0 → ⊥ = λ q. numbered n at (refusalOf f) (ap (λ (x : ℕ × ℕ). x .0) (sym e) ∙ q) in
@@ -231,9 +231,9 @@ module _ (z : rules.Terms) (job : List ℕ) where
   stays c at s = elim (decLt at (length job)) [
     | yes h ↦
         ap checked (
-          walk-record (checkStep z job) job at (reading c) h
-          ∙ ap (walk (checkStep z job) 0 _ _) (check-sheet z job c at (getD job at 0) (drop (at + 1) job) (s h))
-          ∙ walk-still (checkStep z job) (carrying c start) (check-carries z job c) 0 _ _
+        walk-record (checkStep z job) job at (reading c) h
+        ∙ ap (walk (checkStep z job) 0 _ _) (check-sheet z job c at (getD job at 0) (drop (at + 1) job) (s h))
+        ∙ walk-still (checkStep z job) (carrying c start) (check-carries z job c) 0 _ _
         )
     | no h ↦ ap checked (walk-end (checkStep z job) job at (reading c) (omega arith))
   ]
@@ -255,7 +255,7 @@ catalogue-checked job m u t m₁ u₁ t₁ m′ u′ t′ read r x e f g a b c h
       gives = λ z. rw (told-is z job read m₁ u₁ t₁ x) h;
       marks = still-zeroed a e;
       unions = still-zeroed b f;
-      tables = still-zeroed c g
+      tables = still-zeroed c g;
     }
 
 -- ---- check, on the catalogue's three areas
@@ -301,7 +301,7 @@ long-enough l x m u t b h e f =
 
 pub served : (job : List ℕ) (v n l k : ℕ) (r : Answer) (m u t c s w m′ u′ t′ c′ s′ w′ : List ℕ) → Zeroed c c′ → Zeroed s s′ → Zeroed w w′
     → Checked job (limitsOf (record { variables = v; clauses = n; literals = l; waiting = k }))
-      (lentOf (record { marks = length m; unions = length u; catalogue = length t; clauses = length c; state = length s; waiting = length w })) r m u t m′ u′ t′
+    (lentOf (record { marks = length m; unions = length u; catalogue = length t; clauses = length c; state = length s; waiting = length w })) r m u t m′ u′ t′
     → Served job (fourLimits v n l k) r m u t c s w m′ u′ t′ c′ s′ w′
 unfolding limitsOf lentOf fourLimits
 served job v n l k r m u t c s w m′ u′ t′ c′ s′ w′ x y z h =
@@ -312,5 +312,5 @@ served job v n l k r m u t c s w m′ u′ t′ c′ s′ w′ x y z h =
       catalogue = h .tables .is;
       clauses = x .is;
       state = y .is;
-      waiting = z .is
+      waiting = z .is;
     }

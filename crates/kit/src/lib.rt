@@ -98,7 +98,11 @@ fn areas_cover(l: Limits, lent: Lent) -> bool
 pub fn lends_enough(l: Limits, lent: Lent) -> bool
     ensures { λ r. ⌜ r ≡ fits (termsOf (limitsOf l) (lentOf lent) 0) ⌝ }
 {
-    if limits_allowed(l) { areas_cover(l, lent) } else { false }
+    if limits_allowed(l) {
+        areas_cover(l, lent)
+    } else {
+        false
+    }
 }
 
 // ---- answers
@@ -163,7 +167,14 @@ fn check_catalogue(job: &[u8], marks: &mut [u8], unions: &mut [u8], t: &mut [u8]
     told(job.len(), read)
 }
 
-fn check_within(job: &[u8], l: Limits, lent: Lent, marks: &mut [u8], unions: &mut [u8], t: &mut [u8]) -> Answer
+fn check_within(
+    job: &[u8],
+    l: Limits,
+    lent: Lent,
+    marks: &mut [u8],
+    unions: &mut [u8],
+    t: &mut [u8],
+) -> Answer
     requires { ⌜ Lends lent (now marks) (now unions) (now t) ⌝ }
     ensures { λ r. ⌜ Checked (now (job .entry)) (limitsOf l) (lentOf lent) r (now (marks .entry)) (now (unions .entry)) (now (t .entry))
         (now (marks .exit)) (now (unions .exit)) (now (t .exit)) ⌝ }
@@ -198,7 +209,12 @@ pub extern "C" fn kit_check(
         (now (marks .entry)) (now (unions .entry)) (now (catalogue .entry)) (now (store .entry)) (now (state .entry)) (now (deferred .entry))
         (now (marks .exit)) (now (unions .exit)) (now (catalogue .exit)) (now (store .exit)) (now (state .exit)) (now (deferred .exit)) ⌝ }
 {
-    let l = Limits { variables, clauses, literals, waiting };
+    let l = Limits {
+        variables,
+        clauses,
+        literals,
+        waiting,
+    };
     let lent = Lent {
         marks: marks.len(),
         unions: unions.len(),

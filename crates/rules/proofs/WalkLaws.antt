@@ -40,7 +40,7 @@ module _ (step : ℕ → ℕ → List ℕ → Progress → Progress) where
   pub walk-record : (job : List ℕ) (at : ℕ) (p : Progress) → at < length job
       → walk step 0 at (drop at job) p
       ≡ walk step 0 (at + 1 + bodyOf (kindOf (getD job at 0))) (drop (at + 1 + bodyOf (kindOf (getD job at 0))) job)
-        (step at (getD job at 0) (drop (at + 1) job) p)
+      (step at (getD job at 0) (drop (at + 1) job) p)
   unfolding walk
   walk-record job at p h =
       ap (λ (bs : List ℕ). walk step 0 at bs p) (drop-cons job at 0 h)
@@ -144,7 +144,7 @@ module _ (t : Terms) (job : List ℕ) where
         over = λ n at b rest. refl;
         item = λ c d at b rest i s e g. rw (e, g);
         item-refused = λ c at b rest i f s e g. rw (e, g);
-        refused = λ c at b rest f s e. rw e
+        refused = λ c at b rest f s e. rw e;
       }
 
   pub check-reads : Reads job (checkStep t job)
@@ -154,7 +154,7 @@ module _ (t : Terms) (job : List ℕ) where
         over = λ n at b rest. refl;
         item = λ c d at b rest i s e g. rw (s, e, g);
         item-refused = λ c at b rest i f s e g. rw (s, e, g);
-        refused = λ c at b rest f s e. rw (s, e)
+        refused = λ c at b rest f s e. rw (s, e);
       }
 
   -- `check` goes no further than the first sheet record
