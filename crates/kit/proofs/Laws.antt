@@ -127,7 +127,7 @@ module _ (l : Limits) (x : Lent) where
 
         module _ (d : l .clauses * 20 ≤ x .clauses) where
           abbrev stateNeeds : ℕ
-          stateNeeds = l .variables * 16 + l .literals * 2 + (3649 + l .waiting) * 2 + 29830
+          stateNeeds = l .variables * 16 + l .literals * 2 + (3649 + l .waiting) * 2 + 34954
 
           state-is : stateArea (limitsOf l) ≡ stateNeeds
           unfolding stateArea growingState fixedState limitsOf
@@ -138,10 +138,10 @@ module _ (l : Limits) (x : Lent) where
           up-to-state =
               rw (← state-is, le-leb 65536 (x .marks) a, le-leb 52428 (x .unions) b, le-leb 50696 (x .catalogue) c, le-leb (l .clauses * 20) (x .clauses) d)
 
-          pub state-short : x .state < l .variables * 16 + l .literals * 2 + (3649 + l .waiting) * 2 + 29830 → false ≡ enough
+          pub state-short : x .state < l .variables * 16 + l .literals * 2 + (3649 + l .waiting) * 2 + 34954 → false ≡ enough
           state-short h = rw (up-to-state, lt-leb stateNeeds (x .state) h)
 
-          module _ (e : l .variables * 16 + l .literals * 2 + (3649 + l .waiting) * 2 + 29830 ≤ x .state) where
+          module _ (e : l .variables * 16 + l .literals * 2 + (3649 + l .waiting) * 2 + 34954 ≤ x .state) where
             pub waiting-short : x .waiting < 8 * l .waiting → false ≡ enough
             waiting-short h =
                 let g : x .waiting < 2 * l .waiting * 4 = omega arith in

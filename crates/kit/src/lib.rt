@@ -86,7 +86,7 @@ fn areas_cover(l: Limits, lent: Lent) -> bool
     if (lent.clauses as u64) < l.clauses * 20 {
         return false;
     }
-    if (lent.state as u64) < l.variables * 16 + l.literals * 2 + (3649 + l.waiting) * 2 + 29830 {
+    if (lent.state as u64) < l.variables * 16 + l.literals * 2 + (3649 + l.waiting) * 2 + 34954 {
         return false;
     }
     if (lent.waiting as u64) < 8 * l.waiting {
