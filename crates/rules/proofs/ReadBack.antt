@@ -1,14 +1,13 @@
 -- The clauses can be read back from a listing: for every catalogue and state the literal lists on its `c` lines are those of the stored clauses, in order.
 use mathlib.Core.Path.{_≡_, refl, ap, sym, _∙_}
-use mathlib.Core.Bool.{Bool, true, false, _&&_, cond}
+use mathlib.Core.Bool.{Bool, true, false, cond}
 use mathlib.Core.List.{List, [], _∷_, _++_, map, append-assoc, append-nil}
 use mathlib.Core.Option.{Option, none, some}
 use Prim.Native.Nat.{ℕ, zero, suc, _+_, _*_, _-_, _/_, _%_, _<_, _≤_}
 use native.Mathlib.Omega.{arith}
-use native.Mathlib.Decide.{decLt}
 use lib.Dec.{eqb, ltb}
-use borrow.Author.Tests.{lt-ltb, le-ltb, ltb-true, eq-eqb, ne-eqb}
-use Rattle.rules.specs.Lists.{filter, all, listIf, concatMap, fold}
+use borrow.Author.Tests.{lt-ltb, ltb-true, eq-eqb, ne-eqb}
+use Rattle.rules.specs.Lists.{all, listIf, concatMap, fold}
 use Rattle.rules.specs.Literal.{Literal}
 use Rattle.rules.specs.Clause.{Clause, install, requires, gated, excluded, constrains, forbid, auxOut, auxOwner, lock, anyGate, anyOne, literals, asserted}
 use Rattle.rules.specs.Catalogue.{Owner, root, part, Goal, range, union, Catalogue, requirementAt}
@@ -17,29 +16,14 @@ use Rattle.rules.specs.Decisions.{Decision}
 use Rattle.rules.specs.Variables.{Origin, chosen, one, violation, gate}
 use Rattle.rules.specs.State.{State}
 use Rattle.rules.specs.Listing.{ascii, digits, decimal, line, signed, ownerField, goalFields, originFields, clauseField, decisionLine, numbered, assertions, reasonNumber, wordFields, clauseFields, waitingLine, waitingLines, listing}
+use Rattle.rules.specs.Limits.{Terms}
+use Rattle.rules.specs.Job.{outcome, accepted, printed}
 use Rattle.rules.specs.ReadBack.{joinFirst, runsBetween, numberRead, literalRead, isLetter, clauseRead, clausesRead}
+use Rattle.rules.proofs.Digits.{by-ten, digits-one, digits-more, by-digits}
 use Rattle.rules.proofs.Bools.{and-left, and-right, and-both}
 use Rattle.rules.proofs.ListLaws.{All, all-append, all-map, all-every}
 
--- ---- digits
-
-by-ten : (n : ℕ) (P : Type 0) → (n < 10 → P) → (10 ≤ n → P) → P
-by-ten n P f g = elim (decLt n 10) [ yes h ↦ f h | no h ↦ g (omega arith) ]
-
-digits-one : (k n : ℕ) (acc : List ℕ) → n < 10 → digits (suc k) n acc ≡ (48 + n) ∷ acc
-unfolding digits
-digits-one k n acc h = rw (lt-ltb n 10 h, digits)
-
-digits-more : (k n : ℕ) (acc : List ℕ) → 10 ≤ n → digits (suc k) n acc ≡ digits k (n / 10) ((48 + n % 10) ∷ acc)
-unfolding digits
-digits-more k n acc h = rw (le-ltb n 10 h, digits)
-
--- what holds of a list with a digit put before it holds of the digits
-by-digits : (P : List ℕ → Type 0) → ((d : ℕ) (acc : List ℕ) → d < 10 → P acc → P ((48 + d) ∷ acc)) → (k n : ℕ) (acc : List ℕ) → P acc → P (digits k n acc)
-by-digits P f zero n acc p = unfold digits in p
-by-digits P f (suc k) n acc p =
-    by-ten n _ (λ h. rw (digits-one k n acc h) (f n acc h p))
-    (λ h. rw (digits-more k n acc h) (by-digits P f k (n / 10) ((48 + n % 10) ∷ acc) (f (n % 10) acc (omega arith) p)))
+-- ---- numbers
 
 abbrev worth : List ℕ → ℕ → ℕ
 worth ds n = fold (λ d m. 10 * m + (d - 48)) ds n
@@ -53,7 +37,7 @@ digits-worth zero n acc h = let no-such : ⊥ = omega arith in absurd no-such
 digits-worth (suc k) n acc h =
     by-ten n _ (λ g. rw (digits-one k n acc g) (worth-first n 0 n acc g (omega arith)))
     (λ g.
-      rw (digits-more k n acc g) (digits-worth k (n / 10) ((48 + n % 10) ∷ acc) (omega arith) ∙ worth-first (n % 10) (n / 10) n acc (omega arith) (omega arith)))
+    rw (digits-more k n acc g) (digits-worth k (n / 10) ((48 + n % 10) ∷ acc) (omega arith) ∙ worth-first (n % 10) (n / 10) n acc (omega arith) (omega arith)))
 
 number-decimal : (n : ℕ) → numberRead (decimal n) ≡ n
 unfolding numberRead decimal fold
@@ -305,3 +289,8 @@ module _ (c : Catalogue) where
 
   pub read-back : (s : State) → clausesRead (listing c s) ≡ map literals (s .clauses)
   read-back s = rw (append-nil, nothing-read, append-nil, append-nil) at ((listing-read s) .read [])
+
+-- of an accepted job
+pub printed-read : (t : Terms) (job : List ℕ) {c : Catalogue} {s : State} → outcome t job ≡ accepted c s → clausesRead (printed (outcome t job)) ≡ map literals (s .clauses)
+unfolding printed
+printed-read t job {c} {s} e = rw e (read-back c s)
