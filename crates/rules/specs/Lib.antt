@@ -23,4 +23,5 @@ pub mod Listing
 pub mod Job
 pub mod Called
 pub mod Keeps
+pub mod ReadBack
 pub mod Compute

@@ -1,15 +1,14 @@
 -- The functions against the definitions: a law for each way out of each.
 use mathlib.Core.Path.{_≡_, refl, sym, _∙_}
 use mathlib.Core.Bool.{Bool, true, false}
-use mathlib.Core.List.{List, [], _∷_, _++_, append-assoc}
-use Prim.Native.Nat.{ℕ, zero, suc, _+_, _-_, _/_, _%_, _<_, _≤_}
+use mathlib.Core.List.{List, [], _∷_}
+use Prim.Native.Nat.{ℕ, suc, _+_, _-_, _/_, _%_, _<_, _≤_}
 use native.Mathlib.Omega.{arith}
 use native.Mathlib.Numerals.{add-one}
-use native.Mathlib.Decide.{decLt}
-use borrow.Author.Tests.{lt-ltb, le-ltb}
 use lib.ListN.{length, getD, set, take, drop, drop-of-length-le}
 use lib.Seq.{set-out, take-all, drop-cons}
-use Rattle.rules.specs.Listing.{digits, decimal, signed}
+use Rattle.rules.specs.Listing.{decimal, signed}
+use Rattle.rules.proofs.Digits.{decimal-digit, decimal-digits}
 use Rattle.text.specs.Text.{Wrote, wrote, WroteBut, literalOf}
 use Rattle.text.proofs.Written.{next, is, then, but-all, but-less, but-none}
 
@@ -57,41 +56,6 @@ module _ {room at : ℕ} {bytes o : List ℕ} where
     word-end h = but-none (rw (drop-of-length-le bytes h) at (f .so-far))
 
 -- ---- numbers in decimal
-
-by-ten : (n : ℕ) (P : Type 0) → (n < 10 → P) → (10 ≤ n → P) → P
-by-ten n P f g = elim (decLt n 10) [ yes h ↦ f h | no h ↦ g (omega arith) ]
-
-digits-one : (k n : ℕ) (acc : List ℕ) → n < 10 → digits (suc k) n acc ≡ (48 + n) ∷ acc
-unfolding digits
-digits-one k n acc h = rw (lt-ltb n 10 h, digits)
-
-digits-more : (k n : ℕ) (acc : List ℕ) → 10 ≤ n → digits (suc k) n acc ≡ digits k (n / 10) ((48 + n % 10) ∷ acc)
-unfolding digits
-digits-more k n acc h = rw (le-ltb n 10 h, digits)
-
-digits-append : (k n : ℕ) (acc : List ℕ) → digits k n acc ≡ digits k n [] ++ acc
-digits-append zero n acc = unfold digits in refl
-digits-append (suc k) n acc =
-    by-ten n _ (λ h. rw (digits-one k n acc h, digits-one k n [] h))
-    (λ h.
-    rw (digits-more k n acc h, digits-more k n [] h, digits-append k (n / 10) ((48 + n % 10) ∷ acc), digits-append k (n / 10) ((48 + n % 10) ∷ []), append-assoc))
-
--- enough digits are enough
-digits-enough : (k j n : ℕ) (acc : List ℕ) → n < k → n < j → digits k n acc ≡ digits j n acc
-digits-enough zero j n acc p q = let no-such : ⊥ = omega arith in absurd no-such
-digits-enough (suc k) zero n acc p q = let no-such : ⊥ = omega arith in absurd no-such
-digits-enough (suc k) (suc j) n acc p q =
-    by-ten n _ (λ h. rw (digits-one k n acc h, digits-one j n acc h))
-    (λ h. rw (digits-more k n acc h, digits-more j n acc h) (digits-enough k j (n / 10) ((48 + n % 10) ∷ acc) (omega arith) (omega arith)))
-
-pub decimal-digit : (n : ℕ) → n < 10 → decimal n ≡ (48 + n) ∷ []
-unfolding decimal
-decimal-digit n h = digits-one n n [] h
-
-pub decimal-digits : (n : ℕ) → 10 ≤ n → decimal n ≡ decimal (n / 10) ++ ((48 + n % 10) ∷ [])
-unfolding decimal
-decimal-digits n h =
-    rw (digits-more n n [] h, digits-append n (n / 10) ((48 + n % 10) ∷ []), digits-enough n (suc (n / 10)) (n / 10) [] (omega arith) (omega arith))
 
 module _ {room at n r : ℕ} {o o1 : List ℕ} where
   pub decimal-one : n < 10 → Wrote at r ((48 + n) ∷ []) room o o1 → Wrote at r (decimal n) room o o1

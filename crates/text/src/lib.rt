@@ -22,6 +22,7 @@ pub fn put(out: &mut [u8], room: usize, at: usize, b: u8) -> usize
         }
         return at + 1;
     }
+    // the first byte that does not fit
     at + 1
 }
 
