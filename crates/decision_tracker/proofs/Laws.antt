@@ -32,7 +32,7 @@ use Rattle.state.proofs.Rows.{length-rows, row-at, rows-more, rows-same}
 use Rattle.decision_tracker.specs.declared.Decision as code
 use Rattle.decision_tracker.specs.Tracking.{clauseBy, decisionBy, decisionOf, decisionIn, decisions, noDecision, seen, numberOf, Kept, Free, Rowed, Told, Dropped}
 use Rattle.decision_tracker.proofs.Lists.{filter-all, filter-last, each-first, pairwise-first, pairwise-last, few}
-use Rattle.decision_tracker.proofs.Values.{evaluate-other, evaluate-new, seen-decided, literal-value}
+use Rattle.decision_tracker.proofs.Values.{evaluate-other, evaluate-new, seen-decided, literal-value, reads-undecided}
 
 -- ---- for callers
 
@@ -95,6 +95,16 @@ room-for {l} {d} {x} {st} f = rw (count d st) at (fewer (l .variables) x (f .kep
 -- a literal is undecided where its variable is
 pub variable-free : (ds : List Decision) (k : Literal) → isUndecided (evaluate ds k) ≡ true → isUndecided (evaluate ds (pos (k .variable))) ≡ true
 variable-free ds k u = ap isUndecided (undecided-in ds (pos (k .variable)) (undecided-out ds k u))
+
+-- what was read as undecided can be decided
+pub read-free : {l : Limits} {d x : ℕ} {st : ℕ → List ℕ} {v : Value} → Kept l d st → x < l .variables → v ≡ seen (evaluate (decisions d st) (pos x))
+    → v ≡ values.Undecided → Free l d x st
+read-free {d = d} {x = x} {st = st} {v = v} k h e q = record { kept = k; exists = h; free = reads-undecided (decisions d st) (pos x) v e q }
+
+pub literal-free : {l : Limits} {d x : ℕ} {st : ℕ → List ℕ} {v : Value} (k : Literal) → Kept l d st → x ≡ k .variable → x < l .variables
+    → v ≡ seen (evaluate (decisions d st) k) → v ≡ values.Undecided → Free l d x st
+literal-free {d = d} {st = st} {v = v} k p n h e q =
+    record { kept = p; exists = h; free = rw n (variable-free (decisions d st) k (reads-undecided (decisions d st) k v e q)) }
 
 -- ---- values
 

@@ -72,6 +72,5 @@ satisfied-seen undecided = refl
 satisfied-seen (satisfied k) = refl
 satisfied-seen (falsified k) = refl
 
--- a variable that reads as undecided
-pub reads-undecided : (ds : List Decision) (x : ℕ) (v : Value) → v ≡ seen (evaluate ds (pos x)) → v ≡ values.Undecided → isUndecided (evaluate ds (pos x)) ≡ true
-reads-undecided ds x v e q = undecided-seen (evaluate ds (pos x)) ∙ rw (← e, q)
+pub reads-undecided : (ds : List Decision) (l : Literal) (v : Value) → v ≡ seen (evaluate ds l) → v ≡ values.Undecided → isUndecided (evaluate ds l) ≡ true
+reads-undecided ds l v e q = undecided-seen (evaluate ds l) ∙ rw (← e, q)

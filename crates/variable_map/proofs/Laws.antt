@@ -20,6 +20,7 @@ use Rattle.state.specs.Changed.{Changed, Blank}
 use Rattle.state.proofs.Changed.{stored-here, changed-stored, changed-none, changed-then, changed-within, length-slots, length-variables}
 use Rattle.state.proofs.Rows.{length-rows, row-at, rows-more, rows-same}
 use Rattle.variable_map.specs.declared.Origin as code
+use Rattle.variable_map.specs.declared.Named.{Named}
 use Rattle.variable_map.specs.declared.Named.the-variants.{Variable, Full}
 use Rattle.variable_map.specs.Mapping.{originBy, originOf, inTables, slotOf, originIn, variables, place, Mapped, Free, Rowed, Grown, Made, Lacking, Naming}
 use Rattle.variable_map.proofs.Slots.{slot-apart, slot-below}
@@ -52,6 +53,13 @@ pub made-room : {l : Limits} {n c x : ℕ} {o : Origin} {st st′ : ℕ → List
 made-room {n = n} {o = o} {st = st} m u =
     let e = grown-count (m .grown) ∙ (ap length (with-new (variables n st) o u) ∙ (length-snoc (variables n st) o ∙ ap suc (count n st))) in
     omega (arith, e, m .grown .mapped .room)
+
+-- what `name` gives, by its answer
+pub named-made : {l : Limits} {n c x : ℕ} {o : Origin} {st st′ : ℕ → List ℕ} {r : Named} → Naming l n o st st′ r → r ≡ Variable c x → Made l n o c x st st′
+named-made g e = g .made _ _ e
+
+pub named-mapped : {l : Limits} {n c x : ℕ} {o : Origin} {st st′ : ℕ → List ℕ} {r : Named} → Naming l n o st st′ r → r ≡ Variable c x → Mapped l c st′
+named-mapped g e = g .made _ _ e .grown .mapped
 
 -- ---- reading
 

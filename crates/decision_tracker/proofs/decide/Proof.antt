@@ -1,3 +1,4 @@
+-- `decision_tracker::decide` stores one decision more and the value of its variable. There is room, since its variable was undecided.
 use borrow.Author.Needs.{needs}
 use Rattle.decision_tracker.proofs.Laws.{room-for, decided}
 use Rattle.decision_tracker.proofs.decide.Statement.{statement}

@@ -1,3 +1,4 @@
+-- `decision_tracker::decision_at` gives row i of the d rows.
 use borrow.Author.Needs.{needs}
 use Rattle.decision_tracker.proofs.Laws.{decision-is}
 use Rattle.decision_tracker.proofs.decision_at.Statement.{statement}

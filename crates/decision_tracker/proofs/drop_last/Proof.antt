@@ -1,3 +1,4 @@
+-- `decision_tracker::drop_last` makes the last decision's variable undecided.
 use borrow.Author.Needs.{needs}
 use Rattle.decision_tracker.proofs.Laws.{dropped}
 use Rattle.decision_tracker.proofs.drop_last.Statement.{statement}

@@ -1,3 +1,4 @@
+-- `decision_tracker::eval` gives a literal's value by its variable's.
 use borrow.Author.Needs.{needs}
 use Rattle.decision_tracker.proofs.Laws.{eval-is}
 use Rattle.decision_tracker.proofs.eval.Statement.{statement}

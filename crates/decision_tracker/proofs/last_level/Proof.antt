@@ -1,3 +1,4 @@
+-- `decision_tracker::last_level` gives the level of the last row, and 0 where there is none.
 use borrow.Author.Needs.{needs}
 use Rattle.decision_tracker.proofs.Laws.{last-none, last-is}
 use Rattle.decision_tracker.proofs.last_level.Statement.{statement}

@@ -1,3 +1,4 @@
+-- `decision_tracker::number` gives 2 for true and 1 for false.
 use borrow.Author.Needs.{needs}
 use Rattle.decision_tracker.proofs.Laws.{number-true, number-false}
 use Rattle.decision_tracker.proofs.number.Statement.{statement}

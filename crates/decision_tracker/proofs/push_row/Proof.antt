@@ -1,3 +1,4 @@
+-- `decision_tracker::push_row` stores one row more behind the d rows.
 use borrow.Author.Needs.{needs}
 use Rattle.decision_tracker.proofs.Laws.{row-pushed}
 use Rattle.decision_tracker.proofs.push_row.Statement.{statement}

@@ -1,3 +1,4 @@
+-- `decision_tracker::undo` drops decisions from the end while they are above the level. The invariant: all that were dropped are above it.
 use borrow.Author.Needs.{needs}
 use Rattle.decision_tracker.proofs.Laws.{Undoing, undo-start, some-left, undo-step, undo-end}
 use Rattle.decision_tracker.proofs.undo.Statement.{statement}

@@ -1,3 +1,4 @@
+-- `decision_tracker::value` gives a variable's value by its number.
 use borrow.Author.Needs.{needs}
 use Rattle.decision_tracker.proofs.Laws.{value-undecided, value-false, value-true}
 use Rattle.decision_tracker.proofs.value.Statement.{statement}

@@ -1,3 +1,4 @@
+-- `variable_map::name` gives a known origin's variable, makes one where there is room, and says so where there is none.
 use borrow.Author.Needs.{needs}
 use Rattle.variable_map.proofs.Laws.{name-known, free, name-new, name-full}
 use Rattle.variable_map.proofs.name.Statement.{statement}

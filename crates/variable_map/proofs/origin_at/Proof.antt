@@ -1,3 +1,4 @@
+-- `variable_map::origin_at` gives the origin of a row, and the root past the rows.
 use borrow.Author.Needs.{needs}
 use Rattle.variable_map.proofs.Laws.{origin-in, origin-past}
 use Rattle.variable_map.proofs.origin_at.Statement.{statement}

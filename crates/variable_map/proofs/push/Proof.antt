@@ -1,3 +1,4 @@
+-- `variable_map::push` stores a new origin's row and sets its slot; no other slot changes.
 use borrow.Author.Needs.{needs}
 use Rattle.variable_map.proofs.Laws.{pushed}
 use Rattle.variable_map.proofs.push.Statement.{statement}

@@ -1,3 +1,4 @@
+-- `variable_map::push_row` stores one row more behind the n rows.
 use borrow.Author.Needs.{needs}
 use Rattle.variable_map.proofs.Laws.{row-pushed}
 use Rattle.variable_map.proofs.push_row.Statement.{statement}

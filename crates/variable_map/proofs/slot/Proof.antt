@@ -1,3 +1,4 @@
+-- `variable_map::slot` gives the slot of an origin, by its kind.
 use borrow.Author.Needs.{needs}
 use Rattle.variable_map.proofs.Slots.{slot-root, slot-part, slot-forbid, slot-one, slot-violation, slot-range, slot-union}
 use Rattle.variable_map.proofs.slot.Statement.{statement}

@@ -1,3 +1,4 @@
+-- `variable_map::start` makes the root's variable, the first.
 use borrow.Author.Needs.{needs}
 use Rattle.variable_map.proofs.Laws.{root-free, started}
 use Rattle.variable_map.proofs.start.Statement.{statement}

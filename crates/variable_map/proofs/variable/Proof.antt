@@ -1,3 +1,4 @@
+-- `variable_map::variable` gives what the slot of an origin holds: its place.
 use borrow.Author.Needs.{needs}
 use Rattle.variable_map.proofs.Laws.{variable-is}
 use Rattle.variable_map.proofs.variable.Statement.{statement}
