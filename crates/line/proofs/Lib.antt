@@ -1,3 +1,4 @@
 pub mod Line
 pub mod Tasks
 pub mod Masks
+pub mod Room
