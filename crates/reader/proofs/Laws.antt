@@ -16,6 +16,8 @@ use Rattle.rules.specs.Compute.{computing}
 use Rattle.rules.proofs.Bools.{and-left, and-right}
 use Rattle.rules.proofs.Member.{all-out, upTo-in}
 use Rattle.rules.proofs.KindTable.{not-one, looked-up}
+use Rattle.rules.proofs.WalkLaws.{read-ok}
+use Rattle.rules.specs.Job.{bodyOf}
 use Rattle.rules.specs.Bytes.{byteAt, wordAt}
 use Rattle.rules.specs.Refusals.{unknownKind, outOfPlace, cutShort, Result, ok, refuse}
 use Rattle.rules.specs.Records.{Kind, kinds, lookUp, kindOf, ofSheet, recordOf, readBody, readKind, read}
@@ -258,3 +260,14 @@ module _ (begun : Bool) (job : List ℕ) (at n : ℕ) (e : n ≡ bodyLength (get
         pub at-command : (o : Command) → 32 ≤ getD job at 0 → commandOf o ≡ commandRead (getD job at 0) b → resultOf (Sheet o) ≡ read begun (getD job at 0) (drop (at + 1) job)
         unfolding resultOf
         at-command o k g = rw (whole, le-ltb _ _ k, g)
+
+-- ---- for callers: the length of the body of a record that was read
+
+pub body-read : (begun : Bool) (k : ℕ) (rest : List ℕ) (x : rules.Record) → read begun k rest ≡ ok x → bodyOf (kindOf k) ≡ bodyLength k
+unfolding bodyOf
+body-read begun k rest x e =
+    let r = read-ok begun k rest x e in
+    rw (r .found) (go (agree k) (r .found))
+  where
+    go : {y : Kind × ℕ} → lengthAgrees (kindOf k) (bodyLength k) ≡ true → kindOf k ≡ some y → y .1 ≡ bodyLength k
+    go {y} h f = sym (eqb-true (bodyLength k) (y .1) (and-left (eqb (bodyLength k) (y .1)) _ (rw f at h)))

@@ -101,7 +101,7 @@ module _ (c : Catalogue) where
 
 -- ---- the waiting limit
 
-within-limit : (l : Limits) (s : State) → above l s ≡ false → length (s .opening .waiting) ≤ l .waiting
+pub within-limit : (l : Limits) (s : State) → above l s ≡ false → length (s .opening .waiting) ≤ l .waiting
 unfolding above
 within-limit l s e = go (ltb (l .waiting) (length (s .opening .waiting))) refl
   where

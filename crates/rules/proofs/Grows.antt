@@ -125,14 +125,14 @@ pub record Grows (s s′ : State) : Type 0 where
   pub clauses : Prefix (s .clauses) (s′ .clauses)
   pub waiting : Prefix (s .opening .waiting) (s′ .opening .waiting)
 
-same : {s : State} → Grows s s
+pub same : {s : State} → Grows s s
 same = record { variables = whole; clauses = whole; waiting = whole }
 
-and-then : {s s′ s″ : State} → Grows s s′ → Grows s′ s″ → Grows s s″
+pub and-then : {s s′ s″ : State} → Grows s s′ → Grows s′ s″ → Grows s s″
 and-then p q =
     record { variables = longer (p .variables) (q .variables); clauses = longer (p .clauses) (q .clauses); waiting = longer (p .waiting) (q .waiting) }
 
-opening-grows : (o : Opening) (s : State) → Prefix (s .opening .waiting) (o .waiting) → Grows s (setOpening o s)
+pub opening-grows : (o : Opening) (s : State) → Prefix (s .opening .waiting) (o .waiting) → Grows s (setOpening o s)
 opening-grows o s w = record { variables = whole; clauses = whole; waiting = w }
 
 pub withVariable-prefix : (o : Origin) (vs : List Origin) → Prefix vs (withVariable o vs)
@@ -154,7 +154,7 @@ module _ (c : Catalogue) (r : Run) where
         waiting = rw (p .opening) whole;
       }
 
-  emits-grows : (es : List Event) (s : State) → Grows s (emitAll c r es s)
+  pub emits-grows : (es : List Event) (s : State) → Grows s (emitAll c r es s)
   unfolding emitAll fold
   emits-grows [] s = same
   emits-grows (e ∷ es) s = and-then (emit-grows e s) (emits-grows es (emit c r e s))
@@ -163,7 +163,7 @@ module _ (c : Catalogue) (r : Run) where
   unfolding serveTask
   serveTask-grows t s = and-then (opening-grows _ s (serve-waits c (decidedTrue s) t (s .opening) .waits)) (emit-grows (served t) _)
 
-  serveLine-grows : (fuel : ℕ) (ts : List Task) (s : State) → Grows s (serveLine c r fuel ts s)
+  pub serveLine-grows : (fuel : ℕ) (ts : List Task) (s : State) → Grows s (serveLine c r fuel ts s)
   unfolding serveLine
   serveLine-grows zero ts s = same
   serveLine-grows (suc fuel) [] s = same
@@ -171,11 +171,11 @@ module _ (c : Catalogue) (r : Run) where
       let s₁ = serveTask c r t s in
       and-then (serveTask-grows t s) (and-then {s′ = lineTaken s₁} (opening-grows _ s₁ whole) (serveLine-grows fuel (ts ++ s₁ .opening .line) (lineTaken s₁)))
 
-  joinAll-grows : (s : State) → Grows s (joinAll c r s)
+  pub joinAll-grows : (s : State) → Grows s (joinAll c r s)
   unfolding joinAll endRun
   joinAll-grows s = and-then (opening-grows (endRun c (s .opening)) s whole) (emits-grows _ _)
 
-  linkAll-grows : (s : State) → Grows s (linkAll c r s)
+  pub linkAll-grows : (s : State) → Grows s (linkAll c r s)
   unfolding linkAll
   linkAll-grows s = emits-grows _ s
 

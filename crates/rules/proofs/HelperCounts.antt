@@ -64,7 +64,7 @@ few-below (suc m) {xs} p h =
     below : (x : ℕ) → (x ∈ xs) × (not (eqb x m) ≡ true) → x < m
     below x i = let l = h x (i .0) in let apart = eqb-false x m (not-true (eqb x m) (i .1)) in omega arith
 
-tracked-once : {l : Limits} {c : Catalogue} {s : State} → Reached l c s → Once (s .opening .tracked)
+pub tracked-once : {l : Limits} {c : Catalogue} {s : State} → Reached l c s → Once (s .opening .tracked)
 tracked-once {c = c} r = every-opening c NamedOnce once-kept start-once r .1
   where
     once-kept : KeptByRules c NamedOnce

@@ -43,7 +43,7 @@ of-known {x} (v ∷ vs) e = go (sameOrigin x v) refl e (of-known vs)
 
 -- ---- after naming
 
-known-again : (o : Origin) (vs : List Origin) → known vs o ≡ true → withVariable o vs ≡ vs
+pub known-again : (o : Origin) (vs : List Origin) → known vs o ≡ true → withVariable o vs ≡ vs
 unfolding withVariable unless
 known-again o vs e = rw e
 

@@ -18,14 +18,14 @@ use Rattle.rules.proofs.Queueing.{Stable, add-keeps, ready-keeps, serve
 abbrev pub NamedOnce : Opening → Type 0
 NamedOnce o = Once (o .named) × Once (o .tracked)
 
-stable : Stable NamedOnce
+pub stable : Stable NamedOnce
 stable = record { kept = λ s ws ns p. p }
 
 pub start-once : NamedOnce unopened
 start-once = (empty, empty)
 
 module _ (c : Catalogue) where
-  naming-once : (p : ℕ) (s : Opening) → NamedOnce s → NamedOnce (nameForTracking c p s)
+  pub naming-once : (p : ℕ) (s : Opening) → NamedOnce s → NamedOnce (nameForTracking c p s)
   unfolding nameForTracking
   naming-once p s h =
       unless-either NamedOnce _ _ s (λ e. h) (λ e. (once-snoc (h .0) (not-elem p (s .named) (or-right (elem (nameOf c p) (s .several)) _ e)), h .1))

@@ -107,7 +107,7 @@ unfolding known any
 end-known o [] = rw (origin-self o)
 end-known o (u ∷ us) = or-right (sameOrigin o u) _ (end-known o us)
 
-withVariable-known : (o : Origin) (vs : List Origin) → known (withVariable o vs) o ≡ true
+pub withVariable-known : (o : Origin) (vs : List Origin) → known (withVariable o vs) o ≡ true
 unfolding withVariable snoc
 withVariable-known o vs = unless-cases (λ us. known us o ≡ true) _ _ vs (λ e. e) (λ e. end-known o vs)
 

@@ -13,15 +13,15 @@ pub record Stable (P : Opening → Type 0) : Type 0 where
       → s .owners ⊆ ws → s .names ⊆ ns → P s → P (setOwners ws (setNames ns (setWaiting waiting (setDrawn drawn (setAdded added (setLine l s))))))
 
 module _ (P : Opening → Type 0) (stable : Stable P) where
-  queue-keeps : (t : Task) (s : Opening) → P s → P (queue t s)
+  pub queue-keeps : (t : Task) (s : Opening) → P s → P (queue t s)
   unfolding queue
   queue-keeps t s p = stable .kept s ⊆-refl ⊆-refl p
 
-  openOwner-keeps : (w : Owner) (s : Opening) → P s → P (openOwner w s)
+  pub openOwner-keeps : (w : Owner) (s : Opening) → P s → P (openOwner w s)
   unfolding openOwner queue
   openOwner-keeps w s p = unless-keeps P _ _ s (stable .kept s (⊆-snoc (s .owners) w) ⊆-refl) p
 
-  openName-keeps : (n : ℕ) (s : Opening) → P s → P (openName n s)
+  pub openName-keeps : (n : ℕ) (s : Opening) → P s → P (openName n s)
   unfolding openName queue
   openName-keeps n s p = unless-keeps P _ _ s (stable .kept s ⊆-refl (⊆-snoc (s .names) n)) p
 

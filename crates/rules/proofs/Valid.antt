@@ -147,7 +147,7 @@ module _ (c : Catalogue) (w : WellFormed c) where
 
   -- ---- each rule keeps an opening valid
 
-  queue-valid : (t : Task) (s : Opening) → TaskGiven c t → ValidOpening c s → ValidOpening c (queue t s)
+  pub queue-valid : (t : Task) (s : Opening) → TaskGiven c t → ValidOpening c s → ValidOpening c (queue t s)
   unfolding queue
   queue-valid t s h v = record {
     owners = v .owners;
@@ -179,7 +179,7 @@ module _ (c : Catalogue) (w : WellFormed c) where
     line = v .line;
   }))
 
-  openName-valid : (n : ℕ) (s : Opening) → n < length (c .names) → ValidOpening c s → ValidOpening c (openName n s)
+  pub openName-valid : (n : ℕ) (s : Opening) → n < length (c .names) → ValidOpening c s → ValidOpening c (openName n s)
   unfolding openName
   openName-valid n s h v = unless-keeps (ValidOpening c) _ _ s v (λ _. queue-valid (name n) _ h (record {
     owners = v .owners;
@@ -195,11 +195,11 @@ module _ (c : Catalogue) (w : WellFormed c) where
     line = v .line;
   }))
 
-  openNames-valid : (rs : List ℕ) (s : Opening) → All (λ r. r < length (c .ranges)) rs → ValidOpening c s → ValidOpening c (openNames c rs s)
+  pub openNames-valid : (rs : List ℕ) (s : Opening) → All (λ r. r < length (c .ranges)) rs → ValidOpening c s → ValidOpening c (openNames c rs s)
   unfolding openNames
   openNames-valid rs s h v = fold-keeps (ValidOpening c) _ _ (λ r u l. openName-valid (rangeName c r) u (w .ranges r l .name)) rs h s v
 
-  fire-valid : (q : ℕ) (is : List ℕ) (s : Opening) → q < length (c .requirements) → All (λ i. Entry c (q, i)) is → ValidOpening c s
+  pub fire-valid : (q : ℕ) (is : List ℕ) (s : Opening) → q < length (c .requirements) → All (λ i. Entry c (q, i)) is → ValidOpening c s
       → ValidOpening c (fire c q is s)
   unfolding fire
   fire-valid q [] s h es v = v
@@ -245,7 +245,7 @@ module _ (c : Catalogue) (w : WellFormed c) where
         line = v .line;
       })
 
-  markHandled-valid : (q : ℕ) (is : List ℕ) (s : Opening) → TaskGiven c (requirement q is) → ValidOpening c s → ValidOpening c (markHandled q is s)
+  pub markHandled-valid : (q : ℕ) (is : List ℕ) (s : Opening) → TaskGiven c (requirement q is) → ValidOpening c s → ValidOpening c (markHandled q is s)
   unfolding markHandled
   markHandled-valid q is s h v = record {
     owners = v .owners;
@@ -261,7 +261,7 @@ module _ (c : Catalogue) (w : WellFormed c) where
     line = v .line;
   }
 
-  naming-valid : (p : ℕ) (s : Opening) → p < length (c .parts) → ValidOpening c s → ValidOpening c (nameForTracking c p s)
+  pub naming-valid : (p : ℕ) (s : Opening) → p < length (c .parts) → ValidOpening c s → ValidOpening c (nameForTracking c p s)
   unfolding nameForTracking
   naming-valid p s h v = unless-keeps (ValidOpening c) _ _ s v (λ _. record {
     owners = v .owners;
@@ -277,7 +277,7 @@ module _ (c : Catalogue) (w : WellFormed c) where
     line = v .line;
   })
 
-  ready-valid : (p : ℕ) (s : Opening) → p < length (c .parts) → ValidOpening c s → ValidOpening c (openReady c p s)
+  pub ready-valid : (p : ℕ) (s : Opening) → p < length (c .parts) → ValidOpening c s → ValidOpening c (openReady c p s)
   unfolding openReady
   ready-valid p s h v = when-keeps (ValidOpening c) _ _ s v (openOwner-valid (part p) s h v)
 

@@ -1,16 +1,17 @@
 -- What is unchanged after no step, one store, or two steps; and a region after a store.
 use mathlib.Core.Path.{_≡_, refl, sym, _∙_, ap}
 use mathlib.Core.Bool.{true, false, true≢false}
-use mathlib.Core.List.{List}
-use Prim.Native.Nat.{ℕ, zero, suc, _+_, _*_, _-_, _/_, _<_, _≤_}
+use mathlib.Core.List.{List, [], _∷_, _++_}
+use Prim.Native.Nat.{ℕ, zero, suc, _+_, _*_}
 use native.Mathlib.Omega.{arith}
 use native.Mathlib.Decide.{decLt}
 use lib.Dec.{eqb}
 use lib.ListN.{length, getD, set, take, drop, replicate, length-take, length-drop, List·getD-eq-default}
 use lib.Seq.{getD-take, getD-drop, length-take-le}
 use borrow.Author.Tests.{eq-eqb, ne-eqb, eqb-true}
-use Rattle.rules.specs.Lists.{all, elem, sum}
+use Rattle.rules.specs.Lists.{any, all, elem, sum}
 use Rattle.rules.specs.Called.{_∈_}
+use Rattle.rules.proofs.Bools.{by-cases}
 use Rattle.rules.proofs.Member.{any-out, all-out, contrary}
 use Rattle.words.specs.Words.{words, length-words}
 use Rattle.regions.specs.Regions.{startOf, sizeOf, part, regions, stored}
@@ -42,6 +43,19 @@ changed-none js st = record { same = λ j o. refl }
 
 pub changed-then : {js : List ℕ} {st st′ st″ : ℕ → List ℕ} → Changed js st st′ → Changed js st′ st″ → Changed js st st″
 changed-then p q = record { same = λ j o. q .same j o ∙ p .same j o }
+
+none-left : (j : ℕ) (js ks : List ℕ) → elem j (js ++ ks) ≡ false → elem j js ≡ false
+unfolding any
+none-left j [] ks e = refl
+none-left j (i ∷ js) ks e = by-cases (eqb j i) (λ q. absurd (true≢false (rw q at e))) (λ q. rw q (none-left j js ks (rw q at e)))
+
+none-right : (j : ℕ) (js ks : List ℕ) → elem j (js ++ ks) ≡ false → elem j ks ≡ false
+unfolding any
+none-right j [] ks e = e
+none-right j (i ∷ js) ks e = by-cases (eqb j i) (λ q. absurd (true≢false (rw q at e))) (λ q. none-right j js ks (rw q at e))
+
+pub changed-both : {js ks : List ℕ} {st st′ st″ : ℕ → List ℕ} → Changed js st st′ → Changed ks st′ st″ → Changed (js ++ ks) st st″
+changed-both {js} {ks} p q = record { same = λ j o. q .same j (none-right j js ks o) ∙ p .same j (none-left j js ks o) }
 
 -- in a longer list of regions
 pub changed-within : {js : List ℕ} (ks : List ℕ) {st st′ : ℕ → List ℕ} → all (λ j. elem j ks) js ≡ true → Changed js st st′ → Changed ks st st′

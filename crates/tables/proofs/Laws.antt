@@ -9,15 +9,16 @@ use borrow.Author.Needs.{needs}
 use lib.Dec.{eqb}
 use lib.ListN.{length, getD, set}
 use Rattle.rules.specs.AtMostOne.{bit}
-use Rattle.rules.specs.Catalogue.{noPart, noCondition, noRequirement, noConstraint}
+use Rattle.rules.specs.Catalogue.{Condition, noPart, noCondition, noRequirement, noConstraint}
 use Rattle.rules.specs.Items.{partOf, ownerOf, conditionOf, goalOf}
 use Rattle.words.specs.Words.{words, length-words}
 use Rattle.tables.specs.declared.Counts.{Counts}
 use Rattle.tables.specs.declared.Condition as C
 use Rattle.tables.specs.declared.ConditionalRequirement.{ConditionalRequirement}
 use Rattle.tables.specs.declared.Constraint as K
-use Rattle.tables.specs.Tables.{Tables, field, nameRow, partRow, rangeRow, conditionRow, requirementRow, constraintRow}
-use Rattle.tables.specs.Tables.{conditionBy, conditionFrom, requirementFrom, constraintFrom, conditionIs, requirementIs, constraintIs}
+use Rattle.tables.specs.declared.Size as S
+use Rattle.tables.specs.Tables.{Tables, Size, noSize, field, nameRow, partRow, rangeRow, conditionRow, sizeRow, requirementRow, constraintRow}
+use Rattle.tables.specs.Tables.{conditionBy, conditionFrom, sizeFrom, requirementFrom, constraintFrom, conditionIs, sizeIs, requirementIs, constraintIs}
 use Rattle.tables.specs.Tables.{tablesIn, tables, Laid, Added}
 use Rattle.tables.specs.Tables.{withName, withPart, withRange, withUnion, withCondition, withRequirement, withConstraint}
 use Rattle.tables.proofs.Listed.{listed-at, listed-past, listed-length}
@@ -25,7 +26,7 @@ use Rattle.tables.proofs.Stores.{Stored, first, then, stored-length}
 use Rattle.tables.proofs.Rows.{Free, free-kept, stored-begins}
 use Rattle.tables.proofs.Rows.{moreNames, moreParts, moreRanges, moreUnions, moreConditions, moreRequirements, moreConstraints}
 use Rattle.tables.proofs.Rows.{one-name, one-part, one-range, one-union, one-condition, one-requirement, one-constraint}
-use Rattle.tables.proofs.Rows.{name-from, part-from, range-from, condition-from, requirement-from, constraint-from}
+use Rattle.tables.proofs.Rows.{name-from, part-from, range-from, condition-from, size-from, requirement-from, constraint-from}
 
 -- ---- what stands at a number, below a table's count and past it
 
@@ -95,6 +96,15 @@ module _ (k : Counts) (t : List ℕ) (i : ℕ) where
   pub condition-past : k .conditions ≤ i → conditionIs (record { operator = 2; left = 0; right = 0 }) ≡ getD (tables k t .conditions) i noCondition
   unfolding tables tablesIn conditionIs conditionFrom conditionBy
   condition-past h = sym (listed-past (k .conditions) (conditionRow (words t)) i noCondition h)
+
+  pub size-in : (n l : ℕ) → i < k .conditions → n ≡ number (12036 + 6 * i + 3) → l ≡ number (12036 + 6 * i + 4)
+      → sizeIs (record { count = n; longest = l }) ≡ getD (tables k t .sizes) i noSize
+  unfolding tables tablesIn sizeIs sizeRow field
+  size-in n l h e₀ e₁ = rw (listed-at (k .conditions) (sizeRow (words t)) i noSize h, e₀, e₁)
+
+  pub size-past : k .conditions ≤ i → sizeIs (record { count = 0; longest = 0 }) ≡ getD (tables k t .sizes) i noSize
+  unfolding tables tablesIn sizeIs sizeFrom
+  size-past h = sym (listed-past (k .conditions) (sizeRow (words t)) i noSize h)
 
   pub requirement-in : (o f n c : ℕ) → i < k .requirements
       → o ≡ number (13572 + 6 * i) → f ≡ number (13572 + 6 * i + 1) → n ≡ number (13572 + 6 * i + 2) → c ≡ number (13572 + 6 * i + 3)
@@ -166,16 +176,26 @@ pub union-added : (k : Counts) (t : List ℕ) → Laid k (length t) → k .union
 unfolding tables
 union-added k t l h = record { laid = search needs; members = refl; is = one-union k (words t) }
 
-pub condition-added : (k : Counts) (t t₁ t₂ t₃ : List ℕ) (c : C.Condition) → Laid k (length t) → k .conditions < 256
+pub size-stored : (t t₁ t₂ : List ℕ) (c : ℕ) (z : S.Size)
+    → words t₁ ≡ set (words t) (12036 + 6 * c + 3) (z .count) → words t₂ ≡ set (words t₁) (12036 + 6 * c + 4) (z .longest)
+    → words t₂ ≡ set (set (words t) (12036 + 6 * c + 3) (z .count)) (12036 + 6 * c + 4) (z .longest)
+size-stored t t₁ t₂ c z e₁ e₂ = e₂ ∙ rw e₁
+
+abbrev withBoth : Tables → Condition × Size → Tables
+withBoth t x = withCondition t (x .0) (x .1)
+
+pub condition-added : (k : Counts) (t t₁ t₂ t₃ t₄ : List ℕ) (c : C.Condition) (z : S.Size) → Laid k (length t) → k .conditions < 256
     → words t₁ ≡ set (words t) (12036 + 6 * k .conditions) (c .operator)
     → words t₂ ≡ set (words t₁) (12036 + 6 * k .conditions + 1) (c .left)
     → words t₃ ≡ set (words t₂) (12036 + 6 * k .conditions + 2) (c .right)
-    → Added k (moreConditions k) t₃ (withCondition (tables k t) (conditionIs c))
-unfolding conditionIs
-condition-added k t t₁ t₂ t₃ c l h e₁ e₂ e₃ =
-    let s : Stored (words t) (12036 + 6 * k .conditions) (c .operator ∷ c .left ∷ c .right ∷ []) (words t₃) = then (then (first _ e₁) _ e₂) _ e₃ in
-    added withCondition k (moreConditions k) t t₃ s (search needs) (search needs) refl (one-condition k (words t₃))
-    (condition-from (stored-begins 12036 6 (k .conditions) s refl (omega (arith, length-words t))))
+    → words t₄ ≡ set (set (words t₃) (12036 + 6 * k .conditions + 3) (z .count)) (12036 + 6 * k .conditions + 4) (z .longest)
+    → Added k (moreConditions k) t₄ (withCondition (tables k t) (conditionIs c) (sizeIs z))
+unfolding conditionIs sizeIs
+condition-added k t t₁ t₂ t₃ t₄ c z l h e₁ e₂ e₃ e₄ =
+    let s : Stored (words t) (12036 + 6 * k .conditions) (c .operator ∷ c .left ∷ c .right ∷ z .count ∷ z .longest ∷ []) (words t₄) =
+    then (then (then (then (first _ e₁) _ e₂) _ e₃) _ refl) _ e₄ in
+    let b = stored-begins 12036 6 (k .conditions) s refl (omega (arith, length-words t)) in
+    added withBoth k (moreConditions k) t t₄ s (search needs) (search needs) refl (one-condition k (words t₄)) (rw (condition-from b, size-from b))
 
 pub requirement-added : (k : Counts) (t t₁ t₂ t₃ t₄ : List ℕ) (q : ConditionalRequirement) → Laid k (length t) → k .requirements < 1024
     → words t₁ ≡ set (words t) (13572 + 6 * k .requirements) (q .owner)
@@ -222,6 +242,10 @@ module _ (k : Counts) (t : List ℕ) where
   pub conditions-counted : length (tables k t .conditions) ≡ k .conditions
   unfolding tables tablesIn
   conditions-counted = listed-length (k .conditions) (conditionRow (words t))
+
+  pub sizes-counted : length (tables k t .sizes) ≡ k .conditions
+  unfolding tables tablesIn
+  sizes-counted = listed-length (k .conditions) (sizeRow (words t))
 
   pub requirements-counted : length (tables k t .requirements) ≡ k .requirements
   unfolding tables tablesIn

@@ -8,8 +8,8 @@ use lib.ListN.{length, getD}
 use Rattle.rules.specs.AtMostOne.{bit}
 use Rattle.rules.specs.Items.{partOf}
 use Rattle.tables.specs.declared.Counts.{Counts}
-use Rattle.tables.specs.Tables.{listed, field, nameRow, partRow, rangeRow, conditionRow, requirementRow, constraintRow}
-use Rattle.tables.specs.Tables.{conditionFrom, requirementFrom, constraintFrom, tablesIn}
+use Rattle.tables.specs.Tables.{listed, field, nameRow, partRow, rangeRow, conditionRow, sizeRow, requirementRow, constraintRow}
+use Rattle.tables.specs.Tables.{conditionFrom, sizeFrom, requirementFrom, constraintFrom, tablesIn}
 use Rattle.tables.specs.Tables.{withName, withPart, withRange, withUnion, withCondition, withRequirement, withConstraint}
 use Rattle.tables.proofs.Listed.{listed-more, listed-same}
 use Rattle.tables.proofs.Stores.{Stored, stored-outside, stored-inside}
@@ -32,9 +32,13 @@ ranges : Table 9604 4 1 rangeRow
 unfolding rangeRow
 ranges = record { same = λ w w′ i e. e 0 (omega arith) }
 
-conditions : Table 12036 6 3 conditionRow
+conditions : Table 12036 6 5 conditionRow
 unfolding conditionRow
 conditions = record { same = λ w w′ i e. rw (e 0 (omega arith), e 1 (omega arith), e 2 (omega arith)) }
+
+sizes : Table 12036 6 5 sizeRow
+unfolding sizeRow
+sizes = record { same = λ w w′ i e. rw (e 3 (omega arith), e 4 (omega arith)) }
 
 requirements : Table 13572 6 4 requirementRow
 unfolding requirementRow
@@ -61,7 +65,7 @@ pub record Free (k : Counts) (at to : ℕ) : Type 0 where
   pub names : Apart 0 6 1 (k .names) at to
   pub parts : Apart 384 5 4 (k .parts) at to
   pub ranges : Apart 9604 4 1 (k .ranges) at to
-  pub conditions : Apart 12036 6 3 (k .conditions) at to
+  pub conditions : Apart 12036 6 5 (k .conditions) at to
   pub requirements : Apart 13572 6 4 (k .requirements) at to
   pub constraints : Apart 19716 3 2 (k .constraints) at to
 
@@ -73,6 +77,7 @@ free-kept k s f =
       apart-kept parts s (k .parts) (f .parts),
       apart-kept ranges s (k .ranges) (f .ranges),
       apart-kept conditions s (k .conditions) (f .conditions),
+      apart-kept sizes s (k .conditions) (f .conditions),
       apart-kept requirements s (k .requirements) (f .requirements),
       apart-kept constraints s (k .constraints) (f .constraints),
     )
@@ -122,9 +127,9 @@ module _ (k : Counts) where
     unfolding tablesIn withUnion
     one-union = rw add-one
 
-    pub one-condition : tablesIn moreConditions w ≡ withCondition (tablesIn k w) (conditionRow w (k .conditions))
+    pub one-condition : tablesIn moreConditions w ≡ withCondition (tablesIn k w) (conditionRow w (k .conditions)) (sizeRow w (k .conditions))
     unfolding tablesIn withCondition
-    one-condition = rw listed-more
+    one-condition = rw (listed-more (k .conditions) (conditionRow w), listed-more (k .conditions) (sizeRow w))
 
     pub one-requirement : tablesIn moreRequirements w ≡ withRequirement (tablesIn k w) (requirementRow w (k .requirements))
     unfolding tablesIn withRequirement
@@ -158,9 +163,13 @@ module _ {w : List ℕ} {n : ℕ} where
   unfolding rangeRow
   range-from b = b .at 0 (omega arith)
 
-  pub condition-from : {o l r : ℕ} → Begins w 12036 6 n (o ∷ l ∷ r ∷ []) → conditionRow w n ≡ conditionFrom o l r
+  pub condition-from : {o l r a b : ℕ} → Begins w 12036 6 n (o ∷ l ∷ r ∷ a ∷ b ∷ []) → conditionRow w n ≡ conditionFrom o l r
   unfolding conditionRow
-  condition-from b = rw (b .at 0 (omega arith), b .at 1 (omega arith), b .at 2 (omega arith))
+  condition-from s = rw (s .at 0 (omega arith), s .at 1 (omega arith), s .at 2 (omega arith))
+
+  pub size-from : {o l r a b : ℕ} → Begins w 12036 6 n (o ∷ l ∷ r ∷ a ∷ b ∷ []) → sizeRow w n ≡ sizeFrom a b
+  unfolding sizeRow
+  size-from s = rw (s .at 3 (omega arith), s .at 4 (omega arith))
 
   pub requirement-from : {o f m c : ℕ} → Begins w 13572 6 n (o ∷ f ∷ m ∷ c ∷ []) → requirementRow w n ≡ requirementFrom o f m c
   unfolding requirementRow

@@ -14,6 +14,15 @@ use Rattle.tables.specs.declared.Counts.{Counts}
 use Rattle.tables.specs.declared.Condition as C
 use Rattle.tables.specs.declared.ConditionalRequirement.{ConditionalRequirement}
 use Rattle.tables.specs.declared.Constraint as K
+use Rattle.tables.specs.declared.Size as S
+
+-- how many disjuncts a condition has, and how many ranges the longest of them
+pub record Size : Type 0 where
+  pub count : ℕ
+  pub longest : ℕ
+
+abbrev pub noSize : Size
+noSize = record { count = 0; longest = 0 }
 
 -- all but members of ranges and of unions
 pub record Tables : Type 0 where
@@ -22,6 +31,7 @@ pub record Tables : Type 0 where
   pub ranges : List ℕ  -- their names
   pub unions : ℕ  -- how many
   pub conditions : List Condition
+  pub sizes : List Size  -- of the conditions
   pub requirements : List Requirement
   pub constraints : List Constraint
 
@@ -54,6 +64,12 @@ conditionFrom o l r = conditionBy (eqb o 2) o l r
 unfoldable pub conditionRow : List ℕ → ℕ → Condition
 conditionRow w i = conditionFrom (field w 12036 6 i 0) (field w 12036 6 i 1) (field w 12036 6 i 2)
 
+unfoldable pub sizeFrom : (count longest : ℕ) → Size
+sizeFrom n l = record { count = n; longest = l }
+
+unfoldable pub sizeRow : List ℕ → ℕ → Size
+sizeRow w i = sizeFrom (field w 12036 6 i 3) (field w 12036 6 i 4)
+
 unfoldable pub requirementFrom : (owner form number condition : ℕ) → Requirement
 requirementFrom o f n c = record { owner = ownerOf o; goal = goalOf f n; condition = conditionOf c }
 
@@ -74,6 +90,7 @@ tablesIn k w =
       ranges = listed (k .ranges) (rangeRow w);
       unions = k .unions;
       conditions = listed (k .conditions) (conditionRow w);
+      sizes = listed (k .conditions) (sizeRow w);
       requirements = listed (k .requirements) (requirementRow w);
       constraints = listed (k .constraints) (constraintRow w)
     }
@@ -98,6 +115,9 @@ pub record Laid (k : Counts) (bytes : ℕ) : Type 0 where
 unfoldable pub conditionIs : C.Condition → Condition
 conditionIs c = conditionFrom (c .operator) (c .left) (c .right)
 
+unfoldable pub sizeIs : S.Size → Size
+sizeIs z = sizeFrom (z .count) (z .longest)
+
 unfoldable pub requirementIs : ConditionalRequirement → Requirement
 requirementIs q = requirementFrom (q .owner) (q .form) (q .number) (q .condition)
 
@@ -107,25 +127,25 @@ constraintIs c = constraintFrom (c .owner) (c .range)
 -- ---- one thing more
 
 unfoldable pub withName : Tables → Bool → Tables
-withName t x = record { names = snoc (t .names) x; parts = t .parts; ranges = t .ranges; unions = t .unions; conditions = t .conditions; requirements = t .requirements; constraints = t .constraints }
+withName t x = record { names = snoc (t .names) x; parts = t .parts; ranges = t .ranges; unions = t .unions; conditions = t .conditions; sizes = t .sizes; requirements = t .requirements; constraints = t .constraints }
 
 unfoldable pub withPart : Tables → Part → Tables
-withPart t x = record { names = t .names; parts = snoc (t .parts) x; ranges = t .ranges; unions = t .unions; conditions = t .conditions; requirements = t .requirements; constraints = t .constraints }
+withPart t x = record { names = t .names; parts = snoc (t .parts) x; ranges = t .ranges; unions = t .unions; conditions = t .conditions; sizes = t .sizes; requirements = t .requirements; constraints = t .constraints }
 
 unfoldable pub withRange : Tables → ℕ → Tables
-withRange t x = record { names = t .names; parts = t .parts; ranges = snoc (t .ranges) x; unions = t .unions; conditions = t .conditions; requirements = t .requirements; constraints = t .constraints }
+withRange t x = record { names = t .names; parts = t .parts; ranges = snoc (t .ranges) x; unions = t .unions; conditions = t .conditions; sizes = t .sizes; requirements = t .requirements; constraints = t .constraints }
 
-unfoldable pub withCondition : Tables → Condition → Tables
-withCondition t x = record { names = t .names; parts = t .parts; ranges = t .ranges; unions = t .unions; conditions = snoc (t .conditions) x; requirements = t .requirements; constraints = t .constraints }
+unfoldable pub withCondition : Tables → Condition → Size → Tables
+withCondition t x z = record { names = t .names; parts = t .parts; ranges = t .ranges; unions = t .unions; conditions = snoc (t .conditions) x; sizes = snoc (t .sizes) z; requirements = t .requirements; constraints = t .constraints }
 
 unfoldable pub withRequirement : Tables → Requirement → Tables
-withRequirement t x = record { names = t .names; parts = t .parts; ranges = t .ranges; unions = t .unions; conditions = t .conditions; requirements = snoc (t .requirements) x; constraints = t .constraints }
+withRequirement t x = record { names = t .names; parts = t .parts; ranges = t .ranges; unions = t .unions; conditions = t .conditions; sizes = t .sizes; requirements = snoc (t .requirements) x; constraints = t .constraints }
 
 unfoldable pub withConstraint : Tables → Constraint → Tables
-withConstraint t x = record { names = t .names; parts = t .parts; ranges = t .ranges; unions = t .unions; conditions = t .conditions; requirements = t .requirements; constraints = snoc (t .constraints) x }
+withConstraint t x = record { names = t .names; parts = t .parts; ranges = t .ranges; unions = t .unions; conditions = t .conditions; sizes = t .sizes; requirements = t .requirements; constraints = snoc (t .constraints) x }
 
 unfoldable pub withUnion : Tables → Tables
-withUnion t = record { names = t .names; parts = t .parts; ranges = t .ranges; unions = suc (t .unions); conditions = t .conditions; requirements = t .requirements; constraints = t .constraints }
+withUnion t = record { names = t .names; parts = t .parts; ranges = t .ranges; unions = suc (t .unions); conditions = t .conditions; sizes = t .sizes; requirements = t .requirements; constraints = t .constraints }
 
 -- what is left when one thing more was put: r counts it, the bytes hold the tables t, and the union members are as many as before
 pub record Added (k r : Counts) (bytes : List ℕ) (t : Tables) : Type 0 where

@@ -3,14 +3,17 @@
 ghost use mathlib.Core.Path.{_≡_};
 ghost use Prim.Native.Nat.{_+_, _*_, _/_, _%_, _<_, _≤_};
 ghost use lib.Dec.{eqb};
-ghost use lib.ListN.{length, getD};
+ghost use lib.ListN.{length, getD, set};
 ghost use mathlib.Core.Bool.{false};
 ghost use Rattle.rules.specs.AtMostOne.{bit};
 ghost use Rattle.rules.specs.Catalogue.{noPart, noCondition, noRequirement, noConstraint};
 ghost use Rattle.rules.specs.Items.{partOf};
+ghost use Rattle.words.specs.Words.{words};
 ghost use Rattle.tables.specs.Tables.{
     tables,
     conditionIs,
+    sizeIs,
+    noSize,
     requirementIs,
     constraintIs,
     withName,
@@ -41,6 +44,12 @@ pub struct Condition {
     pub operator: u16,
     pub left: u16,
     pub right: u16,
+}
+
+// Of a condition: how many disjuncts it has, and how many ranges the longest of them.
+pub struct Size {
+    pub count: u16,
+    pub longest: u16,
 }
 
 // A requirement with its condition: the owner (65,535 the root), the form (0 range, 1 union) and number, the condition (65,535 none).
@@ -151,6 +160,20 @@ pub fn condition_at(t: &[u8], k: Counts, c: usize) -> Condition
     }
 }
 
+pub fn condition_size(t: &[u8], k: Counts, c: usize) -> Size
+    requires { ⌜ Laid k (length (now t)) ⌝ }
+    ensures { λ r. ⌜ sizeIs r ≡ getD (tables k (now (t .entry)) .sizes) c noSize ⌝ }
+{
+    if c < k.conditions {
+        let at = 12036 + 6 * c;
+        let count = words::get(t, at + 3);
+        let longest = words::get(t, at + 4);
+        Size { count, longest }
+    } else {
+        Size { count: 0, longest: 0 }
+    }
+}
+
 pub fn requirement_at(t: &[u8], k: Counts, q: usize) -> ConditionalRequirement
     requires { ⌜ Laid k (length (now t)) ⌝ }
     ensures { λ r. ⌜ requirementIs r ≡ getD (tables k (now (t .entry)) .requirements) q noRequirement ⌝ }
@@ -230,15 +253,26 @@ pub fn put_union(t: &[u8], k: Counts) -> Counts
     more
 }
 
-pub fn put_condition(t: &mut [u8], k: Counts, c: Condition) -> Counts
+// The size in row c of the conditions.
+fn put_size(t: &mut [u8], c: usize, size: Size)
+    requires { ⌜ (c < 256) × (50696 ≤ length (now t)) ⌝ }
+    ensures { λ _. ⌜ words (now (t .exit)) ≡ set (set (words (now (t .entry))) (12036 + 6 * c + 3) (size .count)) (12036 + 6 * c + 4) (size .longest) ⌝ }
+{
+    let at = 12036 + 6 * c;
+    words::put(t, at + 3, size.count);
+    words::put(t, at + 4, size.longest);
+}
+
+pub fn put_condition(t: &mut [u8], k: Counts, c: Condition, size: Size) -> Counts
     requires { ⌜ Laid k (length (now t)) ⌝ }
     requires { ⌜ k .conditions < 256 ⌝ }
-    ensures { λ r. ⌜ Added k r (now (t .exit)) (withCondition (tables k (now (t .entry))) (conditionIs c)) ⌝ }
+    ensures { λ r. ⌜ Added k r (now (t .exit)) (withCondition (tables k (now (t .entry))) (conditionIs c) (sizeIs size)) ⌝ }
 {
     let at = 12036 + 6 * k.conditions;
     words::put(t, at, c.operator);
     words::put(t, at + 1, c.left);
     words::put(t, at + 2, c.right);
+    put_size(t, k.conditions, size);
     let mut more = k;
     more.conditions = k.conditions + 1;
     more

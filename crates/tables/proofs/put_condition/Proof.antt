@@ -1,4 +1,4 @@
--- `tables::put_condition` stores one condition more and changes nothing else.
+-- `tables::put_condition` stores one condition more, with its size, and changes nothing else.
 use borrow.Author.Needs.{needs}
 use Rattle.tables.proofs.Laws.{condition-added}
 use Rattle.tables.proofs.put_condition.Statement.{statement}
@@ -25,6 +25,9 @@ add-put-2 c = search needs
 put-requires-3 : tie.Need-put-requires-3
 put-requires-3 c κs = search needs
 
+put-size-requires : tie.Need-put-size-requires
+put-size-requires c κs = search needs
+
 add-more : tie.Need-add-more
 add-more c = search needs
 
@@ -45,6 +48,7 @@ put-condition-spec =
     put-requires-2
     add-put-2
     put-requires-3
+    put-size-requires
     add-more
     same-length
     returns)

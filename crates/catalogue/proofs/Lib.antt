@@ -1,0 +1,4 @@
+pub mod Fields
+pub mod Items
+pub mod Conditions
+pub mod Steps

@@ -1,0 +1,249 @@
+use borrow.Author.Needs.{needs}
+use Rattle.catalogue.proofs.Steps.{row-free, as-name, as-part, as-range, as-member, as-union, as-union-member, as-leaf, as-joined, as-requirement, as-constraint}
+use Rattle.catalogue.proofs.add_item.Statement.{statement}
+use Rattle.catalogue.proofs.add_item.Tie as tie
+
+enum-known-item : tie.Need-enum-known-item
+enum-known-item c = search needs
+
+add-name-requires : tie.Need-add-name-requires
+add-name-requires c κs = search needs
+
+enum-known-item-2 : tie.Need-enum-known-item-2
+enum-known-item-2 c = search needs
+
+add-part-requires : tie.Need-add-part-requires
+add-part-requires c κs = search needs
+
+enum-known-item-3 : tie.Need-enum-known-item-3
+enum-known-item-3 c = search needs
+
+add-range-requires : tie.Need-add-range-requires
+add-range-requires c κs = search needs
+
+enum-known-item-4 : tie.Need-enum-known-item-4
+enum-known-item-4 c = search needs
+
+add-member-requires : tie.Need-add-member-requires
+add-member-requires c κs = search needs
+
+enum-told : tie.Need-enum-told
+enum-told c = search needs
+
+add-union-requires : tie.Need-add-union-requires
+add-union-requires c κs = search needs
+
+enum-known-item-5 : tie.Need-enum-known-item-5
+enum-known-item-5 c = search needs
+
+add-union-member-requires : tie.Need-add-union-member-requires
+add-union-member-requires c κs = search (needs, row-free)
+
+enum-known-item-6 : tie.Need-enum-known-item-6
+enum-known-item-6 c = search needs
+
+add-leaf-requires : tie.Need-add-leaf-requires
+add-leaf-requires c κs = search needs
+
+enum-known-item-7 : tie.Need-enum-known-item-7
+enum-known-item-7 c = search needs
+
+add-joined-requires : tie.Need-add-joined-requires
+add-joined-requires c κs = search needs
+
+enum-known-item-8 : tie.Need-enum-known-item-8
+enum-known-item-8 c = search needs
+
+add-requirement-requires : tie.Need-add-requirement-requires
+add-requirement-requires c κs = search needs
+
+enum-known-item-9 : tie.Need-enum-known-item-9
+enum-known-item-9 c = search needs
+
+add-constraint-requires : tie.Need-add-constraint-requires
+add-constraint-requires c κs = search needs
+
+same-length : tie.Need-same-length
+same-length c = search needs
+
+same-length-2 : tie.Need-same-length-2
+same-length-2 c = search needs
+
+same-length-3 : tie.Need-same-length-3
+same-length-3 c = search needs
+
+returns : tie.Need-returns
+returns c = search (needs, as-name)
+
+same-length-4 : tie.Need-same-length-4
+same-length-4 c = search needs
+
+same-length-5 : tie.Need-same-length-5
+same-length-5 c = search needs
+
+same-length-6 : tie.Need-same-length-6
+same-length-6 c = search needs
+
+returns-2 : tie.Need-returns-2
+returns-2 c = search (needs, as-part)
+
+same-length-7 : tie.Need-same-length-7
+same-length-7 c = search needs
+
+same-length-8 : tie.Need-same-length-8
+same-length-8 c = search needs
+
+same-length-9 : tie.Need-same-length-9
+same-length-9 c = search needs
+
+returns-3 : tie.Need-returns-3
+returns-3 c = search (needs, as-range)
+
+same-length-10 : tie.Need-same-length-10
+same-length-10 c = search needs
+
+same-length-11 : tie.Need-same-length-11
+same-length-11 c = search needs
+
+same-length-12 : tie.Need-same-length-12
+same-length-12 c = search needs
+
+returns-4 : tie.Need-returns-4
+returns-4 c = search (needs, as-member)
+
+same-length-13 : tie.Need-same-length-13
+same-length-13 c = search needs
+
+same-length-14 : tie.Need-same-length-14
+same-length-14 c = search needs
+
+same-length-15 : tie.Need-same-length-15
+same-length-15 c = search needs
+
+returns-5 : tie.Need-returns-5
+returns-5 c = search (needs, as-union)
+
+same-length-16 : tie.Need-same-length-16
+same-length-16 c = search needs
+
+same-length-17 : tie.Need-same-length-17
+same-length-17 c = search needs
+
+same-length-18 : tie.Need-same-length-18
+same-length-18 c = search needs
+
+returns-6 : tie.Need-returns-6
+returns-6 c = search (needs, as-union-member)
+
+same-length-19 : tie.Need-same-length-19
+same-length-19 c = search needs
+
+same-length-20 : tie.Need-same-length-20
+same-length-20 c = search needs
+
+same-length-21 : tie.Need-same-length-21
+same-length-21 c = search needs
+
+returns-7 : tie.Need-returns-7
+returns-7 c = search (needs, as-leaf)
+
+same-length-22 : tie.Need-same-length-22
+same-length-22 c = search needs
+
+same-length-23 : tie.Need-same-length-23
+same-length-23 c = search needs
+
+same-length-24 : tie.Need-same-length-24
+same-length-24 c = search needs
+
+returns-8 : tie.Need-returns-8
+returns-8 c = search (needs, as-joined)
+
+same-length-25 : tie.Need-same-length-25
+same-length-25 c = search needs
+
+same-length-26 : tie.Need-same-length-26
+same-length-26 c = search needs
+
+same-length-27 : tie.Need-same-length-27
+same-length-27 c = search needs
+
+returns-9 : tie.Need-returns-9
+returns-9 c = search (needs, as-requirement)
+
+same-length-28 : tie.Need-same-length-28
+same-length-28 c = search needs
+
+same-length-29 : tie.Need-same-length-29
+same-length-29 c = search needs
+
+same-length-30 : tie.Need-same-length-30
+same-length-30 c = search needs
+
+returns-10 : tie.Need-returns-10
+returns-10 c = search (needs, as-constraint)
+
+pub add-item-spec : {M : Type 1} → statement M
+add-item-spec =
+    tie.close
+    (tie.spec
+    enum-known-item
+    add-name-requires
+    enum-known-item-2
+    add-part-requires
+    enum-known-item-3
+    add-range-requires
+    enum-known-item-4
+    add-member-requires
+    enum-told
+    add-union-requires
+    enum-known-item-5
+    add-union-member-requires
+    enum-known-item-6
+    add-leaf-requires
+    enum-known-item-7
+    add-joined-requires
+    enum-known-item-8
+    add-requirement-requires
+    enum-known-item-9
+    add-constraint-requires
+    same-length
+    same-length-2
+    same-length-3
+    returns
+    same-length-4
+    same-length-5
+    same-length-6
+    returns-2
+    same-length-7
+    same-length-8
+    same-length-9
+    returns-3
+    same-length-10
+    same-length-11
+    same-length-12
+    returns-4
+    same-length-13
+    same-length-14
+    same-length-15
+    returns-5
+    same-length-16
+    same-length-17
+    same-length-18
+    returns-6
+    same-length-19
+    same-length-20
+    same-length-21
+    returns-7
+    same-length-22
+    same-length-23
+    same-length-24
+    returns-8
+    same-length-25
+    same-length-26
+    same-length-27
+    returns-9
+    same-length-28
+    same-length-29
+    same-length-30
+    returns-10)

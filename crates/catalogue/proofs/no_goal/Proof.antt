@@ -1,0 +1,13 @@
+use borrow.Author.Needs.{needs}
+use Rattle.catalogue.proofs.Items.{goal-this, goal-other}
+use Rattle.catalogue.proofs.no_goal.Statement.{statement}
+use Rattle.catalogue.proofs.no_goal.Tie as tie
+
+returns : tie.Need-returns
+returns c = search (needs, goal-this)
+
+returns-2 : tie.Need-returns-2
+returns-2 c = search (needs, goal-other)
+
+pub no-goal-spec : {M : Type 1} → statement M
+no-goal-spec = tie.close (tie.spec returns returns-2)

@@ -1,0 +1,95 @@
+-- Reading a catalogue, record by record: what is left of the definitions' walks, those of `run` and of `check`.
+use mathlib.Core.Path.{_≡_}
+use mathlib.Core.Bool.{true, false}
+use mathlib.Core.List.{List}
+use Prim.Native.Nat.{ℕ, _+_, _*_, _<_, _≤_}
+use lib.ListN.{length, getD, drop}
+use Rattle.rules.specs.Catalogue.{emptyCatalogue}
+use Rattle.rules.specs.Refusals.{ok, numberAndPlace}
+use Rattle.rules.specs.Records.{kindOf, Item, read}
+use Rattle.rules.specs.Records as rules
+use Rattle.rules.specs.Limits.{Terms}
+use Rattle.rules.specs.Job.{Progress, reading, stopped, bodyOf, walk, runStep, checkStep, startsSheet}
+use Rattle.refusal.specs.Refusing.{refusalOf}
+use Rattle.tables.specs.declared.Counts.{Counts}
+use Rattle.cache.specs.Areas.{catalogue}
+use Rattle.catalogue.specs.Reading.{Kept}
+use Rattle.catalogue.specs.declared.Step.{Step}
+use Rattle.catalogue.specs.declared.Step.the-variants as Step
+use Rattle.catalogue.specs.declared.Read.{Read}
+use Rattle.catalogue.specs.declared.Read.the-variants as Read
+
+-- from byte `at` with progress p both walks come to where they come from byte at′ with p′
+pub record Same (job : List ℕ) (at : ℕ) (p : Progress) (at′ : ℕ) (p′ : Progress) : Type 0 where
+  pub run : (t : Terms) → walk (runStep t job) 0 at (drop at job) p ≡ walk (runStep t job) 0 at′ (drop at′ job) p′
+  pub check : (t : Terms) → walk (checkStep t job) 0 at (drop at job) p ≡ walk (checkStep t job) 0 at′ (drop at′ job) p′
+
+-- the areas hold a catalogue from the first bytes of a job; a row of a union member came of 5 of them
+pub record Ready (at : ℕ) (k : Counts) (m u t : List ℕ) : Type 0 where
+  pub kept : Kept k m u t
+  pub few : 5 * k .members ≤ at
+
+-- ---- after a record
+
+-- item i stands at `at`, whole, and `next` is past it
+pub record ItemAt (job : List ℕ) (at next : ℕ) (i : Item) : Type 0 where
+  pub there : at < length job
+  pub kind : startsSheet (getD job at 0) (kindOf (getD job at 0)) ≡ false
+  pub is : read false (getD job at 0) (drop (at + 1) job) ≡ ok (rules.catalogue i)
+  pub behind : next ≡ at + 1 + bodyOf (kindOf (getD job at 0))
+
+module _ (job : List ℕ) (at : ℕ) (k : Counts) where
+  unfoldable pub placeAfter : Step → ℕ
+  placeAfter (Step.Next a r) = a
+  placeAfter Step.Sheet = at
+  placeAfter (Step.Refused f) = at
+
+  unfoldable pub progressAfter : Step → (m u t : List ℕ) → Progress
+  progressAfter (Step.Next a r) m u t = reading (catalogue r m u t)
+  progressAfter Step.Sheet m u t = reading (catalogue k m u t)
+  progressAfter (Step.Refused f) m u t = stopped (numberAndPlace (length job) at (refusalOf f))
+
+  -- a whole record was passed
+  pub record Passed (a : ℕ) (r : Counts) (m u t : List ℕ) : Type 0 where
+    pub onward : at < a
+    pub inside : a ≤ length job
+    pub ready : Ready a r m u t
+
+  pub record AtSheet (m u t : List ℕ) : Type 0 where
+    pub kept : Kept k m u t
+    pub starts : startsSheet (getD job at 0) (kindOf (getD job at 0)) ≡ true
+
+  abbrev pub Then : Step → (m u t : List ℕ) → Type 0
+  Then (Step.Next a r) m u t = Passed a r m u t
+  Then Step.Sheet m u t = AtSheet m u t
+  Then (Step.Refused f) m u t = Unit {0}
+
+-- the record at `at`, of areas m, u and t that hold k things: the answer s and the areas after it
+pub record Stepped (job : List ℕ) (at : ℕ) (k : Counts) (m u t : List ℕ) (s : Step) (m′ u′ t′ : List ℕ) : Type 0 where
+  pub same : Same job at (reading (catalogue k m u t)) (placeAfter job at k s) (progressAfter job at k s m′ u′ t′)
+  pub then : Then job at k s m′ u′ t′
+
+-- ---- the whole catalogue
+
+unfoldable pub placeOf : Read → ℕ
+placeOf (Read.Sheet at k) = at
+placeOf (Read.Refused f at) = at
+
+unfoldable pub progressOf : (job : List ℕ) → Read → (m u t : List ℕ) → Progress
+progressOf job (Read.Sheet at k) m u t = reading (catalogue k m u t)
+progressOf job (Read.Refused f at) m u t = stopped (numberAndPlace (length job) at (refusalOf f))
+
+-- the catalogue was read up to the first sheet record or the end
+pub record UpToSheet (job : List ℕ) (at : ℕ) (k : Counts) (m u t : List ℕ) : Type 0 where
+  pub kept : Kept k m u t
+  pub inside : at ≤ length job
+  pub starts : at < length job → startsSheet (getD job at 0) (kindOf (getD job at 0)) ≡ true
+
+abbrev pub Ended : (job : List ℕ) → Read → (m u t : List ℕ) → Type 0
+Ended job (Read.Sheet at k) m u t = UpToSheet job at k m u t
+Ended job (Read.Refused f at) m u t = Unit {0}
+
+-- what is left of the walks is the whole walks
+pub record ReadUp (job : List ℕ) (r : Read) (m u t : List ℕ) : Type 0 where
+  pub same : Same job 0 (reading emptyCatalogue) (placeOf r) (progressOf job r m u t)
+  pub ended : Ended job r m u t

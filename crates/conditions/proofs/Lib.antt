@@ -1,0 +1,4 @@
+pub mod Longest
+pub mod Sizing
+pub mod Kept
+pub mod Laws

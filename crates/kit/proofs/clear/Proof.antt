@@ -1,0 +1,16 @@
+use borrow.Author.Needs.{needs}
+use Rattle.kit.proofs.Laws.{cleared}
+use Rattle.kit.proofs.clear.Statement.{statement}
+use Rattle.kit.proofs.clear.Tie as tie
+
+clear-requires : tie.Need-clear-requires
+clear-requires c κs = search needs
+
+same-length : tie.Need-same-length
+same-length c = search needs
+
+returns : tie.Need-returns
+returns c = search (needs, cleared)
+
+pub clear-spec : {M : Type 1} → statement M
+clear-spec = tie.close (tie.spec clear-requires same-length returns)

@@ -1,0 +1,20 @@
+use borrow.Author.Needs.{needs}
+use Rattle.kit.proofs.Laws.{ceilings, lends, lends-not}
+use Rattle.kit.proofs.lends_enough.Statement.{statement}
+use Rattle.kit.proofs.lends_enough.Tie as tie
+
+limits-allowed-requires : tie.Need-limits-allowed-requires
+limits-allowed-requires c κs = search needs
+
+areas-cover-requires : tie.Need-areas-cover-requires
+areas-cover-requires c κs = search (needs, ceilings)
+
+returns : tie.Need-returns
+returns c = search (needs, lends)
+
+returns-2 : tie.Need-returns-2
+returns-2 c = search (needs, lends-not)
+
+pub lends-enough-spec : {M : Type 1} → statement M
+lends-enough-spec =
+    tie.close (tie.spec limits-allowed-requires areas-cover-requires returns returns-2)

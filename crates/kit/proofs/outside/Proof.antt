@@ -1,0 +1,13 @@
+use borrow.Author.Needs.{needs}
+use Rattle.kit.proofs.Laws.{outside-zero, outside-above}
+use Rattle.kit.proofs.outside.Statement.{statement}
+use Rattle.kit.proofs.outside.Tie as tie
+
+returns : tie.Need-returns
+returns c = search (needs, outside-zero)
+
+returns-2 : tie.Need-returns-2
+returns-2 c = search (needs, outside-above)
+
+pub outside-spec : {M : Type 1} → statement M
+outside-spec = tie.close (tie.spec returns returns-2)
