@@ -183,7 +183,7 @@ numbers-first : (f : ℕ → Bool) (a n : ℕ) → f a ≡ true → ((k : ℕ) �
 unfolding filter upTo
 numbers-first f a n e h = rw (e, filter) (ap (λ (t : List ℕ). a ∷ t) (numbers-none f (suc a) n (λ k l m. h k (omega arith) (omega arith))))
 
-upTo-split : (a m n : ℕ) → upTo a (m + n) ≡ upTo a m ++ upTo (a + m) n
+pub upTo-split : (a m n : ℕ) → upTo a (m + n) ≡ upTo a m ++ upTo (a + m) n
 unfolding upTo
 upTo-split a zero n =
     let e : a + 0 ≡ a = omega arith in
