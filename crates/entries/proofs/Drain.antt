@@ -3,7 +3,6 @@ use mathlib.Core.Path.{_≡_, refl, sym, _∙_, ap}
 use mathlib.Core.Bool.{Bool, true, false, not}
 use mathlib.Core.List.{List, [], _∷_, _++_, append-assoc, append-nil}
 use Prim.Native.Nat.{ℕ, _+_, _<_, _≤_, zero-le}
-use native.Mathlib.Nat.{le-refl}
 use native.Mathlib.Numerals.{add-one}
 use native.Mathlib.Omega.{arith}
 use lib.ListN.{length, getD, take, drop}
@@ -13,7 +12,7 @@ use Rattle.rules.proofs.MemberLaws.{filter-append, filter-pass, filter-stop}
 use Rattle.state.specs.declared.Limits.{Limits}
 use Rattle.state.proofs.Rows.{length-rows}
 use Rattle.entries.specs.declared.Entry.{Entry}
-use Rattle.entries.specs.Entries.{noEntry, entryOf, rowAt, waitingIn, drawnIn, PushedDrawn, Kept}
+use Rattle.entries.specs.Entries.{noEntry, entryOf, Long, rowAt, waitingIn, drawnIn, Sifted}
 
 pub length-waiting : (l : Limits) (n : ℕ) (b : List ℕ) → length (waitingIn l n b) ≡ n
 unfolding waitingIn
@@ -33,6 +32,8 @@ none-drawn l b = refl
 
 -- i of n entries are looked at: j of them are kept, and d are drawn, where d₀ were before
 pub record Draining (l : Limits) (f : ℕ × ℕ → Bool) (n d₀ : ℕ) (b₀ : List ℕ) (i j d : ℕ) (b : List ℕ) : Type 0 where
+  pub area : Long l (length b)
+  pub same : length b ≡ length b₀
   pub passed : i ≤ n
   pub fewer : j ≤ i
   pub total : d + j ≡ d₀ + i
@@ -41,10 +42,14 @@ pub record Draining (l : Limits) (f : ℕ × ℕ → Bool) (n d₀ : ℕ) (b₀ 
   pub rest : drop i (waitingIn l n b) ≡ drop i (waitingIn l n b₀)
   pub drawn : drawnIn l d b ≡ drawnIn l d₀ b₀ ++ filter f (take i (waitingIn l n b₀))
 
-pub draining-start : (l : Limits) (f : ℕ × ℕ → Bool) (n d : ℕ) (b : List ℕ) → d + n ≤ l .waiting → Draining l f n d b 0 0 d b
+pub draining-start : (l : Limits) (f : ℕ × ℕ → Bool) (n d : ℕ) (b : List ℕ) → Long l (length b) → d + n ≤ l .waiting → Draining l f n d b 0 0 d b
 unfolding filter waitingIn upTo
-draining-start l f n d b h =
-    record { passed = zero-le; fewer = zero-le; total = refl; within = h; kept = refl; rest = refl; drawn = sym (append-nil (drawnIn l d b)) }
+draining-start l f n d b a h =
+    record { area = a; same = refl; passed = zero-le; fewer = zero-le; total = refl; within = h; kept = refl; rest = refl; drawn = sym (append-nil (drawnIn l d b)) }
+
+snoc-append : {A : Type 0} (xs ys : List A) (x : A) → snoc (xs ++ ys) x ≡ xs ++ snoc ys x
+unfolding snoc
+snoc-append xs ys x = append-assoc xs ys (x ∷ [])
 
 -- of the last one looked at, by a test that it passes or not
 module _ {A : Type 0} (f : A → Bool) where
@@ -72,31 +77,43 @@ module _ {l : Limits} {f : ℕ × ℕ → Bool} {n d₀ i j d : ℕ} {b₀ b : L
   rest-less : (es : List (ℕ × ℕ)) → drop i es ≡ drop i (waitingIn l n b₀) → drop (i + 1) es ≡ drop (i + 1) (waitingIn l n b₀)
   rest-less es e = sym (drop-drop 1 i es) ∙ (ap (drop 1) e ∙ drop-drop 1 i (waitingIn l n b₀))
 
-  pub draining-keep : (e : Entry) (j′ : ℕ) (b′ : List ℕ) → entryOf e ≡ getD (waitingIn l n b) i noEntry → f (entryOf e) ≡ false → Kept l n i j b j′ b′
-      → Draining l f n d₀ b₀ (i + 1) j′ d b′
-  draining-keep e j′ b′ q t k =
+  rest-after : (b′ : List ℕ) → drop (i + 1) (waitingIn l n b′) ≡ drop (i + 1) (waitingIn l n b) → drop (i + 1) (waitingIn l n b′) ≡ drop (i + 1) (waitingIn l n b₀)
+  rest-after b′ e = e ∙ rest-less (waitingIn l n b) (r .rest)
+
+  by-test : (t : Bool) (j′ d′ : ℕ) (b′ : List ℕ) → t ≡ f (getD (waitingIn l n b) i noEntry) → Sifted l n i t j d b j′ d′ b′ → length b′ ≡ length b
+      → Draining l f n d₀ b₀ (i + 1) j′ d′ b′
+  by-test true j′ d′ b′ t s m =
+      let x : ℕ × ℕ = getD (waitingIn l n b) i noEntry in
+      let seen : List (ℕ × ℕ) = take i (waitingIn l n b₀) in
       record {
+        area = rw m (r .area);
+        same = m ∙ r .same;
         passed = omega arith;
-        fewer = omega (arith, k .count, r .fewer);
-        total = omega (arith, k .count, r .total);
+        fewer = omega (arith, s .fewer, r .fewer);
+        total = omega (arith, s .total, r .total);
         within = r .within;
-        kept = k .waiting ∙ rw (← q, r .kept, looked (entryOf e) q) (sym (filter-snoc (λ x. not (f x)) (take i (waitingIn l n b₀)) (entryOf e) (rw t)));
-        rest = k .rest ∙ rest-less (waitingIn l n b) (r .rest);
-        drawn = k .drawn d ∙ (r .drawn ∙ rw (looked (entryOf e) q, filter-less f (take i (waitingIn l n b₀)) (entryOf e) t));
+        kept = s .waiting ∙ (r .kept ∙ rw (looked x refl, filter-less (λ y. not (f y)) seen x (ap not (sym t))));
+        rest = rest-after b′ (s .rest);
+        drawn = s .drawn ∙ rw (r .drawn, looked x refl, filter-snoc f seen x (sym t)) (snoc-append (drawnIn l d₀ b₀) (filter f seen) x);
+      }
+  by-test false j′ d′ b′ t s m =
+      let x : ℕ × ℕ = getD (waitingIn l n b) i noEntry in
+      let seen : List (ℕ × ℕ) = take i (waitingIn l n b₀) in
+      record {
+        area = rw m (r .area);
+        same = m ∙ r .same;
+        passed = omega arith;
+        fewer = omega (arith, s .fewer, r .fewer);
+        total = omega (arith, s .total, r .total);
+        within = r .within;
+        kept = s .waiting ∙ rw (r .kept, looked x refl) (sym (filter-snoc (λ y. not (f y)) seen x (ap not (sym t))));
+        rest = rest-after b′ (s .rest);
+        drawn = s .drawn ∙ (r .drawn ∙ rw (looked x refl, filter-less f seen x (sym t)));
       }
 
-  pub draining-draw : (e : Entry) (d′ : ℕ) (b′ : List ℕ) → entryOf e ≡ getD (waitingIn l n b) i noEntry → f (entryOf e) ≡ true
-      → PushedDrawn l d (entryOf e) b d′ b′ → Draining l f n d₀ b₀ (i + 1) j d′ b′
-  draining-draw e d′ b′ q t k =
-      record {
-        passed = omega arith;
-        fewer = omega (arith, r .fewer);
-        total = omega (arith, k .count, r .total);
-        within = r .within;
-        kept = k .waiting j (omega (arith, r .fewer, r .within)) ∙ (r .kept ∙ rw (looked (entryOf e) q, filter-less (λ x. not (f x)) (take i (waitingIn l n b₀)) (entryOf e) (rw t)));
-        rest = ap (drop (i + 1)) (k .waiting n (omega (arith, r .within))) ∙ rest-less (waitingIn l n b) (r .rest);
-        drawn = k .drawn ∙ rw (r .drawn, looked (entryOf e) q, filter-snoc f (take i (waitingIn l n b₀)) (entryOf e) t) (unfold snoc in append-assoc (drawnIn l d₀ b₀) (filter f (take i (waitingIn l n b₀))) (entryOf e ∷ []));
-      }
+  pub draining-step : (e : Entry) (t : Bool) (j′ d′ : ℕ) (b′ : List ℕ) → entryOf e ≡ getD (waitingIn l n b) i noEntry → t ≡ f (entryOf e)
+      → Sifted l n i t j d b j′ d′ b′ → length b′ ≡ length b → Draining l f n d₀ b₀ (i + 1) j′ d′ b′
+  draining-step e t j′ d′ b′ x q s m = by-test t j′ d′ b′ (q ∙ ap f x) s m
 
 -- all are looked at: 01, "Draw removes exactly the entries that then hold, in order"
 pub record Drained (l : Limits) (f : ℕ × ℕ → Bool) (n d₀ : ℕ) (b₀ : List ℕ) (j d : ℕ) (b : List ℕ) : Type 0 where

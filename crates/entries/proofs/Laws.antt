@@ -1,16 +1,17 @@
--- Entries against their code: a row of two numbers, one entry more at the end of either list, and one entry moved down.
+-- Entries against their code: a row of two numbers, one entry more at the end of either list, and one entry taken or kept.
 use mathlib.Core.Path.{_≡_, refl, sym, _∙_, ap}
-use mathlib.Core.List.{List, [], _∷_, map}
+use mathlib.Core.Bool.{Bool, true, false}
+use mathlib.Core.List.{List, map}
 use Prim.Native.Nat.{ℕ, zero, suc, _+_, _*_, _<_, _≤_}
 use native.Mathlib.Omega.{arith}
 use lib.ListN.{length, getD, set, drop, length-set}
 use lib.Seq.{getD-set-same, getD-set-other}
-use Rattle.rules.specs.Lists.{snoc, upTo}
+use Rattle.rules.specs.Lists.{upTo}
 use Rattle.words.specs.Words.{words, words-in}
 use Rattle.state.specs.declared.Limits.{Limits}
 use Rattle.state.proofs.Rows.{row-at, rows-more, rows-same}
 use Rattle.entries.specs.declared.Entry.{Entry}
-use Rattle.entries.specs.Entries.{noEntry, entryOf, Long, rowAt, RowSet, waitingIn, drawnIn, PushedWaiting, PushedDrawn, Kept}
+use Rattle.entries.specs.Entries.{noEntry, entryOf, rowAt, RowSet, waitingIn, drawnIn, PushedWaiting, PushedDrawn, Kept, Sifted}
 
 -- ---- a row
 
@@ -94,3 +95,18 @@ pub keep-is : (l : Limits) (n i j r : ℕ) (e : Entry) (b b′ : List ℕ) → j
     → PushedWaiting l j (entryOf e) b r b′ → Kept l n i j b r b′
 keep-is l n i j r e b b′ h d p =
     record { count = p .count; waiting = p .waiting ∙ rw d; rest = p .rest (i + 1) n (omega arith); drawn = p .drawn }
+
+pub sift-taken : (l : Limits) (n i j d d′ : ℕ) (t : Bool) (e : Entry) (b b′ : List ℕ) → t ≡ true → n ≤ l .waiting → i < n → j ≤ i
+    → entryOf e ≡ getD (waitingIn l n b) i noEntry → PushedDrawn l d (entryOf e) b d′ b′ → Sifted l n i t j d b j d′ b′
+sift-taken l n i j d d′ t e b b′ q m h g x p =
+    record {
+      fewer = omega arith;
+      total = omega (arith, p .count);
+      waiting = rw q (p .waiting j (omega arith));
+      drawn = rw (q, ← x) (p .drawn);
+      rest = ap (drop (i + 1)) (p .waiting n m);
+    }
+
+pub sift-kept : (l : Limits) (n i j d j′ : ℕ) (t : Bool) (b b′ : List ℕ) → t ≡ false → Kept l n i j b j′ b′ → Sifted l n i t j d b j′ d b′
+sift-kept l n i j d j′ t b b′ q k =
+    record { fewer = omega (arith, k .count); total = omega (arith, k .count); waiting = rw q (k .waiting); drawn = rw q (k .drawn d); rest = k .rest }

@@ -3,12 +3,18 @@ use state::Limits;
 ghost use mathlib.Core.Path.{_≡_};
 ghost use Prim.Native.Nat.{_+_, _*_, _<_, _≤_};
 ghost use lib.ListN.{length, getD};
-ghost use Rattle.entries.specs.Entries.{noEntry, entryOf, Long, rowAt, RowSet, waitingIn, drawnIn, PushedWaiting, PushedDrawn, Kept};
+ghost use Rattle.entries.specs.Entries.{noEntry, entryOf, Long, rowAt, RowSet, waitingIn, drawnIn, PushedWaiting, PushedDrawn, Kept, Sifted};
 
 // A requirement and the index of one of its disjuncts.
 pub struct Entry {
     pub requirement: u16,
     pub disjunct: u16,
+}
+
+// How many entries are kept and drawn while all that wait are looked at.
+pub struct Counts {
+    pub kept: usize,
+    pub drawn: usize,
 }
 
 fn row_at(w: &[u8], at: usize) -> Entry
@@ -72,4 +78,24 @@ pub fn keep(w: &mut [u8], l: Limits, n: usize, i: usize, j: usize) -> usize
 {
     let e = waiting_at(w, l, n, i);
     push_waiting(w, l, j, e)
+}
+
+// Of n that wait, the one at place i is taken to the drawn ones, or else kept. For i from 0 on this draws the entries that are taken, in order.
+pub fn sift(w: &mut [u8], l: Limits, n: usize, i: usize, k: Counts, taken: bool) -> Counts
+    requires { ⌜ Long l (length (now w)) × (n ≤ l .waiting) × (i < n) × (k .kept ≤ i) × (k .drawn < l .waiting) ⌝ }
+    ensures { λ r. ⌜ Sifted l n i taken (k .kept) (k .drawn) (now (w .entry)) (r .kept) (r .drawn) (now (w .exit)) ⌝ }
+{
+    if taken {
+        let e = waiting_at(w, l, n, i);
+        let drawn = push_drawn(w, l, k.drawn, e);
+        return Counts {
+            kept: k.kept,
+            drawn,
+        };
+    }
+    let kept = keep(w, l, n, i, k.kept);
+    Counts {
+        kept,
+        drawn: k.drawn,
+    }
 }

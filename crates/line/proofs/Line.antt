@@ -1,11 +1,11 @@
 -- The task line: one task more, the first task, and what a change elsewhere leaves.
-use mathlib.Core.Path.{_≡_, refl, sym, _∙_, ap}
-use mathlib.Core.Bool.{Bool, true, false}
-use mathlib.Core.List.{List, [], _∷_, _++_}
-use Prim.Native.Nat.{ℕ, suc, _+_, _-_, _<_, _≤_}
+use mathlib.Core.Path.{_≡_, refl, ap}
+use mathlib.Core.Bool.{false}
+use mathlib.Core.List.{List, [], _∷_}
+use Prim.Native.Nat.{ℕ, _+_, _-_, _<_, _≤_}
 use native.Mathlib.Numerals.{add-one}
 use native.Mathlib.Omega.{arith}
-use lib.ListN.{length, getD, take, drop, set, length-take, length-drop, drop-of-length-le}
+use lib.ListN.{length, getD, take, drop, length-take, length-drop, drop-of-length-le}
 use lib.Seq.{length-take-le, take-suc-set, drop-append-le, drop-cons, getD-take}
 use Rattle.rules.specs.Lists.{any, elem, snoc}
 use Rattle.regions.specs.Regions.{stored}
@@ -13,7 +13,7 @@ use Rattle.state.specs.declared.Limits.{Limits}
 use Rattle.state.specs.Layout.{held, Fits}
 use Rattle.state.specs.Changed.{Changed}
 use Rattle.state.proofs.Changed.{stored-here, changed-stored}
-use Rattle.state.proofs.Sizes.{length-line}
+use Rattle.state.proofs.Sizes.{length-line, length-stored}
 use Rattle.line.specs.Line.{queued, lineAt, Queued}
 
 -- ---- the code
@@ -33,7 +33,7 @@ pub push-is : (l : Limits) (b b′ : List ℕ) (tail x : ℕ) → Fits l (length
     → Queued tail x (held l b) (tail + 1) (held l b′)
 push-is l b b′ tail x f h e =
     let g : tail < length (held l b 20) = rw (length-line l b f) h in
-    record { count = refl; line = rw e (line-more tail x (held l b) g); others = changed-stored 20 tail x e (unfold any in refl) }
+    record { count = refl; size = rw e (length-stored (held l b) 20 tail x 20); line = rw e (line-more tail x (held l b) g); others = changed-stored 20 tail x e (unfold any in refl) }
 
 -- ---- for callers
 

@@ -3,12 +3,11 @@ use mathlib.Core.Path.{_≡_, refl, sym, _∙_, ap}
 use mathlib.Core.Bool.{Bool, true, false, not, _&&_, _||_}
 use mathlib.Core.List.{List, [], _∷_, _++_, append-nil}
 use Prim.Native.Nat.{ℕ, zero, suc, _+_, _*_, _-_, _/_, _%_, _^_, _<_, _≤_, zero-le}
-use native.Mathlib.Numerals.{add-one}
 use native.Mathlib.Decide.{ℕ-discrete}
 use native.Mathlib.Omega.{arith}
 use lib.Dec.{eqb}
-use lib.ListN.{length, getD, set, length-set}
-use lib.Seq.{getD-set-same, getD-set-other}
+use lib.ListN.{length, getD, set}
+use lib.Seq.{getD-set-other}
 use borrow.Author.Tests.{eqb-true, eqb-false, eq-eqb, ne-eqb}
 use Rattle.rules.specs.AtMostOne.{bit}
 use Rattle.rules.specs.Lists.{filter, any, all, elem, snoc, upTo}
@@ -184,7 +183,7 @@ numbers-first : (f : ℕ → Bool) (a n : ℕ) → f a ≡ true → ((k : ℕ) �
 unfolding filter upTo
 numbers-first f a n e h = rw (e, filter) (ap (λ (t : List ℕ). a ∷ t) (numbers-none f (suc a) n (λ k l m. h k (omega arith) (omega arith))))
 
-upTo-split : (a m n : ℕ) → upTo a (m + n) ≡ upTo a m ++ upTo (a + m) n
+pub upTo-split : (a m n : ℕ) → upTo a (m + n) ≡ upTo a m ++ upTo (a + m) n
 unfolding upTo
 upTo-split a zero n =
     let e : a + 0 ≡ a = omega arith in

@@ -1,10 +1,8 @@
 -- Tasks and their numbers: a law for each case, and each gives the other back.
 use mathlib.Core.Path.{_≡_, refl, sym, _∙_, ap}
-use mathlib.Core.Bool.{Bool, true, false, cond}
 use Prim.Native.Nat.{ℕ, _+_, _-_, _<_, _≤_}
 use native.Mathlib.Decide.{decLt}
 use native.Mathlib.Omega.{arith}
-use lib.Dec.{ltb}
 use borrow.Author.Tests.{lt-ltb, le-ltb}
 use Rattle.line.specs.declared.Task.{Task}
 use Rattle.line.specs.declared.Task.the-variants.{Owner, Name, Condition, Requirement, Constraint, Drawn}

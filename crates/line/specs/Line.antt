@@ -2,7 +2,7 @@
 use mathlib.Core.Path.{_≡_}
 use mathlib.Core.List.{List, [], _∷_}
 use Prim.Native.Nat.{ℕ, _+_, _≤_}
-use lib.ListN.{getD, take, drop}
+use lib.ListN.{length, getD, take, drop}
 use Rattle.rules.specs.Lists.{snoc}
 use Rattle.state.specs.Changed.{Changed}
 
@@ -15,5 +15,6 @@ lineAt head st = getD (st 20) head 0
 -- x waits behind the others, wherever these begin
 pub record Queued (tail x : ℕ) (st : ℕ → List ℕ) (tail′ : ℕ) (st′ : ℕ → List ℕ) : Type 0 where
   pub count : tail′ ≡ tail + 1
+  pub size : length (st′ 20) ≡ length (st 20)
   pub line : (head : ℕ) → head ≤ tail → queued head tail′ st′ ≡ snoc (queued head tail st) x
   pub others : Changed (20 ∷ []) st st′

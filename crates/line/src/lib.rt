@@ -1,7 +1,7 @@
 // The task line of a run, tasks as numbers, and the disjuncts that fired with a requirement's condition.
 use state::Limits;
 ghost use mathlib.Core.Path.{_≡_};
-ghost use Prim.Native.Nat.{_+_, _^_, _<_, _≤_};
+ghost use Prim.Native.Nat.{_+_, _^_, _<_};
 ghost use lib.ListN.{length};
 ghost use Rattle.rules.specs.AtMostOne.{bit};
 ghost use Rattle.marks.specs.Marks.{WithBit};

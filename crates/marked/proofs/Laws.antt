@@ -2,21 +2,21 @@
 use mathlib.Core.Path.{_≡_, refl, sym, _∙_, ap}
 use mathlib.Core.Logic.{⊎-elim}
 use mathlib.Core.Bool.{Bool, true, false, _||_, cond, true≢false}
-use mathlib.Core.List.{List, [], _∷_, _++_, map}
-use Prim.Native.Nat.{ℕ, zero, suc, _+_, _<_, _≤_, zero-le}
-use native.Mathlib.Nat.{le-refl, le-trans}
+use mathlib.Core.List.{List, [], _∷_, _++_}
+use Prim.Native.Nat.{ℕ, _+_, _<_, _≤_, zero-le}
 use native.Mathlib.Numerals.{add-one}
 use native.Mathlib.Decide.{decLt}
 use native.Mathlib.Omega.{arith}
 use lib.Dec.{eqb}
 use lib.ListN.{length, getD, take, set, replicate, length-replicate, List·getD-eq-default}
 use lib.Seq.{length-take-le, take-suc, take-suc-set, take-all, getD-take, getD-set-same, getD-set-other}
-use borrow.Author.Tests.{eqb-true, eqb-false, eq-eqb, ne-eqb}
+use borrow.Author.Tests.{eqb-true, eqb-false, eq-eqb}
 use Rattle.rules.specs.Lists.{any, elem, snoc}
 use Rattle.rules.specs.Called.{_∈_}
 use Rattle.rules.proofs.Bools.{or-true}
+use Rattle.rules.proofs.Member.{at-member}
 use Rattle.rules.proofs.ListLaws.{length-snoc, any-snoc}
-use Rattle.rules.proofs.Membership.{Once, empty, once-snoc, before-or-end, elem-in, not-elem}
+use Rattle.rules.proofs.Membership.{empty, once-snoc, before-or-end, elem-in, not-elem}
 use Rattle.rules.proofs.HelperCounts.{few-below}
 use Rattle.regions.specs.Regions.{stored}
 use Rattle.state.specs.declared.Limits.{Limits}
@@ -53,6 +53,9 @@ module _ {r m n : ℕ} {st : ℕ → List ℕ} (k : Marked r m n st) where
         let no-such : ⊥ = omega arith in
         absurd no-such
   ]
+
+  pub at-low : (i a : ℕ) → i < n → a ≡ getD (listed n r st) i 0 → a < length (st m)
+  at-low i a h e = rw e (listed-low (getD (listed n r st) i 0) (at-member (listed n r st) i 0 (rw length-listed h)))
 
   -- no more are listed than can have a mark
   pub marked-few : n ≤ length (st m)
@@ -238,6 +241,22 @@ marked-blank l k r m h g a s q f =
     let p = length-fixed l area r h fits in
     let t = length-fixed l area m g fits in
     marked-start a (omega arith) (omega arith) (held-blank l k m)
+
+module _ (l : Limits) (k : ℕ) (f : Fits l k) where
+  pub owners-start : Marked 1 2 0 (held l (replicate k 0))
+  owners-start = marked-blank l k 1 2 (omega arith) (omega arith) (λ e. omega arith) (omega arith) (omega arith) f
+
+  pub names-start : Marked 3 4 0 (held l (replicate k 0))
+  names-start = marked-blank l k 3 4 (omega arith) (omega arith) (λ e. omega arith) (omega arith) (omega arith) f
+
+  pub added-start : Marked 6 7 0 (held l (replicate k 0))
+  added-start = marked-blank l k 6 7 (omega arith) (omega arith) (λ e. omega arith) (omega arith) (omega arith) f
+
+  pub named-start : Marked 8 9 0 (held l (replicate k 0))
+  named-start = marked-blank l k 8 9 (omega arith) (omega arith) (λ e. omega arith) (omega arith) (omega arith) f
+
+  pub tracked-start : Marked 10 11 0 (held l (replicate k 0))
+  tracked-start = marked-blank l k 10 11 (omega arith) (omega arith) (λ e. omega arith) (omega arith) (omega arith) f
 
 -- a number can have a mark in one of those regions
 pub mark-room : (l : Limits) (bytes : List ℕ) (m x : ℕ) → m < 16 → x < getD fixed m 0 → Fits l (length bytes) → x < length (held l bytes m)

@@ -1,7 +1,7 @@
 // Lists with marks in the state area: the list in one region, and in another a mark for each number that is listed.
 use state::Limits;
 ghost use mathlib.Core.Path.{_≡_};
-ghost use Prim.Native.Nat.{_<_, _≤_};
+ghost use Prim.Native.Nat.{_<_};
 ghost use lib.ListN.{length, getD};
 ghost use Rattle.state.specs.Layout.{held, Fits};
 ghost use Rattle.marked.specs.Marked.{listed, isMarked, Marked, Free, Pushed, Emptied};
