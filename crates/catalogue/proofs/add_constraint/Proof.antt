@@ -1,3 +1,4 @@
+-- `catalogue::add_constraint` enters a constraint or refuses it, as `addItem` says.
 use borrow.Author.Needs.{needs}
 use Rattle.catalogue.proofs.Items.{constraint-full, constraint-ownerless, constraint-rangeless, constraint-unknown, constraint-entered}
 use Rattle.catalogue.proofs.add_constraint.Statement.{statement}

@@ -1,3 +1,4 @@
+-- `catalogue::add_item` is the function of its kind, one of ten.
 use borrow.Author.Needs.{needs}
 use Rattle.catalogue.proofs.Steps.{row-free, as-name, as-part, as-range, as-member, as-union, as-union-member, as-leaf, as-joined, as-requirement, as-constraint}
 use Rattle.catalogue.proofs.add_item.Statement.{statement}

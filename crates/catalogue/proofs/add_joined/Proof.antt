@@ -1,3 +1,4 @@
+-- `catalogue::add_joined` enters a joined condition or refuses it; its size decides refusal 6.
 use borrow.Author.Needs.{needs}
 use Rattle.catalogue.proofs.Conditions.{joined-full, joined-leftless, joined-rightless, joined-operator, joined-many, joined-wide, joined-entered}
 use Rattle.catalogue.proofs.add_joined.Statement.{statement}

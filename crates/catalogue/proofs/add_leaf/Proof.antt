@@ -1,3 +1,4 @@
+-- `catalogue::add_leaf` enters a leaf condition or refuses it, as `addItem` says.
 use borrow.Author.Needs.{needs}
 use Rattle.catalogue.proofs.Conditions.{leaf-full, leaf-rangeless, leaf-entered}
 use Rattle.catalogue.proofs.add_leaf.Statement.{statement}

@@ -1,3 +1,4 @@
+-- `catalogue::add_member` marks a part as a member of a range of its name, once.
 use borrow.Author.Needs.{needs}
 use Rattle.catalogue.proofs.Items.{member-rangeless, member-partless, member-other-name, member-twice, member-entered}
 use Rattle.catalogue.proofs.add_member.Statement.{statement}

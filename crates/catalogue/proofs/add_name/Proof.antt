@@ -1,3 +1,4 @@
+-- `catalogue::add_name` enters a name or refuses it, as `addItem` says.
 use borrow.Author.Needs.{needs}
 use Rattle.catalogue.proofs.Items.{name-full, name-bits, name-entered}
 use Rattle.catalogue.proofs.add_name.Statement.{statement}

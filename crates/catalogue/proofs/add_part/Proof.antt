@@ -1,3 +1,4 @@
+-- `catalogue::add_part` enters a part or refuses it; a second locked or favoured one of its name is looked for only where the flag is set.
 use borrow.Author.Needs.{needs}
 use Rattle.catalogue.proofs.Items.{part-full, part-nameless, part-bits, part-locked, part-favoured, part-entered}
 use Rattle.catalogue.proofs.add_part.Statement.{statement}

@@ -1,3 +1,4 @@
+-- `catalogue::add_range` enters a range without members, or refuses it.
 use borrow.Author.Needs.{needs}
 use Rattle.catalogue.proofs.Items.{range-full, range-nameless, range-entered}
 use Rattle.catalogue.proofs.add_range.Statement.{statement}

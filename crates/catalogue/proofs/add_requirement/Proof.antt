@@ -1,3 +1,4 @@
+-- `catalogue::add_requirement` enters a requirement or refuses it, as `addItem` says.
 use borrow.Author.Needs.{needs}
 use Rattle.catalogue.proofs.Items.{requirement-full, requirement-ownerless, requirement-rangeless, requirement-unionless, requirement-conditionless, requirement-form, requirement-unknown, requirement-entered}
 use Rattle.catalogue.proofs.add_requirement.Statement.{statement}

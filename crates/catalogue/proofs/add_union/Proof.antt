@@ -1,3 +1,4 @@
+-- `catalogue::add_union` counts one union more, which has no rows yet.
 use borrow.Author.Needs.{needs}
 use Rattle.catalogue.proofs.Items.{union-full, union-entered}
 use Rattle.catalogue.proofs.add_union.Statement.{statement}

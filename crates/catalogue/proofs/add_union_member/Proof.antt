@@ -1,3 +1,4 @@
+-- `catalogue::add_union_member` writes a row for a range of a union, behind those of all unions.
 use borrow.Author.Needs.{needs}
 use Rattle.catalogue.proofs.Items.{row-unionless, row-rangeless, row-entered}
 use Rattle.catalogue.proofs.add_union_member.Statement.{statement}

@@ -1,3 +1,4 @@
+-- `catalogue::enter` takes one step of the walks: an item read whole is entered, or the walks stop.
 use borrow.Author.Needs.{needs}
 use Rattle.catalogue.proofs.Steps.{item-room, item-next, item-refused}
 use Rattle.catalogue.proofs.enter.Statement.{statement}

@@ -1,3 +1,4 @@
+-- `catalogue::favoured_of` tells whether a part is a favoured one of a name.
 use borrow.Author.Needs.{needs}
 use Rattle.catalogue.proofs.Items.{favoured-here, favoured-elsewhere}
 use Rattle.catalogue.proofs.favoured_of.Statement.{statement}

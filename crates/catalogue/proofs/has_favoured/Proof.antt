@@ -1,3 +1,4 @@
+-- `catalogue::has_favoured` tells whether a name has a favoured part: the loop has passed none so far.
 use borrow.Author.Needs.{needs}
 use Prim.Native.Nat.{_-_}
 use Rattle.cache.specs.Areas.{catalogue}

@@ -1,3 +1,4 @@
+-- `catalogue::has_locked` tells whether a name has a locked part: the loop has passed none so far.
 use borrow.Author.Needs.{needs}
 use Prim.Native.Nat.{_-_}
 use Rattle.cache.specs.Areas.{catalogue}

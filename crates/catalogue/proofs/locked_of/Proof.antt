@@ -1,3 +1,4 @@
+-- `catalogue::locked_of` tells whether a part is a locked one of a name.
 use borrow.Author.Needs.{needs}
 use Rattle.catalogue.proofs.Items.{locked-here, locked-elsewhere}
 use Rattle.catalogue.proofs.locked_of.Statement.{statement}

@@ -1,3 +1,4 @@
+-- `catalogue::no_goal` is the test of the definitions on the number of a goal of one form.
 use borrow.Author.Needs.{needs}
 use Rattle.catalogue.proofs.Items.{goal-this, goal-other}
 use Rattle.catalogue.proofs.no_goal.Statement.{statement}

@@ -1,3 +1,4 @@
+-- `catalogue::no_such` is the test of the definitions on the number of an owner or of a condition.
 use borrow.Author.Needs.{needs}
 use Rattle.catalogue.proofs.Items.{such-root, such-other}
 use Rattle.catalogue.proofs.no_such.Statement.{statement}

@@ -1,3 +1,4 @@
+-- `catalogue::owner_unknown` tells whether an owner is a part with unknown dependencies.
 use borrow.Author.Needs.{needs}
 use Rattle.catalogue.proofs.Items.{unknown-root, unknown-part}
 use Rattle.catalogue.proofs.owner_unknown.Statement.{statement}

@@ -1,3 +1,4 @@
+-- `catalogue::read_catalogue`: what is left of the walks is the whole walks, at each turn and at the end. The measure is what is left of the job.
 use borrow.Author.Needs.{needs}
 use Prim.Native.Nat.{_-_}
 use lib.ListN.{length}

@@ -1,3 +1,4 @@
+-- `catalogue::second_favoured` is the test of the definitions for a second favoured part.
 use borrow.Author.Needs.{needs}
 use Rattle.catalogue.proofs.Items.{favoured-flag, no-favoured-flag}
 use Rattle.catalogue.proofs.second_favoured.Statement.{statement}

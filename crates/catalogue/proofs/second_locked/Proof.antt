@@ -1,3 +1,4 @@
+-- `catalogue::second_locked` is the test of the definitions for a second locked part.
 use borrow.Author.Needs.{needs}
 use Rattle.catalogue.proofs.Items.{locked-flag, no-locked-flag}
 use Rattle.catalogue.proofs.second_locked.Statement.{statement}

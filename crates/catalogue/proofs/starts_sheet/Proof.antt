@@ -1,3 +1,4 @@
+-- `catalogue::starts_sheet` tells the kinds of the sheet from every other byte.
 use borrow.Author.Needs.{needs}
 use Rattle.catalogue.proofs.Steps.{low-kind, high-kind, sheet-kind}
 use Rattle.catalogue.proofs.starts_sheet.Statement.{statement}

@@ -1,3 +1,4 @@
+-- `kit::areas_cover` compares six lent lengths with those that the limits ask for.
 use borrow.Author.Needs.{needs}
 use Rattle.kit.proofs.Laws.{marks-short, unions-short, catalogue-short, clauses-short, state-short, waiting-short, all-long}
 use Rattle.kit.proofs.areas_cover.Statement.{statement}

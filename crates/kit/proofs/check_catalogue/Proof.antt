@@ -1,3 +1,4 @@
+-- `kit::check_catalogue` reads a catalogue, clears its areas and answers as `check` does.
 use borrow.Author.Needs.{needs}
 use Rattle.kit.proofs.Laws.{catalogue-checked}
 use Rattle.kit.proofs.check_catalogue.Statement.{statement}

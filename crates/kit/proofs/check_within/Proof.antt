@@ -1,3 +1,4 @@
+-- `kit::check_within`: 7, then 3 for the length, then the catalogue; its areas are zero on every way out.
 use borrow.Author.Needs.{needs}
 use Rattle.kit.proofs.Laws.{check-overlong, long-enough, check-read, check-unfit}
 use Rattle.kit.proofs.check_within.Statement.{statement}

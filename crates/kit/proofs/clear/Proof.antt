@@ -1,3 +1,4 @@
+-- `kit::clear` leaves an area as `workArea` says.
 use borrow.Author.Needs.{needs}
 use Rattle.kit.proofs.Laws.{cleared}
 use Rattle.kit.proofs.clear.Statement.{statement}

@@ -1,3 +1,4 @@
+-- `kit::lends_enough` is the definitions' `fits`.
 use borrow.Author.Needs.{needs}
 use Rattle.kit.proofs.Laws.{ceilings, lends, lends-not}
 use Rattle.kit.proofs.lends_enough.Statement.{statement}

@@ -1,3 +1,4 @@
+-- `kit::limits_allowed` is the definitions' `allowed`.
 use borrow.Author.Needs.{needs}
 use Rattle.kit.proofs.Laws.{variables-out, clauses-out, literals-out, waiting-out, all-within}
 use Rattle.kit.proofs.limits_allowed.Statement.{statement}

@@ -1,3 +1,4 @@
+-- `kit::outside` tells whether a limit is 0 or above its ceiling.
 use borrow.Author.Needs.{needs}
 use Rattle.kit.proofs.Laws.{outside-zero, outside-above}
 use Rattle.kit.proofs.outside.Statement.{statement}

@@ -1,3 +1,4 @@
+-- `kit::refused` carries a refusal's number and place.
 use borrow.Author.Needs.{needs}
 use Rattle.kit.proofs.Laws.{gives-refused}
 use Rattle.kit.proofs.refused.Statement.{statement}

@@ -1,3 +1,4 @@
+-- `kit::told` is what `check` says of a catalogue that was read.
 use borrow.Author.Needs.{needs}
 use Rattle.kit.proofs.Laws.{told-sheet, told-refused}
 use Rattle.kit.proofs.told.Statement.{statement}
