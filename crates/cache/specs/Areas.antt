@@ -19,7 +19,7 @@ assembled t member us =
       unions = listed (t .unions) (λ u. rangesOf u us);
       conditions = t .conditions;
       requirements = t .requirements;
-      constraints = t .constraints
+      constraints = t .constraints;
     }
 
 -- the three areas as lists of bytes: marks, members of unions, the other tables
