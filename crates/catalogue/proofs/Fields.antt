@@ -1,26 +1,25 @@
 -- The catalogue that the areas hold, field by field: how many things it gives, and what one thing more makes of it.
 use mathlib.Core.Path.{_≡_, refl, sym, _∙_, ap}
-use mathlib.Core.Bool.{Bool, true, false, not, _&&_, _||_}
+use mathlib.Core.Bool.{Bool, true, false, _||_}
 use mathlib.Core.List.{List, [], _∷_}
-use Prim.Native.Nat.{ℕ, suc, _+_, _*_, _<_, _≤_}
+use Prim.Native.Nat.{ℕ, suc, _<_, _≤_}
 use native.Mathlib.Omega.{arith}
 use native.Mathlib.Numerals.{add-one}
-use native.Mathlib.Decide.{decLt, ℕ-discrete}
-use lib.Dec.{eqb, leb}
-use lib.ListN.{length, getD, set, length-set, length-append, List·getD-append}
+use native.Mathlib.Decide.{ℕ-discrete}
+use lib.Dec.{eqb}
+use lib.ListN.{length, getD, set, length-set, List·getD-append}
 use lib.Seq.{getD-at, getD-set-same, getD-set-other, ext-getD}
 use borrow.Author.Tests.{lt-leb, le-leb}
 use Rattle.rules.specs.Lists.{snoc}
 use Rattle.rules.proofs.ListLaws.{length-snoc}
-use Rattle.rules.specs.Catalogue.{Range, Part, Catalogue, noRange, rangeAt, partAt, noPart}
+use Rattle.rules.specs.Catalogue.{Range, Catalogue, noRange}
 use Rattle.rules.specs.Refusals.{Thing}
 use Rattle.rules.specs.Items.{ceiling, given, atCeiling, absent, withMember}
 use Rattle.tables.specs.declared.Counts.{Counts}
-use Rattle.tables.specs.Tables.{Tables, listed, tables, Added, withRange, withUnion}
-use Rattle.tables.proofs.Listed.{listed-at, listed-past, listed-more, listed-same, listed-length}
+use Rattle.tables.specs.Tables.{Tables, listed, tables, Added}
+use Rattle.tables.proofs.Listed.{listed-at, listed-more, listed-same, listed-length}
 use Rattle.tables.proofs.Laws.{names-counted, parts-counted, ranges-counted, unions-counted, conditions-counted, requirements-counted, constraints-counted}
-use Rattle.marks.specs.Marks.{isMarked, Marked, Cleared}
-use Rattle.marks.proofs.Laws.{marked-row, marked-other, cleared-row, cleared-other}
+use Rattle.marks.specs.Marks.{isMarked}
 use Rattle.unions.specs.Unions.{Row, rows, rangesOf, pushed}
 use Rattle.unions.proofs.Laws.{ranges-pushed, ranges-pushed-other}
 use Rattle.cache.specs.Areas.{assembled, catalogue}

@@ -1,41 +1,38 @@
 -- A law for each way out of each item's function.
 use mathlib.Core.Path.{_≡_, refl, sym, _∙_, ap}
-use mathlib.Core.Bool.{Bool, true, false, not, _&&_, _||_}
-use mathlib.Core.List.{List, [], _∷_}
-use Prim.Native.Nat.{ℕ, suc, _+_, _*_, _/_, _%_, _<_, _≤_}
+use mathlib.Core.Bool.{Bool, true, false, _&&_, _||_}
+use mathlib.Core.List.{List}
+use Prim.Native.Nat.{ℕ, suc, _+_, _/_, _%_, _<_, _≤_}
 use native.Mathlib.Omega.{arith}
 use native.Mathlib.Nat.{add-zero}
-use lib.Dec.{eqb, ltb, leb}
-use lib.ListN.{length, getD, set, drop, drop-of-length-le, List·getD-eq-default}
+use lib.Dec.{eqb, leb}
+use lib.ListN.{length, getD, drop, drop-of-length-le}
 use lib.Seq.{drop-cons}
 use native.Mathlib.Numerals.{add-one}
 use borrow.Author.Needs.{needs}
-use borrow.Author.Tests.{lt-ltb, le-ltb, le-leb, lt-leb, eq-eqb, ne-eqb}
+use borrow.Author.Tests.{lt-ltb, le-ltb, eq-eqb, ne-eqb}
 use Rattle.rules.specs.AtMostOne.{bit}
 use Rattle.rules.specs.Lists.{any}
-use Rattle.rules.specs.Catalogue.{Part, Catalogue, noPart, partAt, noRange, rangeAt, unknownOwner, root, part}
+use Rattle.rules.specs.Catalogue.{Part, Catalogue, noPart, partAt, noRange, rangeAt, unknownOwner, part}
 use Rattle.rules.specs.Refusals.{unlessAny}
 use Rattle.rules.specs.Refusals as rules
 use Rattle.rules.specs.Records.{Item}
 use Rattle.rules.specs.Items.{ownerOf, partOf, ceiling, given, atCeiling, absent, ownerAbsent, conditionAbsent, ofSameName, itemRefusals, withItem, addItem}
 use Rattle.refusal.specs.declared.Thing.the-variants as Thing
 use Rattle.refusal.specs.declared.Contradiction.the-variants as Contradiction
-use Rattle.refusal.specs.declared.Refusal.the-variants.{TooMany, Missing, Contradicts, DisjunctsOver, RangesOver}
+use Rattle.refusal.specs.declared.Refusal.the-variants.{TooMany, Missing, Contradicts}
 use Rattle.refusal.specs.Refusing.{thingOf, contradictionOf, refusalOf}
 use Rattle.tables.specs.declared.Counts.{Counts}
 use Rattle.tables.specs.Tables as T
-use Rattle.tables.specs.declared.ConditionalRequirement.{ConditionalRequirement}
-use Rattle.tables.specs.declared.Constraint as K
 use Rattle.tables.specs.Tables.{tables, tablesIn, withName, withPart, withRange, withUnion, withRequirement, withConstraint, requirementIs, requirementFrom, constraintIs, constraintFrom}
 use Rattle.tables.proofs.Rows.{counts}
 use Rattle.marks.specs.Marks.{isMarked, Marked, Cleared}
 use Rattle.marks.proofs.Laws.{marked-row, marked-other, cleared-row, cleared-other}
 use Rattle.marks.proofs.Bits.{bit-is}
 use Rattle.unions.specs.Unions.{rows, rowOf, pushed}
-use Rattle.unions.specs.declared.Member.{Member}
 use Rattle.conditions.specs.Sizes.{Sized}
 use Rattle.conditions.proofs.Kept.{sized-same}
-use Rattle.cache.specs.Areas.{assembled, catalogue, Held}
+use Rattle.cache.specs.Areas.{assembled, catalogue}
 use Rattle.catalogue.specs.declared.Added.the-variants.{Counted, Refused}
 use Rattle.catalogue.specs.Reading.{isLocked, isFavoured, noSuch, Given, Kept, rowsOf, answered, After, Entered}
 use Rattle.tables.proofs.Laws.{ranges-counted, unions-counted}

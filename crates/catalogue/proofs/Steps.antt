@@ -1,26 +1,23 @@
 -- One item of ten, one record, and the loop over them: what is left of the walks stays the same.
 use mathlib.Core.Path.{_≡_, refl, sym, _∙_, ap}
 use mathlib.Core.Bool.{Bool, true, false}
-use mathlib.Core.List.{List, [], _∷_}
+use mathlib.Core.List.{List, []}
 use mathlib.Core.Option.{Option, none, some}
-use Prim.Native.Nat.{ℕ, suc, _+_, _-_, _*_, _<_, _≤_, zero-le}
+use Prim.Native.Nat.{ℕ, _+_, _-_, _*_, _<_, _≤_, zero-le}
 use native.Mathlib.Omega.{arith}
-use native.Mathlib.Nat.{le-refl}
 use lib.Dec.{ltb, leb}
 use lib.ListN.{length, getD, drop, length-drop}
-use borrow.Author.Tests.{lt-leb, le-leb, le-ltb, leb-true, lt-ltb}
+use borrow.Author.Tests.{lt-leb, le-ltb, leb-true}
 use Rattle.rules.specs.Compute.{computing}
 use Rattle.rules.specs.Lists.{filter, all, upTo}
 use Rattle.rules.proofs.KindTable.{not-one, looked-up}
 use Rattle.rules.proofs.Member.{all-out, upTo-in}
-use Rattle.rules.proofs.WalkLaws.{walk-record, walk-end, walk-still, ReadAs, read-ok, read-sheet, Reads, run-reads, check-reads}
+use Rattle.rules.proofs.WalkLaws.{walk-record, walk-still, read-ok, read-sheet, Reads, run-reads, check-reads}
 use Rattle.rules.specs.Catalogue.{Catalogue, emptyCatalogue}
-use Rattle.rules.specs.Refusals.{numberAndPlace}
 use Rattle.rules.specs.Refusals as rules
 use Rattle.rules.specs.Records.{Kind, kinds, kindOf, ofSheet, Item, recordOf, read}
 use Rattle.rules.specs.Records as records
 use Rattle.rules.specs.Items.{addItem}
-use Rattle.rules.specs.Limits.{Terms}
 use Rattle.rules.specs.Job.{Progress, reading, stopped, bodyOf, walk, runStep, checkStep, startsSheet}
 use Rattle.refusal.specs.declared.Refusal.{Refusal}
 use Rattle.refusal.specs.Refusing.{refusalOf}
@@ -32,7 +29,7 @@ use Rattle.reader.specs.declared.Record.the-variants as R
 use Rattle.reader.specs.Reading.{itemOf, resultOf, commandOf, bodyLength}
 use Rattle.reader.proofs.Laws.{body-read}
 use Rattle.tables.specs.declared.Counts.{Counts}
-use Rattle.tables.specs.Tables.{listed, tables, tablesIn, Laid}
+use Rattle.tables.specs.Tables.{listed, tables, tablesIn}
 use Rattle.tables.proofs.Rows.{counts}
 use Rattle.unions.specs.Unions.{rows, rangesOf}
 use Rattle.conditions.proofs.Kept.{sized-none}
@@ -41,8 +38,8 @@ use Rattle.catalogue.specs.declared.Added.{Added}
 use Rattle.catalogue.specs.declared.Added.the-variants.{Counted, Refused}
 use Rattle.catalogue.specs.declared.Step.the-variants as Step
 use Rattle.catalogue.specs.declared.Read.the-variants as Read
-use Rattle.catalogue.specs.Reading.{Given, Kept, rowsOf, answered, After, Entered}
-use Rattle.catalogue.specs.Walking.{Same, Ready, ItemAt, placeAfter, progressAfter, Passed, AtSheet, Stepped, placeOf, progressOf, UpToSheet, ReadUp}
+use Rattle.catalogue.specs.Reading.{rowsOf, answered, After, Entered}
+use Rattle.catalogue.specs.Walking.{Same, Ready, ItemAt, placeAfter, progressAfter, Passed, AtSheet, Stepped, placeOf, progressOf, ReadUp}
 
 -- ---- one item of ten
 

@@ -1,15 +1,15 @@
 -- `check` against the definitions: a law for each way out of each function.
 use mathlib.Core.Path.{_≡_, refl, sym, _∙_, ap}
 use mathlib.Core.Bool.{Bool, true, false, not, _&&_, false≢true}
-use mathlib.Core.List.{List, [], _∷_, map}
+use mathlib.Core.List.{List, [], _∷_}
 use Prim.Native.Nat.{ℕ, zero, suc, _+_, _*_, _<_, _≤_}
 use native.Mathlib.Omega.{arith}
 use native.Mathlib.Decide.{decLt}
-use lib.Dec.{eqb, ltb, leb}
+use lib.Dec.{ltb, leb}
 use lib.ListN.{length, getD, drop, replicate}
-use borrow.Author.Tests.{lt-ltb, le-ltb, lt-leb, le-leb, leb-true, ne-eqb, ltb-true}
+use borrow.Author.Tests.{lt-ltb, le-ltb, lt-leb, le-leb, leb-true, ne-eqb}
 use Rattle.rules.proofs.Bools.{and-left, and-right}
-use Rattle.rules.proofs.WalkLaws.{walk-record, walk-end, walk-still, Reads, check-reads, check-sheet, check-carries}
+use Rattle.rules.proofs.WalkLaws.{walk-record, walk-end, walk-still, check-reads, check-sheet, check-carries}
 use Rattle.rules.specs.Catalogue.{Catalogue, emptyCatalogue}
 use Rattle.rules.specs.Refusals.{unlessAny, numberAndPlace}
 use Rattle.rules.specs.Refusals as refusals
@@ -18,15 +18,13 @@ use Rattle.rules.specs.State.{start}
 use Rattle.rules.specs.Limits as rules
 use Rattle.rules.specs.Limits.{within, allowed, marksArea, unionsArea, catalogueArea, clausesArea, growingState, fixedState, stateArea, waitingArea, needed, covers, fits}
 use Rattle.rules.specs.Job.{Progress, reading, carrying, stopped, walk, begunWith, progress, accepts, refuses, workArea, startsSheet, checkStep, checked, checkAnswer}
-use Rattle.rules.specs.Job as job
 use Rattle.refusal.specs.declared.Refusal.{Refusal}
 use Rattle.refusal.specs.declared.Refusal.the-variants.{Unfit, Overlong}
-use Rattle.refusal.specs.declared.Told.{Told}
 use Rattle.refusal.specs.Refusing.{refusalOf}
 use Rattle.tables.specs.declared.Counts.{Counts}
 use Rattle.catalogue.specs.declared.Read.{Read}
 use Rattle.catalogue.specs.declared.Read.the-variants as Read
-use Rattle.catalogue.specs.Walking.{Same, placeOf, progressOf, UpToSheet, ReadUp}
+use Rattle.catalogue.specs.Walking.{placeOf, progressOf, ReadUp}
 use Rattle.cache.specs.Areas.{catalogue}
 use Rattle.kit.specs.declared.Answer.{Answer}
 use Rattle.kit.specs.declared.Limits.{Limits}

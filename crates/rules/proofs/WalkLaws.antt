@@ -8,17 +8,17 @@ use Prim.Native.Nat.{ℕ, zero, suc, _+_, _<_, _≤_}
 use native.Mathlib.Omega.{arith}
 use native.Mathlib.Nat.{add-zero}
 use native.Mathlib.Numerals.{add-one}
-use lib.Dec.{eqb, ltb, leb}
+use lib.Dec.{ltb}
 use lib.ListN.{length, getD, take, drop, drop-of-length-le}
-use lib.Seq.{drop-cons, drop-nil, drop-drop}
-use borrow.Author.Tests.{ltb-false, lt-leb}
+use lib.Seq.{drop-cons, drop-drop}
+use borrow.Author.Tests.{ltb-false}
 use Rattle.rules.specs.Compute.{computing}
 use Rattle.rules.specs.Truth.{same}
 use Rattle.rules.specs.Lists.{all}
 use Rattle.rules.proofs.KindTable.{not-one, looked-up}
 use Rattle.rules.specs.Catalogue.{Catalogue}
-use Rattle.rules.specs.Refusals.{Refusal, Result, ok, refuse, numberAndPlace}
-use Rattle.rules.specs.Records.{Kind, kinds, lookUp, kindOf, ofSheet, Item, Command, Record, catalogue, sheet, recordOf, readBody, readKind, read}
+use Rattle.rules.specs.Refusals.{Refusal, ok, refuse, numberAndPlace}
+use Rattle.rules.specs.Records.{Kind, kinds, kindOf, ofSheet, Item, Command, Record, catalogue, sheet, recordOf, readBody, readKind, read}
 use Rattle.rules.specs.Items.{addItem}
 use Rattle.rules.specs.State.{start}
 use Rattle.rules.specs.Limits.{Terms}
