@@ -1,0 +1,52 @@
+//! The six work areas of a call (docs/LIMITS.md).
+
+use job::limits::Limits;
+
+/// Bytes behind each area that a call must leave as they are.
+const GUARD: usize = 64;
+const GUARD_BYTE: u8 = 0xA5;
+
+pub struct Areas {
+    lengths: [usize; 6],
+    bytes: [Vec<u8>; 6],
+}
+
+/// The length that each area needs: marks, unions, catalogue, clauses, state, waiting.
+pub fn needed(limits: Limits) -> [usize; 6] {
+    let [v, c, l, w] = limits.to_array().map(|limit| limit as usize);
+    [65_536, 52_428, 50_696, 20 * c, 16 * v + 2 * l + 2 * (3_649 + w) + 34_954, 8 * w]
+}
+
+impl Areas {
+    /// Areas of these lengths, full of junk.
+    pub fn new(lengths: [usize; 6], junk: u8) -> Self {
+        let bytes = lengths.map(|length| {
+            let mut bytes = vec![junk; length];
+            bytes.resize(length + GUARD, GUARD_BYTE);
+            bytes
+        });
+        Areas { lengths, bytes }
+    }
+
+    pub fn lengths(&self) -> [usize; 6] {
+        self.lengths
+    }
+
+    pub fn lent(&mut self) -> [&mut [u8]; 6] {
+        let lengths = self.lengths;
+        let mut at = 0;
+        self.bytes.each_mut().map(|bytes| {
+            let length = lengths[at];
+            at += 1;
+            &mut bytes[..length]
+        })
+    }
+
+    /// Whether every area is zero over its length, and nothing behind it was written.
+    pub fn left_zero(&self) -> bool {
+        self.bytes.iter().zip(self.lengths).all(|(bytes, length)| {
+            let (area, guard) = bytes.split_at(length);
+            area.iter().all(|&byte| byte == 0) && guard.iter().all(|&byte| byte == GUARD_BYTE)
+        })
+    }
+}
