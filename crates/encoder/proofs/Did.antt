@@ -1,0 +1,143 @@
+-- Steps one after another.
+use mathlib.Core.Path.{_≡_, refl, sym, _∙_, ap}
+use mathlib.Core.Bool.{Bool, true, false, _||_, true≢false}
+use mathlib.Core.List.{List, [], _∷_}
+use Prim.Native.Nat.{ℕ, _≤_}
+use native.Mathlib.Omega.{arith}
+use lib.Dec.{ltb}
+use lib.ListN.{length}
+use borrow.Author.Tests.{ltb-true, lt-ltb}
+use Rattle.rules.specs.Catalogue.{Catalogue}
+use Rattle.rules.specs.Lists.{fold}
+use Rattle.rules.specs.State.{State}
+use Rattle.rules.proofs.Bools.{by-cases}
+use Rattle.rules.proofs.Grows.{Grows, same, and-then, stays-above}
+use Rattle.state.specs.declared.Limits.{Limits}
+use Rattle.encoder.specs.declared.Counters.{Counters}
+use Rattle.encoder.specs.Held.{Reading, stateOf, Good}
+use Rattle.encoder.specs.Did.{limitsOf, roomOf, beyond, Widens, Did}
+
+-- ---- widening
+
+pub widens-same : {s : State} → Widens s s
+widens-same = record { grows = same; line = omega arith; several = omega arith }
+
+pub widens-then : {s s′ s″ : State} → Widens s s′ → Widens s′ s″ → Widens s s″
+widens-then p q = record { grows = and-then (p .grows) (q .grows); line = omega (arith, p .line, q .line); several = omega (arith, p .several, q .several) }
+
+pub widens-fold : {A : Type 0} (f : A → State → State) → ((x : A) (s : State) → Widens s (f x s)) → (xs : List A) (s : State) → Widens s (fold f xs s)
+unfolding fold
+widens-fold f h [] s = widens-same
+widens-fold f h (x ∷ xs) s = widens-then (h x s) (widens-fold f h xs (f x s))
+
+more-than : (l m n : ℕ) → m ≤ n → ltb l m ≡ true → ltb l n ≡ true
+more-than l m n h e = let a = ltb-true l m e in lt-ltb l n (omega arith)
+
+either : (a a′ b b′ : Bool) → (a ≡ true → a′ ≡ true) → (b ≡ true → b′ ≡ true) → (a || b) ≡ true → (a′ || b′) ≡ true
+either true a′ b b′ f g e = rw (f refl)
+either false true b b′ f g e = refl
+either false false b b′ f g e = g e
+
+pub stays-beyond : (l : Limits) (room : ℕ) {s s′ : State} → Widens s s′ → beyond l room s ≡ true → beyond l room s′ ≡ true
+unfolding beyond
+stays-beyond l room w =
+    either _ _ _ _ (stays-above (limitsOf l) (w .grows)) (either _ _ _ _ (more-than room _ _ (w .line)) (more-than 64 _ _ (w .several)))
+
+same-room : (l : Limits) (n n′ : Counters) → n′ .first ≡ n .first → roomOf l n′ ≡ roomOf l n
+unfolding roomOf
+same-room l n n′ e = rw e
+
+-- ---- steps
+
+module _ {c : Catalogue} {l : Limits} where
+  module _ {n : Counters} {st : ℕ → List ℕ} {cl wt : List ℕ} where
+    -- nothing
+    pub did-nothing : Did c l (λ v s. s) n st cl wt n st cl wt
+    did-nothing =
+        record {
+          wide = λ v s. widens-same;
+          good = λ g. g;
+          first = refl;
+          drawn = λ k. refl;
+          stays = λ e. e;
+          done = λ g e e′ v. refl;
+          over = λ g e e′ v. absurd (true≢false (sym e′ ∙ e));
+        }
+
+    -- nothing, where it is full already
+    pub did-full : {F : Reading → State → State} → n .full ≡ true → ((v : Reading) (s : State) → Widens s (F v s)) → Did c l F n st cl wt n st cl wt
+    did-full f w =
+        record {
+          wide = w;
+          good = λ g. g;
+          first = refl;
+          drawn = λ k. refl;
+          stays = λ e. e;
+          done = λ g e e′ v. absurd (true≢false (sym f ∙ e));
+          over = λ g e e′ v. absurd (true≢false (sym f ∙ e));
+        }
+
+    -- nothing, where F would change nothing
+    pub did-idle : {F : Reading → State → State} → ((v : Reading) (s : State) → Widens s (F v s))
+        → (Good c l n st cl wt → n .full ≡ false → (v : Reading) → F v (stateOf c l v n st cl wt) ≡ stateOf c l v n st cl wt)
+        → Did c l F n st cl wt n st cl wt
+    did-idle w h =
+        record {
+          wide = w;
+          good = λ g. g;
+          first = refl;
+          drawn = λ k. refl;
+          stays = λ e. e;
+          done = λ g e e′ v. sym (h g e v);
+          over = λ g e e′ v. absurd (true≢false (sym e′ ∙ e));
+        }
+
+  module _ {F : Reading → State → State} {n : Counters} {st : ℕ → List ℕ} {cl wt : List ℕ} {n′ : Counters} {st′ : ℕ → List ℕ} {cl′ wt′ : List ℕ} where
+    -- the same by another name
+    pub did-as : {G : Reading → State → State} → Did c l F n st cl wt n′ st′ cl′ wt′ → ((v : Reading) (s : State) → Widens s (G v s))
+        → (Good c l n st cl wt → n .full ≡ false → (v : Reading) → F v (stateOf c l v n st cl wt) ≡ G v (stateOf c l v n st cl wt))
+        → Did c l G n st cl wt n′ st′ cl′ wt′
+    did-as d w h =
+        record {
+          wide = w;
+          good = d .good;
+          first = d .first;
+          drawn = d .drawn;
+          stays = d .stays;
+          done = λ g e e′ v. d .done g e e′ v ∙ h g e v;
+          over = λ g e e′ v. ap (beyond l (roomOf l n)) (sym (h g e v)) ∙ d .over g e e′ v;
+        }
+
+    -- the next step is not taken where it is full
+    pub did-stop : {G : Reading → State → State} → Did c l F n st cl wt n′ st′ cl′ wt′ → n′ .full ≡ true → ((v : Reading) (s : State) → Widens s (G v s))
+        → Did c l (λ v s. G v (F v s)) n st cl wt n′ st′ cl′ wt′
+    did-stop d f w =
+        record {
+          wide = λ v s. widens-then (d .wide v s) (w v (F v s));
+          good = d .good;
+          first = d .first;
+          drawn = d .drawn;
+          stays = d .stays;
+          done = λ g e e′ v. absurd (true≢false (sym f ∙ e′));
+          over = λ g e e′ v. stays-beyond l (roomOf l n) (w v _) (d .over g e e′ v);
+        }
+
+    module _ {G : Reading → State → State} {n″ : Counters} {st″ : ℕ → List ℕ} {cl″ wt″ : List ℕ} where
+      -- one step and then another
+      pub did-then : Did c l F n st cl wt n′ st′ cl′ wt′ → Did c l G n′ st′ cl′ wt′ n″ st″ cl″ wt″ → Did c l (λ v s. G v (F v s)) n st cl wt n″ st″ cl″ wt″
+      did-then d k =
+          record {
+            wide = λ v s. widens-then (d .wide v s) (k .wide v (F v s));
+            good = λ g. k .good (d .good g);
+            first = k .first ∙ d .first;
+            drawn = λ i. k .drawn i ∙ d .drawn i;
+            stays = λ e. k .stays (d .stays e);
+            done = λ g e e″ v. let e′ = not-full e″ in k .done (d .good g) e′ e″ v ∙ ap (G v) (d .done g e e′ v);
+            over = λ g e e″ v. by-cases (n′ .full)
+                (λ e′. stays-beyond l (roomOf l n) (k .wide v _) (d .over g e e′ v))
+                (λ e′. ap (λ s. beyond l (roomOf l n) (G v s)) (sym (d .done g e e′ v))
+                ∙ (ap (λ m. beyond l m (G v (stateOf c l v n′ st′ cl′ wt′))) (sym (same-room l n n′ (d .first))) ∙ k .over (d .good g) e′ e″ v));
+          }
+        where
+          not-full : n″ .full ≡ false → n′ .full ≡ false
+          not-full e″ = by-cases (n′ .full) (λ e′. absurd (true≢false (sym (k .stays e′) ∙ e″))) (λ e′. e′)
