@@ -1,23 +1,18 @@
--- Rows of stored clauses: reading one, appending one, and marking one as a conflict.
+-- Rows of stored clauses: reading one and appending one.
 use mathlib.Core.Path.{_≡_, refl, ap, sym, _∙_}
-use mathlib.Core.Bool.{Bool, true, false, cond}
 use mathlib.Core.List.{List, [], _∷_, _++_}
 use Prim.Native.Nat.{ℕ, zero, suc, _+_, _-_, _*_, _<_, _≤_}
 use native.Mathlib.Omega.{arith}
-use native.Mathlib.Decide.{decLt}
-use native.Mathlib.Numerals.{add-one}
-use lib.Dec.{eqb}
-use lib.ListN.{length, getD, set, take, drop, length-set}
-use lib.Seq.{sets, ext-getD, getD-set-same, getD-set-other}
-use borrow.Author.Tests.{eqb-true, eqb-false}
+use lib.ListN.{length, getD, set, take, drop}
+use lib.Seq.{sets}
 use Rattle.rules.specs.Lists.{snoc}
 use Rattle.words.specs.Words.{words, length-words}
 use Rattle.words.proofs.Parts.{stored-behind}
 use Rattle.tables.specs.Tables.{listed, field}
-use Rattle.tables.proofs.Listed.{listed-at, listed-more, listed-same, listed-length}
-use Rattle.tables.proofs.Stores.{Stored, first, stored-outside, stored-inside}
+use Rattle.tables.proofs.Listed.{listed-at, listed-more, listed-same}
+use Rattle.tables.proofs.Stores.{Stored, stored-outside, stored-inside}
 use Rattle.solver.specs.declared.Stored as declared
-use Rattle.solver.specs.Rows.{Row, SameBut, noRow, rowIn, rows, rowOf, rowNumbers, withConflict, reported}
+use Rattle.solver.specs.Rows.{noRow, rowIn, rows, rowOf, rowNumbers}
 
 -- ---- reading
 
@@ -32,23 +27,25 @@ row-in : (n i : ℕ) (b : List ℕ) → i < n → getD (rows n b) i noRow ≡ ro
 unfolding rows
 row-in n i b h = listed-at n (rowIn (words b)) i noRow h
 
-pub conflict-is : (n i r : ℕ) (b : List ℕ) → i < n → r ≡ getD (words b) (i * 10 + 7) 0 → r ≡ (getD (rows n b) i noRow) .conflict
-unfolding rowIn
-conflict-is n i r b h e = rw (row-in n i b h) (placed (words b) i 7 r e)
-
-pub row-is : (n i k p q s c f m : ℕ) (b : List ℕ) → i < n → k ≡ getD (words b) (i * 10) 0 → p ≡ getD (words b) (i * 10 + 1) 0
+pub row-is : (n i k p q s c f m x : ℕ) (b : List ℕ) → i < n → k ≡ getD (words b) (i * 10) 0 → p ≡ getD (words b) (i * 10 + 1) 0
     → q ≡ getD (words b) (i * 10 + 2) 0 → s ≡ getD (words b) (i * 10 + 3) 0 → c ≡ getD (words b) (i * 10 + 4) 0 → f ≡ getD (words b) (i * 10 + 5) 0
-    → m ≡ getD (words b) (i * 10 + 6) 0
-    → SameBut (record { kind = k; first = p; second = q; start = s; count = c; form = f; number = m }) (getD (rows n b) i noRow)
-unfolding rowIn
-row-is n i k p q s c f m b h ek ep eq es ec ef em =
+    → m ≡ getD (words b) (i * 10 + 6) 0 → x ≡ getD (words b) (i * 10 + 7) 0
+    → rowOf (record { kind = k; first = p; second = q; start = s; count = c; form = f; number = m; conflict = x }) ≡ getD (rows n b) i noRow
+unfolding rowIn rowOf
+row-is n i k p q s c f m x b h ek ep eq es ec ef em ex =
     let w = words b in
     let z : i * 10 ≡ i * 10 + 0 = omega arith in
-    rw (row-in n i b h) (record {
-      kind = placed w i 0 k (ek ∙ ap (λ (x : ℕ). getD w x 0) z);
-      first = placed w i 1 p ep; second = placed w i 2 q eq; start = placed w i 3 s es;
-      count = placed w i 4 c ec; form = placed w i 5 f ef; number = placed w i 6 m em;
-    })
+    rw (
+      row-in n i b h,
+      ← placed w i 0 k (ek ∙ ap (λ (y : ℕ). getD w y 0) z),
+      ← placed w i 1 p ep,
+      ← placed w i 2 q eq,
+      ← placed w i 3 s es,
+      ← placed w i 4 c ec,
+      ← placed w i 5 f ef,
+      ← placed w i 6 m em,
+      ← placed w i 7 x ex,
+    )
 
 -- ---- one row more
 
@@ -61,7 +58,7 @@ four-written w t u v z at a b c d et eu ev ez =
     rw (ez, ev, eu, et, p, q, r)
 
 pub row-written : (r : declared.Stored) (w a b : List ℕ) → a ≡ sets w 0 (r .kind ∷ r .first ∷ r .second ∷ r .start ∷ [])
-    → b ≡ sets a 4 (r .count ∷ r .form ∷ r .number ∷ 0 ∷ []) → b ≡ sets w 0 (rowNumbers r)
+    → b ≡ sets a 4 (r .count ∷ r .form ∷ r .number ∷ r .conflict ∷ []) → b ≡ sets w 0 (rowNumbers r)
 unfolding rowNumbers
 row-written r w a b ea eb = rw (eb, ea)
 
@@ -91,58 +88,3 @@ appended n a k xs ys r ea ek h e =
     let w′ = words (take a xs ++ (ys ++ drop k (drop a xs))) in
     let s : Stored w (n * 10) (rowNumbers r) w′ = record { is = stored-behind (n * 10) a k xs ys (rowNumbers r) (omega arith) ek (omega arith) e } in
     listed-more n (rowIn w′) ∙ rw (listed-same n (rowIn w′) (rowIn w) (earlier n r w w′ s), latest n r w w′ s (omega (arith, length-words xs)))
-
--- ---- a conflict
-
-module _ (i run : ℕ) (w w′ : List ℕ) (s : Stored w (i * 10 + 7) (run ∷ []) w′) where
-  other-place : (j f : ℕ) → (0 + 10 * j + f ≡ i * 10 + 7 → ⊥) → getD w′ (0 + 10 * j + f) 0 ≡ getD w (0 + 10 * j + f) 0
-  other-place j f out = stored-outside s (0 + 10 * j + f) (λ a b. out (between _ _ a b))
-    where
-      between : (x y : ℕ) → y ≤ x → x < y + 1 → x ≡ y
-      between x y a b = omega arith
-
-  other-row : (j : ℕ) → (j ≡ i → ⊥) → rowIn w′ j ≡ rowIn w j
-  unfolding rowIn field
-  other-row j d = rw (at 0 (omega arith), at 1 (omega arith), at 2 (omega arith), at 3 (omega arith), at 4 (omega arith), at 5 (omega arith), at 6 (omega arith), at 7 (omega arith))
-    where
-      at : (f : ℕ) → f < 10 → getD w′ (0 + 10 * j + f) 0 ≡ getD w (0 + 10 * j + f) 0
-      at f g = other-place j f (λ e. d (omega arith))
-
-  same-row : i * 10 + 7 + 1 ≤ length w → rowIn w′ i ≡ withConflict run (rowIn w i)
-  unfolding rowIn withConflict field
-  same-row l = rw (at 0 (omega arith), at 1 (omega arith), at 2 (omega arith), at 3 (omega arith), at 4 (omega arith), at 5 (omega arith), at 6 (omega arith), last)
-    where
-      at : (f : ℕ) → f < 7 → getD w′ (0 + 10 * i + f) 0 ≡ getD w (0 + 10 * i + f) 0
-      at f g = other-place i f (λ e. omega arith)
-
-      last : getD w′ (0 + 10 * i + 7) 0 ≡ run
-      last =
-          let q : 0 + 10 * i + 7 ≡ i * 10 + 7 + 0 = omega arith in
-          ap (λ (x : ℕ). getD w′ x 0) q ∙ stored-inside s 0 (omega arith) l
-
-row-at-place : (n i run : ℕ) (w w′ : List ℕ) → Stored w (i * 10 + 7) (run ∷ []) w′ → i < n → i * 10 + 7 + 1 ≤ length w → (j : ℕ) → j < n
-    → getD (listed n (rowIn w′)) j noRow ≡ getD (set (listed n (rowIn w)) i (withConflict run (getD (listed n (rowIn w)) i noRow))) j noRow
-row-at-place n i run w w′ s h l j m = go (eqb j i) refl
-  where
-    old : List Row
-    old = listed n (rowIn w)
-
-    go : (q : Bool) → eqb j i ≡ q → getD (listed n (rowIn w′)) j noRow ≡ getD (set old i (withConflict run (getD old i noRow))) j noRow
-    go true q =
-        let e : j ≡ i = eqb-true j i q in
-        rw (e, listed-at n (rowIn w′) i noRow h, getD-set-same old i (withConflict run (getD old i noRow)) noRow (rw (listed-length n (rowIn w)) h), listed-at n (rowIn w) i noRow h) (same-row i run w w′ s l)
-    go false q =
-        let d : j ≡ i → ⊥ = eqb-false j i q in
-        rw (getD-set-other, listed-at n (rowIn w′) j noRow m, listed-at n (rowIn w) j noRow m) (other-row i run w w′ s j d)
-
-pub reported-is : (n i run : ℕ) (b b′ : List ℕ) → i < n → n * 20 ≤ length b → words b′ ≡ set (words b) (i * 10 + 7) run → rows n b′ ≡ reported (rows n b) i run
-unfolding rows reported
-reported-is n i run b b′ h l e =
-    let w = words b in
-    let w′ = words b′ in
-    let s : Stored w (i * 10 + 7) (run ∷ []) w′ = first run e in
-    let old = listed n (rowIn w) in
-    let size : length old ≡ n = listed-length n (rowIn w) in
-    let new = withConflict run (getD old i noRow) in
-    ext-getD noRow (listed n (rowIn w′)) (set old i new) (listed-length n (rowIn w′) ∙ sym (length-set old i new ∙ size))
-    (λ j m. row-at-place n i run w w′ s h (omega (arith, length-words b)) j (rw (listed-length n (rowIn w′)) at m))

@@ -1,8 +1,6 @@
 -- Rows of stored clauses: ten numbers each, the last two left for what later requests bring.
-use mathlib.Core.Path.{_≡_}
 use mathlib.Core.List.{List, [], _∷_, map}
 use Prim.Native.Nat.{ℕ, _+_, _*_}
-use lib.ListN.{getD, set}
 use Rattle.words.specs.Words.{words}
 use Rattle.tables.specs.Tables.{listed, field}
 use Rattle.solver.specs.declared.Stored.{Stored}
@@ -30,28 +28,12 @@ rowIn w i =
 unfoldable pub rows : ℕ → List ℕ → List Row
 rows n bytes = listed n (rowIn (words bytes))
 
--- a new row, of which no conflict is known
 unfoldable pub rowOf : Stored → Row
 rowOf r =
-    record { kind = r .kind; first = r .first; second = r .second; start = r .start; count = r .count; form = r .form; number = r .number; conflict = 0 }
+    record {
+      kind = r .kind; first = r .first; second = r .second; start = r .start; count = r .count; form = r .form; number = r .number;
+      conflict = r .conflict
+    }
 
 unfoldable pub rowNumbers : Stored → List ℕ
-rowNumbers r = r .kind ∷ r .first ∷ r .second ∷ r .start ∷ r .count ∷ r .form ∷ r .number ∷ 0 ∷ []
-
--- a row's clause, whatever is known of its conflict
-pub record SameBut (s : Stored) (r : Row) : Type 0 where
-  pub kind : s .kind ≡ r .kind
-  pub first : s .first ≡ r .first
-  pub second : s .second ≡ r .second
-  pub start : s .start ≡ r .start
-  pub count : s .count ≡ r .count
-  pub form : s .form ≡ r .form
-  pub number : s .number ≡ r .number
-
-unfoldable pub withConflict : ℕ → Row → Row
-withConflict run r =
-    record { kind = r .kind; first = r .first; second = r .second; start = r .start; count = r .count; form = r .form; number = r .number; conflict = run }
-
--- row i is a conflict of this run
-unfoldable pub reported : List Row → ℕ → ℕ → List Row
-reported rs i run = set rs i (withConflict run (getD rs i noRow))
+rowNumbers r = r .kind ∷ r .first ∷ r .second ∷ r .start ∷ r .count ∷ r .form ∷ r .number ∷ r .conflict ∷ []

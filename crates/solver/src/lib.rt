@@ -2,13 +2,14 @@
 ghost use mathlib.Core.Path.{_≡_};
 ghost use mathlib.Core.List.{_∷_, []};
 ghost use Prim.Native.Nat.{_+_, _*_, _<_, _≤_};
-ghost use lib.ListN.{length, getD, set};
+ghost use lib.ListN.{length, getD};
 ghost use lib.Seq.{sets};
 ghost use Rattle.rules.specs.Lists.{snoc};
 ghost use Rattle.words.specs.Words.{words};
-ghost use Rattle.solver.specs.Rows.{Row, SameBut, noRow, rowOf, rowNumbers, rows, reported};
+ghost use Rattle.solver.specs.Rows.{noRow, rowOf, rowNumbers, rows};
 
-// A clause as it is stored: its kind, up to two variables or a literal, its condition literals' place and number, and its goal.
+// A clause as it is stored: its kind, up to two variables or a literal, its condition literals' place and number, its goal, and the run in which it
+// was a conflict, or 0.
 pub struct Stored {
     pub kind: u16,
     pub first: u16,
@@ -17,6 +18,7 @@ pub struct Stored {
     pub count: u16,
     pub form: u16,
     pub number: u16,
+    pub conflict: u16,
 }
 
 // Four numbers, from number `at` on.
@@ -30,13 +32,13 @@ pub fn write_four(dst: &mut [u8], at: usize, a: u16, b: u16, c: u16, d: u16)
     words::put(dst, at + 3, d);
 }
 
-// Writes a row at the start of what is lent; no conflict is known of it yet.
+// Writes a row at the start of what is lent.
 pub fn write_row(dst: &mut [u8], row: Stored)
     requires { ⌜ 20 ≤ length (now dst) ⌝ }
     ensures { λ _. ⌜ words (now (dst .exit)) ≡ sets (words (now (dst .entry))) 0 (rowNumbers row) ⌝ }
 {
     write_four(dst, 0, row.kind, row.first, row.second, row.start);
-    write_four(dst, 4, row.count, row.form, row.number, 0);
+    write_four(dst, 4, row.count, row.form, row.number, row.conflict);
 }
 
 // A row behind the n that are stored.
@@ -53,7 +55,7 @@ pub fn append(clauses: &mut [u8], n: usize, row: Stored) -> usize
 // Row i.
 pub fn row_at(clauses: &[u8], n: usize, i: usize) -> Stored
     requires { ⌜ (n ≤ 16384) × (n * 20 ≤ length (now clauses)) × (i < n) ⌝ }
-    ensures { λ r. ⌜ SameBut r (getD (rows n (now (clauses .entry))) i noRow) ⌝ }
+    ensures { λ r. ⌜ rowOf r ≡ getD (rows n (now (clauses .entry))) i noRow ⌝ }
 {
     let at = i * 10;
     let kind = words::get(clauses, at);
@@ -63,21 +65,6 @@ pub fn row_at(clauses: &[u8], n: usize, i: usize) -> Stored
     let count = words::get(clauses, at + 4);
     let form = words::get(clauses, at + 5);
     let number = words::get(clauses, at + 6);
-    Stored { kind, first, second, start, count, form, number }
-}
-
-// The run in which clause i was a conflict, or 0.
-pub fn conflict_at(clauses: &[u8], n: usize, i: usize) -> u16
-    requires { ⌜ (n ≤ 16384) × (n * 20 ≤ length (now clauses)) × (i < n) ⌝ }
-    ensures { λ r. ⌜ r ≡ (getD (rows n (now (clauses .entry))) i noRow) .conflict ⌝ }
-{
-    words::get(clauses, i * 10 + 7)
-}
-
-// Clause i is a conflict of this run.
-pub fn report(clauses: &mut [u8], n: usize, i: usize, run: u16)
-    requires { ⌜ (n ≤ 16384) × (n * 20 ≤ length (now clauses)) × (i < n) ⌝ }
-    ensures { λ _. ⌜ rows n (now (clauses .exit)) ≡ reported (rows n (now (clauses .entry))) i run ⌝ }
-{
-    words::put(clauses, i * 10 + 7, run);
+    let conflict = words::get(clauses, at + 7);
+    Stored { kind, first, second, start, count, form, number, conflict }
 }

@@ -45,6 +45,12 @@ add-get-6 c = search needs
 get-requires-7 : tie.Need-get-requires-7
 get-requires-7 c κs = search needs
 
+add-get-7 : tie.Need-add-get-7
+add-get-7 c = search needs
+
+get-requires-8 : tie.Need-get-requires-8
+get-requires-8 c κs = search needs
+
 returns : tie.Need-returns
 returns c = search (needs, row-is)
 
@@ -66,4 +72,6 @@ row-at-spec =
     get-requires-6
     add-get-6
     get-requires-7
+    add-get-7
+    get-requires-8
     returns)
