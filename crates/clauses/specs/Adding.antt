@@ -1,0 +1,94 @@
+-- A clause is stored and heeded; a literal is set.
+use mathlib.Core.Path.{_≡_}
+use mathlib.Core.Bool.{Bool, true, false, cond}
+use mathlib.Core.List.{List, [], _∷_, _++_, map}
+use Prim.Native.Nat.{ℕ, _+_, _-_, _*_, _<_, _≤_}
+use lib.ListN.{length}
+use Rattle.rules.specs.Lists.{snoc}
+use Rattle.rules.specs.Literal.{Literal, pos}
+use Rattle.rules.specs.Clause.{Clause, requires, gated, Reason, exclusion, unknownDependencies, conditionLiterals}
+use Rattle.rules.specs.Catalogue.{Catalogue}
+use Rattle.rules.specs.Candidates.{candidates}
+use Rattle.rules.specs.Items.{goalOf}
+use Rattle.rules.specs.Variables.{known, partOrigin}
+use Rattle.rules.specs.Decisions.{allFalse}
+use Rattle.rules.specs.State.{State, setClauses, setConflicts, force, propagate}
+use Rattle.rules.proofs.Each.{Each}
+use Rattle.rules.proofs.ClauseByClause.{addClause}
+use Rattle.clause.specs.Literals.{literalOf}
+use Rattle.clause.specs.declared.Literal as code
+use Rattle.state.specs.declared.Limits.{Limits}
+use Rattle.variable_map.specs.Mapping.{variables}
+use Rattle.decision_tracker.specs.Tracking.{decisions, Kept}
+use Rattle.solver.specs.declared.Stored.{Stored}
+use Rattle.solver.specs.Rows.{rowOf}
+use Rattle.encoder.specs.declared.Counters.{Counters}
+use Rattle.encoder.specs.declared.Run.{Run}
+use Rattle.encoder.specs.Held.{runOf, clauseIn, literalsIn, goalVariables, conflictIf, Sound}
+use Rattle.encoder.specs.Did.{Did}
+
+-- Of n, what is used when a clause is added: the decisions, and room. `bytes`: the length of the clauses' area.
+pub record CanAdd (l : Limits) (n : Counters) (st : ℕ → List ℕ) (bytes : ℕ) : Type 0 where
+  pub kept : Kept l (n .decisions) st
+  pub clauses : n .clauses ≤ l .clauses
+  pub literals : n .literals ≤ l .literals
+  pub most : l .clauses ≤ 16384
+  pub long : l .clauses * 20 ≤ bytes
+
+unfoldable pub reasonFor : (unknown : Bool) → Reason
+reasonFor true = unknownDependencies
+reasonFor false = exclusion
+
+-- a clause is stored behind the others; `run`: the run in which it is a conflict, or 0
+unfoldable pub withClause : Clause → ℕ → State → State
+withClause k run s = setConflicts (s .conflicts ++ conflictIf run (length (s .clauses))) (setClauses (snoc (s .clauses) k) s)
+
+-- the row's literals and candidates are as `Good` asks
+pub record Fitting (c : Catalogue) (l : Limits) (n : Counters) (st : ℕ → List ℕ) (row : Stored) : Type 0 where
+  pub room : n .literals + row .count ≤ l .literals
+  pub sound : Sound c (variables (n .variables) st) (n .literals + row .count) (rowOf row)
+  pub counted : conditionLiterals (clauseIn c (variables (n .variables) st) (st 19) (rowOf row)) ≡ row .count
+
+pub record Stores (l : Limits) (row : Stored) (n : Counters) (cl : List ℕ) (n′ : Counters) (cl′ : List ℕ) : Type 0 where
+  pub is : (c : Catalogue) (st : ℕ → List ℕ) (wt : List ℕ) → Fitting c l n st row
+      → Did c l (λ v s. withClause (clauseIn c (s .variables) (st 19) (rowOf row)) (row .conflict) s) n st cl wt n′ st cl′ wt
+
+-- the last clause sets a literal
+pub record Forces (l : Limits) (r : Run) (x : code.Literal) (n : Counters) (st : ℕ → List ℕ) (n′ : Counters) (st′ : ℕ → List ℕ) : Type 0 where
+  pub is : (c : Catalogue) (cl wt : List ℕ) → Did c l (λ v. force (runOf r) (n .clauses - 1) (literalOf x)) n st cl wt n′ st′ cl wt
+
+-- clause k is added in run r
+pub record Adds (l : Limits) (r : Run) (k : Clause) (n : Counters) (st : ℕ → List ℕ) (cl : List ℕ) (n′ : Counters) (st′ : ℕ → List ℕ) (cl′ : List ℕ) : Type 0 where
+  pub is : (c : Catalogue) (wt : List ℕ) → Did c l (λ v. addClause (runOf r) k) n st cl wt n′ st′ cl′ wt
+
+-- a row of two variables
+unfoldable pub pairOf : (kind first second conflict : ℕ) → Stored
+pairOf k x y i = record { kind = k; first = x; second = y; start = 0; count = 0; form = 0; number = 0; conflict = i }
+
+-- a row of a clause other than requires, whose two literals are a and b, is added
+pub record AddsPair (l : Limits) (r : Run) (kind first second : ℕ) (a b : code.Literal)
+    (n : Counters) (st : ℕ → List ℕ) (cl : List ℕ) (n′ : Counters) (st′ : ℕ → List ℕ) (cl′ : List ℕ) : Type 0 where
+  pub is : (c : Catalogue) (wt : List ℕ) → (kind ≡ 1 → ⊥) → (kind ≡ 2 → ⊥)
+      → Did c l (λ v s. propagate (runOf r) (length (s .clauses)) (literalOf a) (literalOf b)
+          (setClauses (snoc (s .clauses) (clauseIn c (s .variables) (st 19) (rowOf (pairOf kind first second 0)))) s)) n st cl wt n′ st′ cl′ wt
+
+-- ---- of a goal, by form and number, whose candidates have variables
+
+abbrev pub AllNamed : Catalogue → Counters → (ℕ → List ℕ) → (form number : ℕ) → Type 0
+AllNamed c n st form number = Each (λ p. known (variables (n .variables) st) (partOrigin p) ≡ true) (candidates c (goalOf form number))
+
+abbrev pub falseNow : Catalogue → Counters → (ℕ → List ℕ) → List Literal → (form number : ℕ) → Bool
+falseNow c n st ks form number = allFalse (decisions (n .decisions) st) (ks ++ map pos (goalVariables c (variables (n .variables) st) form number))
+
+-- The condition literals ks are the `count` numbers behind those of the stored clauses, if there is room for them. `all`: all literals but the owner's are false.
+pub record AddsRequires (l : Limits) (r : Run) (owner count form number : ℕ) (all : Bool)
+    (n : Counters) (st : ℕ → List ℕ) (cl : List ℕ) (n′ : Counters) (cl′ : List ℕ) : Type 0 where
+  pub is : (c : Catalogue) (wt : List ℕ) (ks : List Literal) → length ks ≡ count → AllNamed c n st form number
+      → (n .literals + count ≤ l .literals → literalsIn (st 19) (n .literals) count ≡ ks)
+      → (n .literals + count ≤ l .literals → all ≡ falseNow c n st ks form number)
+      → Did c l (λ v s. addClause (runOf r) (requires owner ks (goalVariables c (s .variables) form number)) s) n st cl wt n′ st cl′ wt
+
+pub record AddsGated (l : Limits) (r : Run) (gate form number : ℕ) (all : Bool)
+    (n : Counters) (st : ℕ → List ℕ) (cl : List ℕ) (n′ : Counters) (st′ : ℕ → List ℕ) (cl′ : List ℕ) : Type 0 where
+  pub is : (c : Catalogue) (wt : List ℕ) → AllNamed c n st form number → all ≡ falseNow c n st [] form number
+      → Did c l (λ v s. addClause (runOf r) (gated gate (goalVariables c (s .variables) form number)) s) n st cl wt n′ st′ cl′ wt
