@@ -1,1 +1,4 @@
 pub mod Did
+pub mod Counted
+pub mod Frames
+pub mod Widening
