@@ -7,13 +7,11 @@ use lib.ListN.{length}
 use Rattle.rules.specs.Lists.{concatMap}
 use Rattle.rules.specs.Clause.{Clause}
 use Rattle.rules.specs.Catalogue.{Owner, Catalogue}
-use Rattle.rules.specs.Items.{goalOf}
 use Rattle.rules.specs.Items as items
 use Rattle.rules.specs.Variables.{Origin, known, partOrigin}
 use Rattle.rules.specs.Listing.{ascii, decimal, line, numbered, ownerField, originFields, clauseFields, listing}
 use Rattle.rules.proofs.Each.{Each}
 use Rattle.rules.proofs.Valid.{Entry}
-use Rattle.rules.proofs.WellFormed.{GoalGiven}
 use Rattle.text.specs.Text.{Wrote}
 use Rattle.state.specs.declared.Limits.{Limits}
 use Rattle.variable_map.specs.Mapping.{variables, Mapped}
@@ -29,10 +27,6 @@ pub record AllKnown (vs : List Origin) (ps : List ℕ) : Type 0 where
 pub record AllGiven (c : Catalogue) (es : List (ℕ × ℕ)) : Type 0 where
   pub given : Each (Entry c) es
 
--- a requires row names a goal that is given
-pub record RowGoal (c : Catalogue) (r : Row) : Type 0 where
-  pub given : r .kind ≡ 1 → GoalGiven c (goalOf (r .form) (r .number))
-
 -- the stored rows can be printed
 pub record GoodRows (c : Catalogue) (l : Limits) (n : Counters) (st : ℕ → List ℕ) (cl : List ℕ) : Type 0 where
   pub few : n .clauses ≤ 16384
@@ -40,7 +34,6 @@ pub record GoodRows (c : Catalogue) (l : Limits) (n : Counters) (st : ℕ → Li
   pub literals : n .literals ≤ l .literals
   pub mapped : Mapped l (n .variables) st
   pub sound : Each (Sound c (variables (n .variables) st) (n .literals)) (rows (n .clauses) cl)
-  pub goals : Each (RowGoal c) (rows (n .clauses) cl)
 
 unfoldable pub ownerIs : ℕ → Owner
 ownerIs o = items.ownerOf o

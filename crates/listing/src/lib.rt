@@ -34,7 +34,7 @@ ghost use Rattle.marked.specs.Marked.{listed, ownerOf};
 ghost use Rattle.entries.specs.Entries.{noEntry, waitingIn, Long};
 ghost use Rattle.solver.specs.Rows.{noRow, rowOf, rows};
 ghost use Rattle.encoder.specs.Held.{literalsIn, goalVariables, clauseIn, clausesIn, conflictIf, conflictsFrom, Sound, LongEnough, Good};
-ghost use Rattle.listing.specs.Listed.{ownerIs, assertedBy, conflictLines, firstHalf, AllKnown, AllGiven, RowGoal, GoodRows, Lists};
+ghost use Rattle.listing.specs.Listed.{ownerIs, assertedBy, conflictLines, firstHalf, AllKnown, AllGiven, GoodRows, Lists};
 
 // ---- fields
 
@@ -416,7 +416,6 @@ fn conflict_lines(clauses: &[u8], n: Counters, out: &mut [u8], room: usize, at: 
 // Does the row assert its first variable false?
 fn asserts(marks: &[u8], unions: &[u8], t: &[u8], k: Counts, row: Stored) -> bool
     requires { ⌜ Kept k (now marks) (now unions) (now t) ⌝ }
-    requires { ⌜ RowGoal (catalogue k (now marks) (now unions) (now t)) (rowOf row) ⌝ }
     ensures { λ b. ⌜ assertedBy b (row .first) ≡ asserted (clauseIn (catalogue k (now (marks .entry)) (now (unions .entry)) (now (t .entry))) [] [] (rowOf row)) ⌝ }
 {
     match row.kind {
