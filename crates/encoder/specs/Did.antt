@@ -69,6 +69,11 @@ pub record Did (c : Catalogue) (l : Limits) (F : Reading → State → State) (n
 pub record StateDid (c : Catalogue) (l : Limits) (F : Reading → State → State) (n : Counters) (st : ℕ → List ℕ) (n′ : Counters) (st′ : ℕ → List ℕ) : Type 0 where
   pub is : (cl wt : List ℕ) → Did c l F n st cl wt n′ st′ cl wt
 
+-- the same of the state area and the clauses', whatever the waiting area holds
+pub record ClausesDid (c : Catalogue) (l : Limits) (F : Reading → State → State) (n : Counters) (st : ℕ → List ℕ) (cl : List ℕ)
+    (n′ : Counters) (st′ : ℕ → List ℕ) (cl′ : List ℕ) : Type 0 where
+  pub is : (wt : List ℕ) → Did c l F n st cl wt n′ st′ cl′ wt
+
 -- the same of one that does not read the catalogue
 pub record PlainDid (l : Limits) (F : Catalogue → Reading → State → State) (n : Counters) (st : ℕ → List ℕ) (n′ : Counters) (st′ : ℕ → List ℕ) : Type 0 where
   pub is : (c : Catalogue) → StateDid c l (F c) n st n′ st′
