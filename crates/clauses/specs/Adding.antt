@@ -1,6 +1,6 @@
 -- A clause is stored and heeded; a literal is set.
 use mathlib.Core.Path.{_≡_}
-use mathlib.Core.Bool.{Bool, true, false, cond}
+use mathlib.Core.Bool.{Bool, true, false}
 use mathlib.Core.List.{List, [], _∷_, _++_, map}
 use Prim.Native.Nat.{ℕ, _+_, _-_, _*_, _<_, _≤_}
 use lib.ListN.{length}
@@ -10,9 +10,9 @@ use Rattle.rules.specs.Clause.{Clause, requires, gated, Reason, exclusion, unkn
 use Rattle.rules.specs.Catalogue.{Catalogue}
 use Rattle.rules.specs.Candidates.{candidates}
 use Rattle.rules.specs.Items.{goalOf}
-use Rattle.rules.specs.Variables.{known, partOrigin}
+use Rattle.rules.specs.Variables.{Origin, known, partOrigin}
 use Rattle.rules.specs.Decisions.{allFalse}
-use Rattle.rules.specs.State.{State, setClauses, setConflicts, force, propagate}
+use Rattle.rules.specs.State.{State, setClauses, setConflicts, force, propagate, effect}
 use Rattle.rules.proofs.Each.{Each}
 use Rattle.rules.proofs.ClauseByClause.{addClause}
 use Rattle.clause.specs.Literals.{literalOf}
@@ -50,6 +50,9 @@ pub record Fitting (c : Catalogue) (l : Limits) (n : Counters) (st : ℕ → Lis
   pub counted : conditionLiterals (clauseIn c (variables (n .variables) st) (st 19) (rowOf row)) ≡ row .count
 
 pub record Stores (l : Limits) (row : Stored) (n : Counters) (cl : List ℕ) (n′ : Counters) (cl′ : List ℕ) : Type 0 where
+  pub decisions : n′ .decisions ≡ n .decisions
+  pub room : n′ .clauses ≤ l .clauses
+  pub count : n′ .full ≡ false → n′ .clauses ≡ n .clauses + 1
   pub is : (c : Catalogue) (st : ℕ → List ℕ) (wt : List ℕ) → Fitting c l n st row
       → Did c l (λ v s. withClause (clauseIn c (s .variables) (st 19) (rowOf row)) (row .conflict) s) n st cl wt n′ st cl′ wt
 
@@ -65,12 +68,19 @@ pub record Adds (l : Limits) (r : Run) (k : Clause) (n : Counters) (st : ℕ →
 unfoldable pub pairOf : (kind first second conflict : ℕ) → Stored
 pairOf k x y i = record { kind = k; first = x; second = y; start = 0; count = 0; form = 0; number = 0; conflict = i }
 
--- a row of a clause other than requires, whose two literals are a and b, is added
+-- such a row is clause k, which has no goal
+pub record IsPair (kind first second : ℕ) (k : Clause) : Type 0 where
+  pub notRequires : kind ≡ 1 → ⊥
+  pub notGated : kind ≡ 2 → ⊥
+  pub clause : (c : Catalogue) (vs : List Origin) (w : List ℕ) (i : ℕ) → clauseIn c vs w (rowOf (pairOf kind first second i)) ≡ k
+  pub literals : conditionLiterals k ≡ 0
+
+-- if it is a clause whose two literals are a and b, that clause is added
 pub record AddsPair (l : Limits) (r : Run) (kind first second : ℕ) (a b : code.Literal)
     (n : Counters) (st : ℕ → List ℕ) (cl : List ℕ) (n′ : Counters) (st′ : ℕ → List ℕ) (cl′ : List ℕ) : Type 0 where
-  pub is : (c : Catalogue) (wt : List ℕ) → (kind ≡ 1 → ⊥) → (kind ≡ 2 → ⊥)
-      → Did c l (λ v s. propagate (runOf r) (length (s .clauses)) (literalOf a) (literalOf b)
-          (setClauses (snoc (s .clauses) (clauseIn c (s .variables) (st 19) (rowOf (pairOf kind first second 0)))) s)) n st cl wt n′ st′ cl′ wt
+  pub is : (k : Clause) → IsPair kind first second k
+      → ((i : ℕ) (s : State) → effect (runOf r) i k s ≡ propagate (runOf r) i (literalOf a) (literalOf b) s)
+      → Adds l r k n st cl n′ st′ cl′
 
 -- ---- of a goal, by form and number, whose candidates have variables
 

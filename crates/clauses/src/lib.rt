@@ -7,7 +7,7 @@ use encoder::Run;
 use solver::Stored;
 use state::Limits;
 ghost use mathlib.Core.Path.{_≡_};
-ghost use mathlib.Core.Bool.{cond};
+ghost use mathlib.Core.Bool.{cond, not, _&&_};
 ghost use Prim.Native.Nat.{_+_, _*_, _<_, _≤_};
 ghost use lib.ListN.{length};
 ghost use Rattle.rules.specs.Clause.{excluded, constrains, forbid, auxOut, auxOwner, lock, anyGate, anyOne};
@@ -51,6 +51,19 @@ fn run_if(conflict: bool, r: Run) -> u16
     ensures { λ x. ⌜ x ≡ cond conflict (r .number) 0 ⌝ }
 {
     if conflict { r.number } else { 0 }
+}
+
+// The same of a conflict unless the owner is out.
+fn run_unless(conflict: bool, out: bool, r: Run) -> u16
+    ensures { λ x. ⌜ x ≡ cond (conflict && not out) (r .number) 0 ⌝ }
+{
+    if conflict {
+        if out {
+            return 0;
+        }
+        return r.number;
+    }
+    0
 }
 
 // A row behind the others.
@@ -98,30 +111,6 @@ fn force(s: &mut [u8], l: Limits, n: Counters, r: Run, literal: Literal) -> Coun
     }
 }
 
-// ---- clauses that only report
-
-// Part p, whose variable is x, is excluded, for its unknown dependencies or else for its exclusion.
-pub fn add_excluded(s: &[u8], clauses: &mut [u8], l: Limits, n: Counters, r: Run, x: u16, p: u16, unknown: bool) -> Counters
-    requires { ⌜ Fits l (length (now s)) ⌝ }
-    requires { ⌜ CanAdd l n (held l (now s)) (length (now clauses)) ⌝ }
-    requires { ⌜ 0 < r .number ⌝ }
-    ensures { λ m. ⌜ Adds l r (excluded x p (reasonFor unknown)) n (held l (now (s .entry))) (now (clauses .entry)) m (held l (now (s .entry))) (now (clauses .exit)) ⌝ }
-{
-    let conflict = is_true(s, l, n, x);
-    let kind: u16 = if unknown { 4 } else { 3 };
-    let row = Stored {
-        kind,
-        first: x,
-        second: p,
-        start: 0,
-        count: 0,
-        form: 0,
-        number: 0,
-        conflict: run_if(conflict, r),
-    };
-    store(clauses, l, n, row)
-}
-
 // A row of two variables.
 fn pair(kind: u16, first: u16, second: u16, conflict: u16) -> Stored
     ensures { λ row. ⌜ row ≡ pairOf kind first second conflict ⌝ }
@@ -138,6 +127,23 @@ fn pair(kind: u16, first: u16, second: u16, conflict: u16) -> Stored
     }
 }
 
+// ---- clauses that only report
+
+// Part p, whose variable is x, is excluded, for its unknown dependencies or else for its exclusion.
+pub fn add_excluded(s: &[u8], clauses: &mut [u8], l: Limits, n: Counters, r: Run, x: u16, p: u16, unknown: bool) -> Counters
+    requires { ⌜ Fits l (length (now s)) ⌝ }
+    requires { ⌜ CanAdd l n (held l (now s)) (length (now clauses)) ⌝ }
+    requires { ⌜ 0 < r .number ⌝ }
+    ensures { λ m. ⌜ Adds l r (excluded x p (reasonFor unknown)) n (held l (now (s .entry))) (now (clauses .entry)) m (held l (now (s .entry))) (now (clauses .exit)) ⌝ }
+{
+    let conflict = is_true(s, l, n, x);
+    let run = run_if(conflict, r);
+    if unknown {
+        return store(clauses, l, n, pair(4, x, p, run));
+    }
+    store(clauses, l, n, pair(3, x, p, run))
+}
+
 pub fn add_constrains(s: &[u8], clauses: &mut [u8], l: Limits, n: Counters, r: Run, owner: u16, x: u16) -> Counters
     requires { ⌜ Fits l (length (now s)) ⌝ }
     requires { ⌜ CanAdd l n (held l (now s)) (length (now clauses)) ⌝ }
@@ -146,8 +152,7 @@ pub fn add_constrains(s: &[u8], clauses: &mut [u8], l: Limits, n: Counters, r: R
 {
     let chosen = is_true(s, l, n, x);
     let out = is_false(s, l, n, owner);
-    let conflict = chosen && !out;
-    store(clauses, l, n, pair(5, owner, x, run_if(conflict, r)))
+    store(clauses, l, n, pair(5, owner, x, run_unless(chosen, out, r)))
 }
 
 pub fn add_aux_owner(s: &[u8], clauses: &mut [u8], l: Limits, n: Counters, r: Run, owner: u16, violation: u16) -> Counters
@@ -158,8 +163,7 @@ pub fn add_aux_owner(s: &[u8], clauses: &mut [u8], l: Limits, n: Counters, r: Ru
 {
     let violated = is_true(s, l, n, violation);
     let out = is_false(s, l, n, owner);
-    let conflict = violated && !out;
-    store(clauses, l, n, pair(8, owner, violation, run_if(conflict, r)))
+    store(clauses, l, n, pair(8, owner, violation, run_unless(violated, out, r)))
 }
 
 pub fn add_lock(s: &[u8], clauses: &mut [u8], l: Limits, n: Counters, r: Run, x: u16) -> Counters
@@ -184,7 +188,6 @@ pub fn add_requires(s: &[u8], clauses: &mut [u8], l: Limits, n: Counters, r: Run
         return encoder::filled(n);
     }
     let out = is_false(s, l, n, owner);
-    let conflict = all && !out;
     let row = Stored {
         kind: 1,
         first: owner,
@@ -193,7 +196,7 @@ pub fn add_requires(s: &[u8], clauses: &mut [u8], l: Limits, n: Counters, r: Run
         count: count as u16,
         form,
         number,
-        conflict: run_if(conflict, r),
+        conflict: run_unless(all, out, r),
     };
     store(clauses, l, n, row)
 }

@@ -13,9 +13,11 @@ use Rattle.rules.specs.State.{State}
 use Rattle.rules.proofs.Bools.{by-cases}
 use Rattle.rules.proofs.Grows.{Grows, same, and-then, stays-above}
 use Rattle.state.specs.declared.Limits.{Limits}
+use Rattle.entries.specs.Entries.{drawnIn}
 use Rattle.encoder.specs.declared.Counters.{Counters}
 use Rattle.encoder.specs.Held.{Reading, stateOf, Good}
-use Rattle.encoder.specs.Did.{limitsOf, roomOf, beyond, Widens, Did}
+use Rattle.encoder.specs.Did.{limitsOf, roomOf, beyond, Widens, filled, Did}
+use Rattle.encoder.proofs.Frames.{good-filled}
 
 -- ---- widening
 
@@ -92,7 +94,39 @@ module _ {c : Catalogue} {l : Limits} where
           over = λ g e e′ v. absurd (true≢false (sym e′ ∙ e));
         }
 
+    -- nothing but to say that it is full, where F would pass a limit
+    pub did-filled : {F : Reading → State → State} → ((v : Reading) (s : State) → Widens s (F v s))
+        → (Good c l n st cl wt → (v : Reading) → beyond l (roomOf l n) (F v (stateOf c l v n st cl wt)) ≡ true)
+        → Did c l F n st cl wt (filled n) st cl wt
+    did-filled w h =
+        record {
+          wide = w;
+          good = good-filled;
+          first = unfold filled in refl;
+          drawn = λ k. refl;
+          stays = λ e. unfold filled in refl;
+          done = λ g e e′ v. absurd (true≢false (unfold filled in e′));
+          over = λ g e e′ v. h g v;
+        }
+
   module _ {F : Reading → State → State} {n : Counters} {st : ℕ → List ℕ} {cl wt : List ℕ} {n′ : Counters} {st′ : ℕ → List ℕ} {cl′ wt′ : List ℕ} where
+    -- F, and nothing becomes full
+    pub did-made : ((v : Reading) (s : State) → Widens s (F v s)) → n′ .first ≡ n .first → n′ .full ≡ n .full
+        → ((k : ℕ) → drawnIn l k wt′ ≡ drawnIn l k wt)
+        → (Good c l n st cl wt → Good c l n′ st′ cl′ wt′)
+        → (Good c l n st cl wt → (v : Reading) → stateOf c l v n′ st′ cl′ wt′ ≡ F v (stateOf c l v n st cl wt))
+        → Did c l F n st cl wt n′ st′ cl′ wt′
+    did-made w a f d g h =
+        record {
+          wide = w;
+          good = g;
+          first = a;
+          drawn = d;
+          stays = λ e. f ∙ e;
+          done = λ k e e′ v. h k v;
+          over = λ k e e′ v. absurd (true≢false (sym e′ ∙ (f ∙ e)));
+        }
+
     -- the same by another name
     pub did-as : {G : Reading → State → State} → Did c l F n st cl wt n′ st′ cl′ wt′ → ((v : Reading) (s : State) → Widens s (G v s))
         → (Good c l n st cl wt → n .full ≡ false → (v : Reading) → F v (stateOf c l v n st cl wt) ≡ G v (stateOf c l v n st cl wt))

@@ -1,0 +1,12 @@
+use borrow.Author.Needs.{needs}
+use Rattle.clauses.proofs.pair.Statement.{statement}
+use Rattle.clauses.proofs.pair.Tie as tie
+use Rattle.clauses.proofs.pair.Reads as reads
+use Rattle.clauses.proofs.pair.Lts as lts
+
+-- src/lib.rt:115:1
+returns : tie.Need-returns
+returns c = search needs
+
+pub pair-spec : {M : Type 1} → statement M
+pair-spec = tie.close (tie.spec returns)
