@@ -60,6 +60,13 @@ pub record Stores (l : Limits) (row : Stored) (n : Counters) (cl : List ℕ) (n�
 pub record Forces (l : Limits) (r : Run) (x : code.Literal) (n : Counters) (st : ℕ → List ℕ) (n′ : Counters) (st′ : ℕ → List ℕ) : Type 0 where
   pub is : (c : Catalogue) (cl wt : List ℕ) → Did c l (λ v. force (runOf r) (n .clauses - 1) (literalOf x)) n st cl wt n′ st′ cl wt
 
+-- a clause is stored, and sets a literal
+pub record Sets (l : Limits) (r : Run) (row : Stored) (x : code.Literal)
+    (n : Counters) (st : ℕ → List ℕ) (cl : List ℕ) (n′ : Counters) (st′ : ℕ → List ℕ) (cl′ : List ℕ) : Type 0 where
+  pub is : (c : Catalogue) (wt : List ℕ) → Fitting c l n st row
+      → Did c l (λ v s. force (runOf r) (length (s .clauses)) (literalOf x) (withClause (clauseIn c (s .variables) (st 19) (rowOf row)) (row .conflict) s))
+          n st cl wt n′ st′ cl′ wt
+
 -- clause k is added in run r
 pub record Adds (l : Limits) (r : Run) (k : Clause) (n : Counters) (st : ℕ → List ℕ) (cl : List ℕ) (n′ : Counters) (st′ : ℕ → List ℕ) (cl′ : List ℕ) : Type 0 where
   pub is : (c : Catalogue) (wt : List ℕ) → Did c l (λ v. addClause (runOf r) k) n st cl wt n′ st′ cl′ wt

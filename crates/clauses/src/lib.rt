@@ -11,12 +11,11 @@ ghost use mathlib.Core.Bool.{cond, not, _&&_};
 ghost use Prim.Native.Nat.{_+_, _*_, _<_, _≤_};
 ghost use lib.ListN.{length};
 ghost use Rattle.rules.specs.Clause.{excluded, constrains, forbid, auxOut, auxOwner, lock, anyGate, anyOne};
-ghost use Rattle.rules.specs.Literal.{pos};
 ghost use Rattle.rules.specs.Decisions.{isTrue, isFalse};
 ghost use Rattle.clause.specs.Literals.{literalOf};
 ghost use Rattle.state.specs.Layout.{held, Fits};
 ghost use Rattle.decision_tracker.specs.Tracking.{decisions, Kept};
-ghost use Rattle.clauses.specs.Adding.{reasonFor, pairOf, CanAdd, Stores, Forces, Adds, AddsPair, AddsRequires, AddsGated};
+ghost use Rattle.clauses.specs.Adding.{reasonFor, pairOf, CanAdd, Stores, Forces, Sets, Adds, AddsPair, AddsRequires, AddsGated};
 
 // ---- what the decisions say
 
@@ -203,6 +202,20 @@ pub fn add_requires(s: &[u8], clauses: &mut [u8], l: Limits, n: Counters, r: Run
 
 // ---- clauses that may set a literal
 
+// A row behind the others, which sets a literal true that is undecided.
+fn store_setting(s: &mut [u8], clauses: &mut [u8], l: Limits, n: Counters, r: Run, row: Stored, literal: Literal) -> Counters
+    requires { ⌜ Fits l (length (now s)) ⌝ }
+    requires { ⌜ CanAdd l n (held l (now s)) (length (now clauses)) ⌝ }
+    requires { ⌜ (literalOf literal) .variable < l .variables ⌝ }
+    ensures { λ m. ⌜ Sets l r row literal n (held l (now (s .entry))) (now (clauses .entry)) m (held l (now (s .exit))) (now (clauses .exit)) ⌝ }
+{
+    let m = store(clauses, l, n, row);
+    if m.full {
+        return m;
+    }
+    force(s, l, m, r, literal)
+}
+
 // A gate's own requires: the gate is made false if all candidates are.
 pub fn add_gated(s: &mut [u8], clauses: &mut [u8], l: Limits, n: Counters, r: Run, gate: u16, form: u16, number: u16, all: bool) -> Counters
     requires { ⌜ Fits l (length (now s)) ⌝ }
@@ -220,14 +233,10 @@ pub fn add_gated(s: &mut [u8], clauses: &mut [u8], l: Limits, n: Counters, r: Ru
         number,
         conflict: 0,
     };
-    let m = store(clauses, l, n, row);
-    if m.full {
-        return m;
-    }
     if all {
-        return force(s, l, m, r, Literal::new(gate, false));
+        return store_setting(s, clauses, l, n, r, row, Literal::new(gate, false));
     }
-    m
+    store(clauses, l, n, row)
 }
 
 pub fn add_aux_out(s: &mut [u8], clauses: &mut [u8], l: Limits, n: Counters, r: Run, x: u16, violation: u16) -> Counters
@@ -236,14 +245,11 @@ pub fn add_aux_out(s: &mut [u8], clauses: &mut [u8], l: Limits, n: Counters, r: 
     requires { ⌜ violation < l .variables ⌝ }
     ensures { λ m. ⌜ Adds l r (auxOut x violation) n (held l (now (s .entry))) (now (clauses .entry)) m (held l (now (s .exit))) (now (clauses .exit)) ⌝ }
 {
-    let m = store(clauses, l, n, pair(7, x, violation, 0));
-    if m.full {
-        return m;
+    let row = pair(7, x, violation, 0);
+    if is_true(s, l, n, x) {
+        return store_setting(s, clauses, l, n, r, row, Literal::new(violation, true));
     }
-    if is_true(s, l, m, x) {
-        return force(s, l, m, r, Literal::new(violation, true));
-    }
-    m
+    store(clauses, l, n, row)
 }
 
 // One-of-name y for part x; only a variable of this run is set.
@@ -253,17 +259,14 @@ pub fn add_any_one(s: &mut [u8], clauses: &mut [u8], l: Limits, n: Counters, r: 
     requires { ⌜ y < l .variables ⌝ }
     ensures { λ m. ⌜ Adds l r (anyOne y x) n (held l (now (s .entry))) (now (clauses .entry)) m (held l (now (s .exit))) (now (clauses .exit)) ⌝ }
 {
-    let m = store(clauses, l, n, pair(11, y, x, 0));
-    if m.full {
-        return m;
-    }
-    if is_true(s, l, m, x) {
+    let row = pair(11, y, x, 0);
+    if is_true(s, l, n, x) {
         if r.before <= y as usize {
-            return force(s, l, m, r, Literal::new(y, true));
+            return store_setting(s, clauses, l, n, r, row, Literal::new(y, true));
         }
-        return m;
+        return store(clauses, l, n, row);
     }
-    m
+    store(clauses, l, n, row)
 }
 
 // A row whose two literals are a and b sets the one that is undecided where the other is false, and is a conflict where both are.
@@ -273,32 +276,22 @@ fn add_pair(s: &mut [u8], clauses: &mut [u8], l: Limits, n: Counters, r: Run, ki
     requires { ⌜ (0 < r .number) × ((literalOf a) .variable < l .variables) × ((literalOf b) .variable < l .variables) ⌝ }
     ensures { λ m. ⌜ AddsPair l r kind first second a b n (held l (now (s .entry))) (now (clauses .entry)) m (held l (now (s .exit))) (now (clauses .exit)) ⌝ }
 {
+    let row = pair(kind, first, second, 0);
+    let other = decision_tracker::eval(s, l, n.decisions, b);
     match decision_tracker::eval(s, l, n.decisions, a) {
-        Value::True => store(clauses, l, n, pair(kind, first, second, 0)),
+        Value::True => store(clauses, l, n, row),
         Value::False => {
-            match decision_tracker::eval(s, l, n.decisions, b) {
-                Value::True => store(clauses, l, n, pair(kind, first, second, 0)),
+            match other {
+                Value::True => store(clauses, l, n, row),
                 Value::False => store(clauses, l, n, pair(kind, first, second, r.number)),
-                Value::Undecided => {
-                    let m = store(clauses, l, n, pair(kind, first, second, 0));
-                    if m.full {
-                        return m;
-                    }
-                    force(s, l, m, r, b)
-                }
+                Value::Undecided => store_setting(s, clauses, l, n, r, row, b),
             }
         }
         Value::Undecided => {
-            match decision_tracker::eval(s, l, n.decisions, b) {
-                Value::True => store(clauses, l, n, pair(kind, first, second, 0)),
-                Value::Undecided => store(clauses, l, n, pair(kind, first, second, 0)),
-                Value::False => {
-                    let m = store(clauses, l, n, pair(kind, first, second, 0));
-                    if m.full {
-                        return m;
-                    }
-                    force(s, l, m, r, a)
-                }
+            match other {
+                Value::True => store(clauses, l, n, row),
+                Value::Undecided => store(clauses, l, n, row),
+                Value::False => store_setting(s, clauses, l, n, r, row, a),
             }
         }
     }

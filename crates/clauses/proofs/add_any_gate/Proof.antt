@@ -6,29 +6,29 @@ use Rattle.clauses.proofs.add_any_gate.Lts as lts
 use Rattle.clause.proofs.Literal.new.Reads as new-reads
 use Rattle.clauses.proofs.add_pair.Reads as add-pair-reads
 
--- src/lib.rt:323:52
+-- src/lib.rt:316:52
 new-requires : tie.Need-new-requires
 new-requires c κs = search needs
 
--- src/lib.rt:323:78
+-- src/lib.rt:316:78
 new-requires-2 : tie.Need-new-requires-2
 new-requires-2 c κs = search needs
 
--- src/lib.rt:323:5
+-- src/lib.rt:316:5
 add-pair-requires : tie.Need-add-pair-requires
-add-pair-requires c κs = search needs
+add-pair-requires c κs = ?
 
--- src/lib.rt:317:1
+-- src/lib.rt:310:1
 same-length : tie.Need-same-length
 same-length c = search needs
 
--- src/lib.rt:317:1
+-- src/lib.rt:310:1
 same-length-2 : tie.Need-same-length-2
 same-length-2 c = search needs
 
--- src/lib.rt:317:1
+-- src/lib.rt:310:1
 returns : tie.Need-returns
-returns c = search needs
+returns c = ?
 
 pub add-any-gate-spec : {M : Type 1} → statement M
 add-any-gate-spec =

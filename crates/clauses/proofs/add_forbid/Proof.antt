@@ -6,25 +6,25 @@ use Rattle.clauses.proofs.add_forbid.Lts as lts
 use Rattle.clause.proofs.Literal.new.Reads as new-reads
 use Rattle.clauses.proofs.add_pair.Reads as add-pair-reads
 
--- src/lib.rt:314:54
+-- src/lib.rt:307:54
 new-requires : tie.Need-new-requires
 new-requires c κs = search needs
 
--- src/lib.rt:314:5
+-- src/lib.rt:307:5
 add-pair-requires : tie.Need-add-pair-requires
-add-pair-requires c κs = search needs
+add-pair-requires c κs = ?
 
--- src/lib.rt:308:1
+-- src/lib.rt:301:1
 same-length : tie.Need-same-length
 same-length c = search needs
 
--- src/lib.rt:308:1
+-- src/lib.rt:301:1
 same-length-2 : tie.Need-same-length-2
 same-length-2 c = search needs
 
--- src/lib.rt:308:1
+-- src/lib.rt:301:1
 returns : tie.Need-returns
-returns c = search needs
+returns c = ?
 
 pub add-forbid-spec : {M : Type 1} → statement M
 add-forbid-spec =

@@ -3,269 +3,205 @@ use Rattle.clauses.proofs.add_pair.Statement.{statement}
 use Rattle.clauses.proofs.add_pair.Tie as tie
 use Rattle.clauses.proofs.add_pair.Reads as reads
 use Rattle.clauses.proofs.add_pair.Lts as lts
-use Rattle.clauses.proofs.force.Reads as force-reads
 use Rattle.clauses.proofs.pair.Reads as pair-reads
 use Rattle.clauses.proofs.store.Reads as store-reads
+use Rattle.clauses.proofs.store_setting.Reads as store-setting-reads
 use Rattle.decision_tracker.proofs.eval.Reads as eval-reads
 
--- src/lib.rt:276:11
-eval-requires : tie.Need-eval-requires
-eval-requires c κs = search needs
-
--- src/lib.rt:277:30
-enum-told : tie.Need-enum-told
-enum-told c = search needs
-
--- src/lib.rt:277:45
+-- src/lib.rt:279:9
 pair-requires : tie.Need-pair-requires
 pair-requires c κs = search needs
 
--- src/lib.rt:277:24
-store-requires : tie.Need-store-requires
-store-requires c κs = search needs
+-- src/lib.rt:280:9
+eval-requires : tie.Need-eval-requires
+eval-requires c κs = search needs
 
--- src/lib.rt:279:42
-enum-told-2 : tie.Need-enum-told-2
-enum-told-2 c = search needs
-
--- src/lib.rt:279:19
+-- src/lib.rt:281:11
 eval-requires-2 : tie.Need-eval-requires-2
 eval-requires-2 c κs = search needs
 
--- src/lib.rt:280:38
+-- src/lib.rt:282:30
+enum-told : tie.Need-enum-told
+enum-told c = search needs
+
+-- src/lib.rt:282:24
+store-requires : tie.Need-store-requires
+store-requires c κs = search needs
+
+-- src/lib.rt:284:13
+enum-told-2 : tie.Need-enum-told-2
+enum-told-2 c = search needs
+
+-- src/lib.rt:285:38
 enum-told-3 : tie.Need-enum-told-3
 enum-told-3 c = search needs
 
--- src/lib.rt:280:53
-pair-requires-2 : tie.Need-pair-requires-2
-pair-requires-2 c κs = search needs
-
--- src/lib.rt:280:32
+-- src/lib.rt:285:32
 store-requires-2 : tie.Need-store-requires-2
 store-requires-2 c κs = search needs
 
--- src/lib.rt:281:39
+-- src/lib.rt:286:39
 enum-told-4 : tie.Need-enum-told-4
 enum-told-4 c = search needs
 
--- src/lib.rt:281:54
-pair-requires-3 : tie.Need-pair-requires-3
-pair-requires-3 c κs = search needs
+-- src/lib.rt:286:54
+pair-requires-2 : tie.Need-pair-requires-2
+pair-requires-2 c κs = search needs
 
--- src/lib.rt:281:33
+-- src/lib.rt:286:33
 store-requires-3 : tie.Need-store-requires-3
-store-requires-3 c κs = search needs
+store-requires-3 c κs = ?
 
--- src/lib.rt:283:35
+-- src/lib.rt:287:51
 enum-told-5 : tie.Need-enum-told-5
 enum-told-5 c = search needs
 
--- src/lib.rt:283:50
-pair-requires-4 : tie.Need-pair-requires-4
-pair-requires-4 c κs = search needs
+-- src/lib.rt:287:37
+store-setting-requires : tie.Need-store-setting-requires
+store-setting-requires c κs = search needs
 
--- src/lib.rt:283:25
-store-requires-4 : tie.Need-store-requires-4
-store-requires-4 c κs = search needs
-
--- src/lib.rt:285:25
-same-length : tie.Need-same-length
-same-length c = search needs
-
--- src/lib.rt:285:25
-same-length-2 : tie.Need-same-length-2
-same-length-2 c = search needs
-
--- src/lib.rt:285:25
-returns : tie.Need-returns
-returns c = search needs
-
--- src/lib.rt:287:21
-force-requires : tie.Need-force-requires
-force-requires c κs = search needs
-
--- src/lib.rt:292:42
+-- src/lib.rt:291:13
 enum-told-6 : tie.Need-enum-told-6
 enum-told-6 c = search needs
 
--- src/lib.rt:292:19
-eval-requires-3 : tie.Need-eval-requires-3
-eval-requires-3 c κs = search needs
-
--- src/lib.rt:293:38
+-- src/lib.rt:292:38
 enum-told-7 : tie.Need-enum-told-7
 enum-told-7 c = search needs
 
--- src/lib.rt:293:53
-pair-requires-5 : tie.Need-pair-requires-5
-pair-requires-5 c κs = search needs
+-- src/lib.rt:292:32
+store-requires-4 : tie.Need-store-requires-4
+store-requires-4 c κs = search needs
 
--- src/lib.rt:293:32
-store-requires-5 : tie.Need-store-requires-5
-store-requires-5 c κs = search needs
-
--- src/lib.rt:294:43
+-- src/lib.rt:293:43
 enum-told-8 : tie.Need-enum-told-8
 enum-told-8 c = search needs
 
--- src/lib.rt:294:58
-pair-requires-6 : tie.Need-pair-requires-6
-pair-requires-6 c κs = search needs
+-- src/lib.rt:293:37
+store-requires-5 : tie.Need-store-requires-5
+store-requires-5 c κs = search needs
 
--- src/lib.rt:294:37
-store-requires-6 : tie.Need-store-requires-6
-store-requires-6 c κs = search needs
-
--- src/lib.rt:296:35
+-- src/lib.rt:294:47
 enum-told-9 : tie.Need-enum-told-9
 enum-told-9 c = search needs
 
--- src/lib.rt:296:50
-pair-requires-7 : tie.Need-pair-requires-7
-pair-requires-7 c κs = search needs
+-- src/lib.rt:294:33
+store-setting-requires-2 : tie.Need-store-setting-requires-2
+store-setting-requires-2 c κs = search needs
 
--- src/lib.rt:296:25
-store-requires-7 : tie.Need-store-requires-7
-store-requires-7 c κs = search needs
+-- src/lib.rt:273:1
+same-length : tie.Need-same-length
+same-length c = search needs
 
--- src/lib.rt:298:25
+-- src/lib.rt:273:1
+same-length-2 : tie.Need-same-length-2
+same-length-2 c = search needs
+
+-- src/lib.rt:273:1
+returns : tie.Need-returns
+returns c = ?
+
+-- src/lib.rt:273:1
 same-length-3 : tie.Need-same-length-3
 same-length-3 c = search needs
 
--- src/lib.rt:298:25
+-- src/lib.rt:273:1
 same-length-4 : tie.Need-same-length-4
 same-length-4 c = search needs
 
--- src/lib.rt:298:25
+-- src/lib.rt:273:1
 returns-2 : tie.Need-returns-2
-returns-2 c = search needs
+returns-2 c = ?
 
--- src/lib.rt:300:21
-force-requires-2 : tie.Need-force-requires-2
-force-requires-2 c κs = search needs
-
--- src/lib.rt:270:1
+-- src/lib.rt:273:1
 same-length-5 : tie.Need-same-length-5
 same-length-5 c = search needs
 
--- src/lib.rt:270:1
+-- src/lib.rt:273:1
 same-length-6 : tie.Need-same-length-6
 same-length-6 c = search needs
 
--- src/lib.rt:270:1
+-- src/lib.rt:273:1
 returns-3 : tie.Need-returns-3
-returns-3 c = search needs
+returns-3 c = ?
 
--- src/lib.rt:270:1
+-- src/lib.rt:273:1
 same-length-7 : tie.Need-same-length-7
 same-length-7 c = search needs
 
--- src/lib.rt:270:1
+-- src/lib.rt:273:1
 same-length-8 : tie.Need-same-length-8
 same-length-8 c = search needs
 
--- src/lib.rt:270:1
+-- src/lib.rt:273:1
 returns-4 : tie.Need-returns-4
-returns-4 c = search needs
+returns-4 c = ?
 
--- src/lib.rt:270:1
+-- src/lib.rt:273:1
 same-length-9 : tie.Need-same-length-9
 same-length-9 c = search needs
 
--- src/lib.rt:270:1
+-- src/lib.rt:273:1
 same-length-10 : tie.Need-same-length-10
 same-length-10 c = search needs
 
--- src/lib.rt:270:1
+-- src/lib.rt:273:1
 returns-5 : tie.Need-returns-5
-returns-5 c = search needs
+returns-5 c = ?
 
--- src/lib.rt:270:1
+-- src/lib.rt:273:1
 same-length-11 : tie.Need-same-length-11
 same-length-11 c = search needs
 
--- src/lib.rt:270:1
+-- src/lib.rt:273:1
 same-length-12 : tie.Need-same-length-12
 same-length-12 c = search needs
 
--- src/lib.rt:270:1
+-- src/lib.rt:273:1
 returns-6 : tie.Need-returns-6
-returns-6 c = search needs
+returns-6 c = ?
 
--- src/lib.rt:270:1
+-- src/lib.rt:273:1
 same-length-13 : tie.Need-same-length-13
 same-length-13 c = search needs
 
--- src/lib.rt:270:1
+-- src/lib.rt:273:1
 same-length-14 : tie.Need-same-length-14
 same-length-14 c = search needs
 
--- src/lib.rt:270:1
+-- src/lib.rt:273:1
 returns-7 : tie.Need-returns-7
-returns-7 c = search needs
-
--- src/lib.rt:270:1
-same-length-15 : tie.Need-same-length-15
-same-length-15 c = search needs
-
--- src/lib.rt:270:1
-same-length-16 : tie.Need-same-length-16
-same-length-16 c = search needs
-
--- src/lib.rt:270:1
-returns-8 : tie.Need-returns-8
-returns-8 c = search needs
-
--- src/lib.rt:270:1
-same-length-17 : tie.Need-same-length-17
-same-length-17 c = search needs
-
--- src/lib.rt:270:1
-same-length-18 : tie.Need-same-length-18
-same-length-18 c = search needs
-
--- src/lib.rt:270:1
-returns-9 : tie.Need-returns-9
-returns-9 c = search needs
+returns-7 c = ?
 
 pub add-pair-spec : {M : Type 1} → statement M
 add-pair-spec =
     tie.close
     (tie.spec
-    eval-requires
-    enum-told
     pair-requires
+    eval-requires
+    eval-requires-2
+    enum-told
     store-requires
     enum-told-2
-    eval-requires-2
     enum-told-3
-    pair-requires-2
     store-requires-2
     enum-told-4
-    pair-requires-3
+    pair-requires-2
     store-requires-3
     enum-told-5
-    pair-requires-4
+    store-setting-requires
+    enum-told-6
+    enum-told-7
     store-requires-4
+    enum-told-8
+    store-requires-5
+    enum-told-9
+    store-setting-requires-2
     same-length
     same-length-2
     returns
-    force-requires
-    enum-told-6
-    eval-requires-3
-    enum-told-7
-    pair-requires-5
-    store-requires-5
-    enum-told-8
-    pair-requires-6
-    store-requires-6
-    enum-told-9
-    pair-requires-7
-    store-requires-7
     same-length-3
     same-length-4
     returns-2
-    force-requires-2
     same-length-5
     same-length-6
     returns-3
@@ -280,10 +216,4 @@ add-pair-spec =
     returns-6
     same-length-13
     same-length-14
-    returns-7
-    same-length-15
-    same-length-16
-    returns-8
-    same-length-17
-    same-length-18
-    returns-9)
+    returns-7)

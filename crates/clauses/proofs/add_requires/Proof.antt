@@ -8,49 +8,49 @@ use Rattle.clauses.proofs.run_unless.Reads as run-unless-reads
 use Rattle.clauses.proofs.store.Reads as store-reads
 use Rattle.encoder.proofs.filled.Reads as filled-reads
 
--- src/lib.rt:185:9
+-- src/lib.rt:184:9
 returns : tie.Need-returns
-returns c = search needs
+returns c = ?
 
--- src/lib.rt:187:21
+-- src/lib.rt:186:21
 add-if2 : tie.Need-add-if2
 add-if2 c = search needs
 
--- src/lib.rt:188:9
+-- src/lib.rt:187:9
 filled-requires : tie.Need-filled-requires
 filled-requires c κs = search needs
 
--- src/lib.rt:188:9
+-- src/lib.rt:187:9
 returns-2 : tie.Need-returns-2
-returns-2 c = search needs
+returns-2 c = ?
 
--- src/lib.rt:190:9
+-- src/lib.rt:189:9
 is-false-requires : tie.Need-is-false-requires
 is-false-requires c κs = search needs
 
--- src/lib.rt:195:16
+-- src/lib.rt:194:16
 cast-t15 : tie.Need-cast-t15
 cast-t15 c = search needs
 
--- src/lib.rt:196:16
+-- src/lib.rt:195:16
 cast-t16 : tie.Need-cast-t16
 cast-t16 c = search needs
 
--- src/lib.rt:199:19
+-- src/lib.rt:198:19
 run-unless-requires : tie.Need-run-unless-requires
 run-unless-requires c κs = search needs
 
--- src/lib.rt:201:5
+-- src/lib.rt:200:5
 store-requires : tie.Need-store-requires
 store-requires c κs = search needs
 
--- src/lib.rt:178:1
+-- src/lib.rt:177:1
 same-length : tie.Need-same-length
 same-length c = search needs
 
--- src/lib.rt:178:1
+-- src/lib.rt:177:1
 returns-3 : tie.Need-returns-3
-returns-3 c = search needs
+returns-3 c = ?
 
 pub add-requires-spec : {M : Type 1} → statement M
 add-requires-spec =

@@ -5,33 +5,33 @@ use Rattle.clauses.proofs.is_false.Reads as reads
 use Rattle.clauses.proofs.is_false.Lts as lts
 use Rattle.decision_tracker.proofs.value.Reads as value-reads
 
--- src/lib.rt:40:11
+-- src/lib.rt:39:11
 value-requires : tie.Need-value-requires
 value-requires c κs = search needs
 
--- src/lib.rt:41:29
+-- src/lib.rt:40:29
 enum-told : tie.Need-enum-told
 enum-told c = search needs
 
--- src/lib.rt:42:25
+-- src/lib.rt:41:25
 enum-told-2 : tie.Need-enum-told-2
 enum-told-2 c = search needs
 
--- src/lib.rt:43:24
+-- src/lib.rt:42:24
 enum-told-3 : tie.Need-enum-told-3
 enum-told-3 c = search needs
 
--- src/lib.rt:35:1
+-- src/lib.rt:34:1
 returns : tie.Need-returns
-returns c = search needs
+returns c = ?
 
--- src/lib.rt:35:1
+-- src/lib.rt:34:1
 returns-2 : tie.Need-returns-2
-returns-2 c = search needs
+returns-2 c = ?
 
--- src/lib.rt:35:1
+-- src/lib.rt:34:1
 returns-3 : tie.Need-returns-3
-returns-3 c = search needs
+returns-3 c = ?
 
 pub is-false-spec : {M : Type 1} → statement M
 is-false-spec =

@@ -5,33 +5,33 @@ use Rattle.clauses.proofs.is_true.Reads as reads
 use Rattle.clauses.proofs.is_true.Lts as lts
 use Rattle.decision_tracker.proofs.value.Reads as value-reads
 
--- src/lib.rt:28:11
+-- src/lib.rt:27:11
 value-requires : tie.Need-value-requires
 value-requires c κs = search needs
 
--- src/lib.rt:29:29
+-- src/lib.rt:28:29
 enum-told : tie.Need-enum-told
 enum-told c = search needs
 
--- src/lib.rt:30:25
+-- src/lib.rt:29:25
 enum-told-2 : tie.Need-enum-told-2
 enum-told-2 c = search needs
 
--- src/lib.rt:31:24
+-- src/lib.rt:30:24
 enum-told-3 : tie.Need-enum-told-3
 enum-told-3 c = search needs
 
--- src/lib.rt:23:1
+-- src/lib.rt:22:1
 returns : tie.Need-returns
-returns c = search needs
+returns c = ?
 
--- src/lib.rt:23:1
+-- src/lib.rt:22:1
 returns-2 : tie.Need-returns-2
-returns-2 c = search needs
+returns-2 c = ?
 
--- src/lib.rt:23:1
+-- src/lib.rt:22:1
 returns-3 : tie.Need-returns-3
-returns-3 c = search needs
+returns-3 c = ?
 
 pub is-true-spec : {M : Type 1} → statement M
 is-true-spec =

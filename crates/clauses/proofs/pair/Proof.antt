@@ -4,9 +4,9 @@ use Rattle.clauses.proofs.pair.Tie as tie
 use Rattle.clauses.proofs.pair.Reads as reads
 use Rattle.clauses.proofs.pair.Lts as lts
 
--- src/lib.rt:115:1
+-- src/lib.rt:114:1
 returns : tie.Need-returns
-returns c = search needs
+returns c = ?
 
 pub pair-spec : {M : Type 1} → statement M
 pair-spec = tie.close (tie.spec returns)

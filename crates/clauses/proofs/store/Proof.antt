@@ -6,37 +6,37 @@ use Rattle.clauses.proofs.store.Lts as lts
 use Rattle.encoder.proofs.filled.Reads as filled-reads
 use Rattle.solver.proofs.append.Reads as append-reads
 
--- src/lib.rt:75:9
+-- src/lib.rt:74:9
 returns : tie.Need-returns
-returns c = search needs
+returns c = ?
 
--- src/lib.rt:78:13
+-- src/lib.rt:77:13
 append-requires : tie.Need-append-requires
 append-requires c κs = search needs
 
--- src/lib.rt:81:35
+-- src/lib.rt:80:35
 cast-m : tie.Need-cast-m
 cast-m c = search needs
 
--- src/lib.rt:81:22
+-- src/lib.rt:80:22
 add-m : tie.Need-add-m
 add-m c = search needs
 
--- src/lib.rt:82:9
+-- src/lib.rt:81:9
 same-length : tie.Need-same-length
 same-length c = search needs
 
--- src/lib.rt:82:9
+-- src/lib.rt:81:9
 returns-2 : tie.Need-returns-2
-returns-2 c = search needs
+returns-2 c = ?
 
--- src/lib.rt:84:5
+-- src/lib.rt:83:5
 filled-requires : tie.Need-filled-requires
 filled-requires c κs = search needs
 
--- src/lib.rt:70:1
+-- src/lib.rt:69:1
 returns-3 : tie.Need-returns-3
-returns-3 c = search needs
+returns-3 c = ?
 
 pub store-spec : {M : Type 1} → statement M
 store-spec =

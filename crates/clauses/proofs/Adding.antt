@@ -1,0 +1,1 @@
+-- Clauses are added.
