@@ -20,8 +20,8 @@ use Rattle.clause.specs.Literals.{literalOf}
 use Rattle.state.specs.declared.Limits.{Limits}
 use Rattle.variable_map.proofs.Laws.{variables-kept}
 use Rattle.decision_tracker.specs.declared.Decision as tracker
-use Rattle.decision_tracker.specs.Tracking.{clauseBy, decisionBy, decisionOf, decisions, seen, saysUndecided, Told}
-use Rattle.decision_tracker.proofs.Laws.{clause-some}
+use Rattle.decision_tracker.specs.Tracking.{clauseBy, decisionBy, decisionOf, decisions, seen, saysUndecided, Kept, Free, Told}
+use Rattle.decision_tracker.proofs.Laws.{clause-some, literal-free}
 use Rattle.decision_tracker.proofs.Values.{undecided-seen, falsified-seen, satisfied-seen, reads-undecided}
 use Rattle.marked.proofs.Laws.{listed-same}
 use Rattle.line.proofs.Line.{queued-same}
@@ -89,6 +89,10 @@ deciding x n =
       runs = n .runs;
       full = n .full;
     }
+
+pub force-free : {l : Limits} {d y : ℕ} {st : ℕ → List ℕ} {v : Value} (x : code.Literal) → Kept l d st → y ≡ (literalOf x) .variable
+    → (literalOf x) .variable < l .variables → v ≡ seen (evaluate (decisions d st) (literalOf x)) → v ≡ values.Undecided → Free l d y st
+force-free x k e h f q = literal-free (literalOf x) k e (rw e h) f q
 
 abbrev pub newDecision : (x : ℕ) (b : Bool) (level clause : ℕ) → tracker.Decision
 newDecision x b level clause = record { variable = x; value = b; level = level; clause = clause }

@@ -1,4 +1,5 @@
 use borrow.Author.Needs.{needs}
+use Rattle.clauses.specs.Adding.{pairOf}
 use Rattle.clauses.proofs.pair.Statement.{statement}
 use Rattle.clauses.proofs.pair.Tie as tie
 use Rattle.clauses.proofs.pair.Reads as reads
@@ -6,7 +7,8 @@ use Rattle.clauses.proofs.pair.Lts as lts
 
 -- src/lib.rt:114:1
 returns : tie.Need-returns
-returns c = ?
+unfolding pairOf
+returns c = search needs
 
 pub pair-spec : {M : Type 1} → statement M
 pair-spec = tie.close (tie.spec returns)
