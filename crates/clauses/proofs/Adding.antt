@@ -1,4 +1,4 @@
--- A clause is added: stored and heeded. A law for each way out of each function.
+-- A clause is added: stored, and heeded by what it does when it is made.
 use mathlib.Core.Path.{_≡_, refl, sym, _∙_, ap}
 use mathlib.Core.Bool.{Bool, true, false, cond, not, _&&_, true≢false}
 use mathlib.Core.List.{List, [], _∷_, _++_, map, append-nil}
@@ -21,7 +21,7 @@ use Rattle.clause.specs.declared.Literal as code
 use Rattle.clause.specs.Literals.{literalOf, signed}
 use Rattle.state.specs.declared.Limits.{Limits}
 use Rattle.variable_map.specs.Mapping.{variables}
-use Rattle.decision_tracker.specs.Tracking.{decisions, Kept}
+use Rattle.decision_tracker.specs.Tracking.{decisions}
 use Rattle.solver.specs.declared.Stored.{Stored}
 use Rattle.solver.specs.Rows.{rowOf}
 use Rattle.encoder.specs.declared.Counters.{Counters}
@@ -31,7 +31,7 @@ use Rattle.encoder.specs.Did.{roomOf, Widens, Did}
 use Rattle.encoder.proofs.Frames.{clauses-counted}
 use Rattle.encoder.proofs.Did.{widens-then, stays-beyond, did-as, did-then}
 use Rattle.encoder.proofs.Widening.{addClause-widens}
-use Rattle.clauses.specs.Adding.{withClause, pairOf, reasonFor, CanAdd, Fitting, Stores, Forces, Sets, Adds, IsPair, AddsPair}
+use Rattle.clauses.specs.Adding.{withClause, pairOf, reasonFor, CanAdd, Fitting, Stores, CanForce, Forces, Sets, Adds, IsPair, AddsPair}
 use Rattle.clauses.proofs.Storing.{withClause-widens}
 use Rattle.clauses.proofs.Setting.{force-widens}
 
@@ -74,22 +74,19 @@ module _ {l : Limits} {r : encoder.Run} {row : Stored} {x : code.Literal} {n m :
             (λ _ _ v. let e : m .clauses - 1 ≡ length ((stateOf c l v n st cl wt) .clauses) = omega (arith, g .count f, count-before c l v n st cl wt) in rw e);
       }
 
--- what `force` asks for
-module _ {l : Limits} {row : Stored} {n m : Counters} {cl cl′ : List ℕ} (g : Stores l row n cl m cl′) where
-  pub setting-kept : {st : ℕ → List ℕ} {k : ℕ} → CanAdd l n st k → Kept l (m .decisions) st
-  setting-kept h = rw (g .decisions) (h .kept)
-
-  pub setting-some : m .full ≡ false → 0 < m .clauses
-  setting-some f = omega (arith, g .count f)
+pub setting-can : {l : Limits} {row : Stored} {x : code.Literal} {n m : Counters} {st : ℕ → List ℕ} {cl cl′ : List ℕ} {k : ℕ}
+    → CanAdd l n st k → Stores l row n cl m cl′ → m .full ≡ false → (literalOf x) .variable < l .variables → CanForce l m st x
+setting-can h g f v =
+    record { kept = rw (g .decisions) (h .kept); some = omega (arith, g .count f); few = omega (arith, g .room, h .most); exists = v }
 
 -- ---- clauses by what they do when they are made
 
 -- with these decisions clause k does f
-abbrev Does : Run → Clause → List Decision → (ℕ → State → State) → Type 0
+abbrev pub Does : Run → Clause → List Decision → (ℕ → State → State) → Type 0
 Does r k ds f = (i : ℕ) (u : State) → u .decisions ≡ ds → effect r i k u ≡ f i u
 
 -- it reports, if b
-abbrev Reports : Run → Clause → List Decision → Bool → Type 0
+abbrev pub Reports : Run → Clause → List Decision → Bool → Type 0
 Reports r k ds b = Does r k ds (λ i u. when b (report r i) u)
 
 module _ (r : Run) (k : Clause) (s : State) where
@@ -118,14 +115,14 @@ module _ (r : Run) (k : Clause) (s : State) where
 -- a row that is clause K of the variables
 module _ {c : Catalogue} {l : Limits} (r : encoder.Run) {row : Stored} (K : List Origin → Clause) {n m : Counters} {st : ℕ → List ℕ} {cl cl′ wt : List ℕ}
     (p : Fitting c l n st row) (is : (vs : List Origin) → clauseIn c vs (st 19) (rowOf row) ≡ K vs) where
-  row-reports : (b : Bool) → (b ≡ true → 0 < r .number) → row .conflict ≡ cond b (r .number) 0
+  pub row-reports : (b : Bool) → (b ≡ true → 0 < r .number) → row .conflict ≡ cond b (r .number) 0
       → Reports (runOf r) (K (variables (n .variables) st)) (decisions (n .decisions) st) b → Stores l row n cl m cl′
       → Did c l (λ v s. addClause (runOf r) (K (s .variables)) s) n st cl wt m st cl′ wt
   row-reports b h e d g =
       did-as (g .is c st wt p) (λ v s. addClause-widens _ _ s)
       (λ _ _ v. rw (is, e) (unfold runOf stateOf in stored-reports (runOf r) (K (variables (n .variables) st)) (stateOf c l v n st cl wt) b h d))
 
-  row-sets : {x : code.Literal} {st′ : ℕ → List ℕ} → row .conflict ≡ 0
+  pub row-sets : {x : code.Literal} {st′ : ℕ → List ℕ} → row .conflict ≡ 0
       → Does (runOf r) (K (variables (n .variables) st)) (decisions (n .decisions) st) (λ i. force (runOf r) i (literalOf x)) → Sets l r row x n st cl m st′ cl′
       → Did c l (λ v s. addClause (runOf r) (K (s .variables)) s) n st cl wt m st′ cl′ wt
   row-sets {x} e d g =

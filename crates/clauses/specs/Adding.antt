@@ -56,6 +56,13 @@ pub record Stores (l : Limits) (row : Stored) (n : Counters) (cl : List ℕ) (n�
   pub is : (c : Catalogue) (st : ℕ → List ℕ) (wt : List ℕ) → Fitting c l n st row
       → Did c l (λ v s. withClause (clauseIn c (s .variables) (st 19) (rowOf row)) (row .conflict) s) n st cl wt n′ st cl′ wt
 
+-- what is used when the last clause sets a literal
+pub record CanForce (l : Limits) (n : Counters) (st : ℕ → List ℕ) (x : code.Literal) : Type 0 where
+  pub kept : Kept l (n .decisions) st
+  pub some : 0 < n .clauses
+  pub few : n .clauses ≤ 16384
+  pub exists : (literalOf x) .variable < l .variables
+
 -- the last clause sets a literal
 pub record Forces (l : Limits) (r : Run) (x : code.Literal) (n : Counters) (st : ℕ → List ℕ) (n′ : Counters) (st′ : ℕ → List ℕ) : Type 0 where
   pub is : (c : Catalogue) (cl wt : List ℕ) → Did c l (λ v. force (runOf r) (n .clauses - 1) (literalOf x)) n st cl wt n′ st′ cl wt

@@ -15,7 +15,7 @@ ghost use Rattle.rules.specs.Decisions.{isTrue, isFalse};
 ghost use Rattle.clause.specs.Literals.{literalOf};
 ghost use Rattle.state.specs.Layout.{held, Fits};
 ghost use Rattle.decision_tracker.specs.Tracking.{decisions, Kept};
-ghost use Rattle.clauses.specs.Adding.{reasonFor, pairOf, CanAdd, Stores, Forces, Sets, Adds, AddsPair, AddsRequires, AddsGated};
+ghost use Rattle.clauses.specs.Adding.{reasonFor, pairOf, CanAdd, Stores, CanForce, Forces, Sets, Adds, AddsPair, AddsRequires, AddsGated};
 
 // ---- what the decisions say
 
@@ -86,8 +86,7 @@ fn store(clauses: &mut [u8], l: Limits, n: Counters, row: Stored) -> Counters
 // The last clause sets a literal true that is undecided.
 fn force(s: &mut [u8], l: Limits, n: Counters, r: Run, literal: Literal) -> Counters
     requires { ⌜ Fits l (length (now s)) ⌝ }
-    requires { ⌜ Kept l (n .decisions) (held l (now s)) ⌝ }
-    requires { ⌜ (0 < n .clauses) × (n .clauses ≤ 16384) × ((literalOf literal) .variable < l .variables) ⌝ }
+    requires { ⌜ CanForce l n (held l (now s)) literal ⌝ }
     ensures { λ m. ⌜ Forces l r literal n (held l (now (s .entry))) m (held l (now (s .exit))) ⌝ }
 {
     match decision_tracker::eval(s, l, n.decisions, literal) {

@@ -1,41 +1,28 @@
 use borrow.Author.Needs.{needs}
+use Rattle.clauses.proofs.Added.{constrains-added}
 use Rattle.clauses.proofs.add_constrains.Statement.{statement}
 use Rattle.clauses.proofs.add_constrains.Tie as tie
-use Rattle.clauses.proofs.add_constrains.Reads as reads
-use Rattle.clauses.proofs.add_constrains.Lts as lts
-use Rattle.clauses.proofs.is_false.Reads as is-false-reads
-use Rattle.clauses.proofs.is_true.Reads as is-true-reads
-use Rattle.clauses.proofs.pair.Reads as pair-reads
-use Rattle.clauses.proofs.run_unless.Reads as run-unless-reads
-use Rattle.clauses.proofs.store.Reads as store-reads
 
--- src/lib.rt:152:9
 is-true-requires : tie.Need-is-true-requires
 is-true-requires c κs = search needs
 
--- src/lib.rt:153:9
 is-false-requires : tie.Need-is-false-requires
 is-false-requires c κs = search needs
 
--- src/lib.rt:154:44
 run-unless-requires : tie.Need-run-unless-requires
 run-unless-requires c κs = search needs
 
--- src/lib.rt:154:26
 pair-requires : tie.Need-pair-requires
 pair-requires c κs = search needs
 
--- src/lib.rt:154:5
 store-requires : tie.Need-store-requires
 store-requires c κs = search needs
 
--- src/lib.rt:146:1
 same-length : tie.Need-same-length
 same-length c = search needs
 
--- src/lib.rt:146:1
 returns : tie.Need-returns
-returns c = ?
+returns c = search (needs, constrains-added)
 
 pub add-constrains-spec : {M : Type 1} → statement M
 add-constrains-spec =
