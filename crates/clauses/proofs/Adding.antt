@@ -122,9 +122,9 @@ module _ {c : Catalogue} {l : Limits} (r : encoder.Run) {row : Stored} (K : List
       did-as (g .is c st wt p) (λ v s. addClause-widens _ _ s)
       (λ _ _ v. rw (is, e) (unfold runOf stateOf in stored-reports (runOf r) (K (variables (n .variables) st)) (stateOf c l v n st cl wt) b h d))
 
-  pub row-sets : {x : code.Literal} {st′ : ℕ → List ℕ} → row .conflict ≡ 0
+  pub row-sets : (x : code.Literal) {st′ : ℕ → List ℕ} → row .conflict ≡ 0
       → Does (runOf r) (K (variables (n .variables) st)) (decisions (n .decisions) st) (λ i. force (runOf r) i (literalOf x)) → Sets l r row x n st cl m st′ cl′
       → Did c l (λ v s. addClause (runOf r) (K (s .variables)) s) n st cl wt m st′ cl′ wt
-  row-sets {x} e d g =
+  row-sets x e d g =
       did-as (g .is c wt p) (λ v s. addClause-widens _ _ s)
       (λ _ _ v. rw (is, e) (unfold stateOf in stored-sets (runOf r) (K (variables (n .variables) st)) (stateOf c l v n st cl wt) (literalOf x) d))

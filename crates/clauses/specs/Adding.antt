@@ -11,21 +11,25 @@ use Rattle.rules.specs.Catalogue.{Catalogue}
 use Rattle.rules.specs.Candidates.{candidates}
 use Rattle.rules.specs.Items.{goalOf}
 use Rattle.rules.specs.Variables.{Origin, known, partOrigin}
-use Rattle.rules.specs.Decisions.{allFalse}
+use Rattle.rules.specs.Decisions.{Decision, evaluate, allFalse}
 use Rattle.rules.specs.State.{State, setClauses, setConflicts, force, propagate, effect}
 use Rattle.rules.proofs.Each.{Each}
 use Rattle.rules.proofs.ClauseByClause.{addClause}
 use Rattle.clause.specs.Literals.{literalOf}
 use Rattle.clause.specs.declared.Literal as code
+use Rattle.clause.specs.declared.Value.{Value}
+use Rattle.clause.specs.declared.Value.the-variants as values
 use Rattle.state.specs.declared.Limits.{Limits}
 use Rattle.variable_map.specs.Mapping.{variables}
-use Rattle.decision_tracker.specs.Tracking.{decisions, Kept}
+use Rattle.decision_tracker.specs.Tracking.{decisions, seen, Kept}
 use Rattle.solver.specs.declared.Stored.{Stored}
 use Rattle.solver.specs.Rows.{rowOf}
 use Rattle.encoder.specs.declared.Counters.{Counters}
 use Rattle.encoder.specs.declared.Run.{Run}
 use Rattle.encoder.specs.Held.{runOf, clauseIn, literalsIn, goalVariables, conflictIf, Sound}
 use Rattle.encoder.specs.Did.{Did}
+use Rattle.clauses.specs.declared.Outcome.{Outcome}
+use Rattle.clauses.specs.declared.Outcome.the-variants as outcomes
 
 -- Of n, what is used when a clause is added: the decisions, and room. `bytes`: the length of the clauses' area.
 pub record CanAdd (l : Limits) (n : Counters) (st : ℕ → List ℕ) (bytes : ℕ) : Type 0 where
@@ -81,6 +85,24 @@ pub record Adds (l : Limits) (r : Run) (k : Clause) (n : Counters) (st : ℕ →
 -- a row of two variables
 unfoldable pub pairOf : (kind first second conflict : ℕ) → Stored
 pairOf k x y i = record { kind = k; first = x; second = y; start = 0; count = 0; form = 0; number = 0; conflict = i }
+
+-- what a clause of two literals does, by what the decisions say of them
+unfoldable pub outcomeOf : (first second : Value) → Outcome
+outcomeOf values.True v = outcomes.Nothing
+outcomeOf values.False values.True = outcomes.Nothing
+outcomeOf values.False values.False = outcomes.Conflict
+outcomeOf values.False values.Undecided = outcomes.SetsSecond
+outcomeOf values.Undecided values.True = outcomes.Nothing
+outcomeOf values.Undecided values.False = outcomes.SetsFirst
+outcomeOf values.Undecided values.Undecided = outcomes.Nothing
+
+unfoldable pub outcomeIn : List Decision → Literal → Literal → Outcome
+outcomeIn ds a b = outcomeOf (seen (evaluate ds a)) (seen (evaluate ds b))
+
+pub record CanPair (l : Limits) (r : Run) (a b : code.Literal) : Type 0 where
+  pub run : 0 < r .number
+  pub first : (literalOf a) .variable < l .variables
+  pub second : (literalOf b) .variable < l .variables
 
 -- such a row is clause k, which has no goal
 pub record IsPair (kind first second : ℕ) (k : Clause) : Type 0 where

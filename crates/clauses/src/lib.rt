@@ -9,13 +9,14 @@ use state::Limits;
 ghost use mathlib.Core.Path.{_≡_};
 ghost use mathlib.Core.Bool.{cond, not, _&&_};
 ghost use Prim.Native.Nat.{_+_, _*_, _<_, _≤_};
+ghost use lib.Dec.{leb};
 ghost use lib.ListN.{length};
 ghost use Rattle.rules.specs.Clause.{excluded, constrains, forbid, auxOut, auxOwner, lock, anyGate, anyOne};
 ghost use Rattle.rules.specs.Decisions.{isTrue, isFalse};
 ghost use Rattle.clause.specs.Literals.{literalOf};
 ghost use Rattle.state.specs.Layout.{held, Fits};
 ghost use Rattle.decision_tracker.specs.Tracking.{decisions, Kept};
-ghost use Rattle.clauses.specs.Adding.{reasonFor, pairOf, CanAdd, Stores, CanForce, Forces, Sets, Adds, AddsPair, AddsRequires, AddsGated};
+ghost use Rattle.clauses.specs.Adding.{reasonFor, pairOf, CanAdd, Stores, CanForce, Forces, Sets, Adds, outcomeIn, CanPair, AddsPair, AddsRequires, AddsGated};
 
 // ---- what the decisions say
 
@@ -251,7 +252,19 @@ pub fn add_aux_out(s: &mut [u8], clauses: &mut [u8], l: Limits, n: Counters, r: 
     store(clauses, l, n, row)
 }
 
-// One-of-name y for part x; only a variable of this run is set.
+// Part x is true, and y is a variable of this run.
+fn is_one(s: &[u8], l: Limits, n: Counters, r: Run, y: u16, x: u16) -> bool
+    requires { ⌜ Fits l (length (now s)) ⌝ }
+    requires { ⌜ Kept l (n .decisions) (held l (now s)) ⌝ }
+    ensures { λ b. ⌜ b ≡ (isTrue (decisions (n .decisions) (held l (now (s .entry)))) x && leb (r .before) y) ⌝ }
+{
+    if is_true(s, l, n, x) {
+        return r.before <= y as usize;
+    }
+    false
+}
+
+// One-of-name y for part x.
 pub fn add_any_one(s: &mut [u8], clauses: &mut [u8], l: Limits, n: Counters, r: Run, y: u16, x: u16) -> Counters
     requires { ⌜ Fits l (length (now s)) ⌝ }
     requires { ⌜ CanAdd l n (held l (now s)) (length (now clauses)) ⌝ }
@@ -259,40 +272,54 @@ pub fn add_any_one(s: &mut [u8], clauses: &mut [u8], l: Limits, n: Counters, r: 
     ensures { λ m. ⌜ Adds l r (anyOne y x) n (held l (now (s .entry))) (now (clauses .entry)) m (held l (now (s .exit))) (now (clauses .exit)) ⌝ }
 {
     let row = pair(11, y, x, 0);
-    if is_true(s, l, n, x) {
-        if r.before <= y as usize {
-            return store_setting(s, clauses, l, n, r, row, Literal::new(y, true));
-        }
-        return store(clauses, l, n, row);
+    if is_one(s, l, n, r, y, x) {
+        return store_setting(s, clauses, l, n, r, row, Literal::new(y, true));
     }
     store(clauses, l, n, row)
 }
 
-// A row whose two literals are a and b sets the one that is undecided where the other is false, and is a conflict where both are.
+// What a clause of two literals does when it is made: it sets the one that is undecided where the other is false, and is a conflict where both are.
+pub enum Outcome {
+    Nothing,
+    Conflict,
+    SetsFirst,
+    SetsSecond,
+}
+
+fn outcome_of(s: &[u8], l: Limits, n: Counters, a: Literal, b: Literal) -> Outcome
+    requires { ⌜ Fits l (length (now s)) ⌝ }
+    requires { ⌜ Kept l (n .decisions) (held l (now s)) ⌝ }
+    ensures { λ o. ⌜ o ≡ outcomeIn (decisions (n .decisions) (held l (now (s .entry)))) (literalOf a) (literalOf b) ⌝ }
+{
+    let first = decision_tracker::eval(s, l, n.decisions, a);
+    let second = decision_tracker::eval(s, l, n.decisions, b);
+    match first {
+        Value::True => Outcome::Nothing,
+        Value::False => match second {
+            Value::True => Outcome::Nothing,
+            Value::False => Outcome::Conflict,
+            Value::Undecided => Outcome::SetsSecond,
+        },
+        Value::Undecided => match second {
+            Value::True => Outcome::Nothing,
+            Value::False => Outcome::SetsFirst,
+            Value::Undecided => Outcome::Nothing,
+        },
+    }
+}
+
+// A row whose two literals are a and b.
 fn add_pair(s: &mut [u8], clauses: &mut [u8], l: Limits, n: Counters, r: Run, kind: u16, first: u16, second: u16, a: Literal, b: Literal) -> Counters
     requires { ⌜ Fits l (length (now s)) ⌝ }
     requires { ⌜ CanAdd l n (held l (now s)) (length (now clauses)) ⌝ }
-    requires { ⌜ (0 < r .number) × ((literalOf a) .variable < l .variables) × ((literalOf b) .variable < l .variables) ⌝ }
+    requires { ⌜ CanPair l r a b ⌝ }
     ensures { λ m. ⌜ AddsPair l r kind first second a b n (held l (now (s .entry))) (now (clauses .entry)) m (held l (now (s .exit))) (now (clauses .exit)) ⌝ }
 {
-    let row = pair(kind, first, second, 0);
-    let other = decision_tracker::eval(s, l, n.decisions, b);
-    match decision_tracker::eval(s, l, n.decisions, a) {
-        Value::True => store(clauses, l, n, row),
-        Value::False => {
-            match other {
-                Value::True => store(clauses, l, n, row),
-                Value::False => store(clauses, l, n, pair(kind, first, second, r.number)),
-                Value::Undecided => store_setting(s, clauses, l, n, r, row, b),
-            }
-        }
-        Value::Undecided => {
-            match other {
-                Value::True => store(clauses, l, n, row),
-                Value::Undecided => store(clauses, l, n, row),
-                Value::False => store_setting(s, clauses, l, n, r, row, a),
-            }
-        }
+    match outcome_of(s, l, n, a, b) {
+        Outcome::Nothing => store(clauses, l, n, pair(kind, first, second, 0)),
+        Outcome::Conflict => store(clauses, l, n, pair(kind, first, second, r.number)),
+        Outcome::SetsFirst => store_setting(s, clauses, l, n, r, pair(kind, first, second, 0), a),
+        Outcome::SetsSecond => store_setting(s, clauses, l, n, r, pair(kind, first, second, 0), b),
     }
 }
 
