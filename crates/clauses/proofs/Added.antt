@@ -35,7 +35,7 @@ use Rattle.encoder.proofs.Did.{did-full, did-filled}
 use Rattle.encoder.proofs.Widening.{addClause-widens}
 use Rattle.clauses.specs.declared.Outcome.{Outcome}
 use Rattle.clauses.specs.declared.Outcome.the-variants as outcomes
-use Rattle.clauses.specs.Adding.{pairOf, reasonFor, AllNamed, AddsRequires, AddsGated, CanAdd, Fitting, Stores, Sets, Adds, outcomeOf, outcomeIn, CanPair, IsPair, AddsPair}
+use Rattle.clauses.specs.Adding.{pairOf, reasonFor, AllNamed, AddsRequires, AddsGated, CanAdd, Fitting, Stores, Sets, Adds, outcomeOf, outcomeIn, asConflict, CanPair, IsPair, AddsPair}
 use Rattle.clauses.proofs.Adding.{Does, Reports, row-reports, row-sets}
 
 -- ---- a row of two variables
@@ -306,23 +306,28 @@ does : (r : Run) (ds : List Decision) (a b : Literal) (k : Clause) {o p : Outcom
 unfolding propagate outcomeIn
 does r ds a b k f t e i s d = e i s ∙ (by-outcome r i _ _ a b s ∙ rw (d, ← f, t))
 
-module _ {l : Limits} {r : encoder.Run} {n m : Counters} {st : ℕ → List ℕ} {cl cl′ : List ℕ} {row : Stored} {k₀ kind x y : ℕ} {a b : code.Literal} {o : Outcome}
+conflict-row : (kind x y i : ℕ) {row : Stored} → row ≡ pairOf kind x y 0 → asConflict i row ≡ pairOf kind x y i
+unfolding asConflict pairOf
+conflict-row kind x y i q = rw q
+
+module _ {l : Limits} {r : encoder.Run} {n m : Counters} {st : ℕ → List ℕ} {cl cl′ : List ℕ} {row : Stored} {k₀ : ℕ} {a b : code.Literal} {o : Outcome}
     (h : CanAdd l n st k₀) (f : o ≡ outcomeIn (decisions (n .decisions) st) (literalOf a) (literalOf b)) where
-  pub pair-nothing : o ≡ outcomes.Nothing → Stores l row n cl m cl′ → row ≡ pairOf kind x y 0 → AddsPair l r kind x y a b n st cl m st cl′
-  pair-nothing t g q = record { is = λ k p e. pair-idle p h (does (runOf r) _ (literalOf a) (literalOf b) k f t e) q g }
+  pub pair-nothing : o ≡ outcomes.Nothing → Stores l row n cl m cl′ → AddsPair l r row a b n st cl m st cl′
+  pair-nothing t g = record { is = λ _ _ _ k q p e. pair-idle p h (does (runOf r) _ (literalOf a) (literalOf b) k f t e) q g }
 
-  pub pair-conflict : CanPair l r a b → o ≡ outcomes.Conflict → Stores l row n cl m cl′ → row ≡ pairOf kind x y (r .number)
-      → AddsPair l r kind x y a b n st cl m st cl′
+  pub pair-conflict : {row′ : Stored} → CanPair l r a b → o ≡ outcomes.Conflict → Stores l row′ n cl m cl′ → row′ ≡ asConflict (r .number) row
+      → AddsPair l r row a b n st cl m st cl′
   unfolding when
-  pair-conflict c t g q = record { is = λ k p e. pair-reports p h true (λ _. c .run) refl (does (runOf r) _ (literalOf a) (literalOf b) k f t e) q g }
+  pair-conflict c t g d =
+      record {
+        is = λ kind x y k q p e. pair-reports p h true (λ _. c .run) refl (does (runOf r) _ (literalOf a) (literalOf b) k f t e) (d ∙ conflict-row kind x y (r .number) q) g;
+      }
 
-  pub pair-sets-first : {st′ : ℕ → List ℕ} → o ≡ outcomes.SetsFirst → Sets l r row a n st cl m st′ cl′ → row ≡ pairOf kind x y 0
-      → AddsPair l r kind x y a b n st cl m st′ cl′
-  pair-sets-first t g q = record { is = λ k p e. pair-sets p h a (does (runOf r) _ (literalOf a) (literalOf b) k f t e) q g }
+  pub pair-sets-first : {st′ : ℕ → List ℕ} → o ≡ outcomes.SetsFirst → Sets l r row a n st cl m st′ cl′ → AddsPair l r row a b n st cl m st′ cl′
+  pair-sets-first t g = record { is = λ _ _ _ k q p e. pair-sets p h a (does (runOf r) _ (literalOf a) (literalOf b) k f t e) q g }
 
-  pub pair-sets-second : {st′ : ℕ → List ℕ} → o ≡ outcomes.SetsSecond → Sets l r row b n st cl m st′ cl′ → row ≡ pairOf kind x y 0
-      → AddsPair l r kind x y a b n st cl m st′ cl′
-  pair-sets-second t g q = record { is = λ k p e. pair-sets p h b (does (runOf r) _ (literalOf a) (literalOf b) k f t e) q g }
+  pub pair-sets-second : {st′ : ℕ → List ℕ} → o ≡ outcomes.SetsSecond → Sets l r row b n st cl m st′ cl′ → AddsPair l r row a b n st cl m st′ cl′
+  pair-sets-second t g = record { is = λ _ _ _ k q p e. pair-sets p h b (does (runOf r) _ (literalOf a) (literalOf b) k f t e) q g }
 
 -- a literal's variable exists
 pub made-exists : (l : Limits) (z : code.Literal) (x : ℕ) (b : Bool) → literalOf z ≡ signed x b → x < l .variables → (literalOf z) .variable < l .variables
@@ -337,11 +342,11 @@ pub any-gate-can : {l : Limits} {r : encoder.Run} {a b : code.Literal} (x y : �
     → x < l .variables → y < l .variables → CanPair l r a b
 any-gate-can {l} {a = a} {b = b} x y o e f h k = record { run = o; first = made-exists l a x true e h; second = made-exists l b y false f k }
 
-module _ {l : Limits} {r : encoder.Run} {n m : Counters} {st st′ : ℕ → List ℕ} {cl cl′ : List ℕ} {x : ℕ} where
-  pub forbid-added : {a b : code.Literal} → AddsPair l r 6 x (b .code) a b n st cl m st′ cl′ → literalOf a ≡ signed x false
+module _ {l : Limits} {r : encoder.Run} {row : Stored} {n m : Counters} {st st′ : ℕ → List ℕ} {cl cl′ : List ℕ} {x : ℕ} where
+  pub forbid-added : {a b : code.Literal} → AddsPair l r row a b n st cl m st′ cl′ → row ≡ pairOf 6 x (b .code) 0 → literalOf a ≡ signed x false
       → Adds l r (forbid x (literalOf b)) n st cl m st′ cl′
-  forbid-added {b = b} g e = g .is (forbid x (literalOf b)) (is-forbid x b) (unfold effect signed in λ i s. rw e)
+  forbid-added {b = b} g q e = g .is 6 x (b .code) (forbid x (literalOf b)) q (is-forbid x b) (unfold effect signed in λ i s. rw e)
 
-  pub any-gate-added : {y : ℕ} {a b : code.Literal} → AddsPair l r 10 x y a b n st cl m st′ cl′ → literalOf a ≡ signed x true → literalOf b ≡ signed y false
-      → Adds l r (anyGate x y) n st cl m st′ cl′
-  any-gate-added {y} g e f = g .is (anyGate x y) (is-any-gate x y) (unfold effect signed in λ i s. rw (e, f))
+  pub any-gate-added : {y : ℕ} {a b : code.Literal} → AddsPair l r row a b n st cl m st′ cl′ → row ≡ pairOf 10 x y 0 → literalOf a ≡ signed x true
+      → literalOf b ≡ signed y false → Adds l r (anyGate x y) n st cl m st′ cl′
+  any-gate-added {y} g q e f = g .is 10 x y (anyGate x y) q (is-any-gate x y) (unfold effect signed in λ i s. rw (e, f))

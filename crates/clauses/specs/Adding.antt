@@ -111,10 +111,18 @@ pub record IsPair (kind first second : ℕ) (k : Clause) : Type 0 where
   pub clause : (c : Catalogue) (vs : List Origin) (w : List ℕ) (i : ℕ) → clauseIn c vs w (rowOf (pairOf kind first second i)) ≡ k
   pub literals : conditionLiterals k ≡ 0
 
--- if it is a clause whose two literals are a and b, that clause is added
-pub record AddsPair (l : Limits) (r : Run) (kind first second : ℕ) (a b : code.Literal)
+-- the row as a conflict of this run
+unfoldable pub asConflict : ℕ → Stored → Stored
+asConflict run r =
+    record {
+      kind = r .kind; first = r .first; second = r .second; start = r .start; count = r .count; form = r .form; number = r .number;
+      conflict = run
+    }
+
+-- if the row is a clause whose two literals are a and b, that clause is added
+pub record AddsPair (l : Limits) (r : Run) (row : Stored) (a b : code.Literal)
     (n : Counters) (st : ℕ → List ℕ) (cl : List ℕ) (n′ : Counters) (st′ : ℕ → List ℕ) (cl′ : List ℕ) : Type 0 where
-  pub is : (k : Clause) → IsPair kind first second k
+  pub is : (kind first second : ℕ) (k : Clause) → row ≡ pairOf kind first second 0 → IsPair kind first second k
       → ((i : ℕ) (s : State) → effect (runOf r) i k s ≡ propagate (runOf r) i (literalOf a) (literalOf b) s)
       → Adds l r k n st cl n′ st′ cl′
 

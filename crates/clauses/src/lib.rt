@@ -16,7 +16,7 @@ ghost use Rattle.rules.specs.Decisions.{isTrue, isFalse};
 ghost use Rattle.clause.specs.Literals.{literalOf};
 ghost use Rattle.state.specs.Layout.{held, Fits};
 ghost use Rattle.decision_tracker.specs.Tracking.{decisions, Kept};
-ghost use Rattle.clauses.specs.Adding.{reasonFor, pairOf, CanAdd, Stores, CanForce, Forces, Sets, Adds, outcomeIn, CanPair, AddsPair, AddsRequires, AddsGated};
+ghost use Rattle.clauses.specs.Adding.{reasonFor, pairOf, CanAdd, Stores, CanForce, Forces, Sets, Adds, outcomeIn, asConflict, CanPair, AddsPair, AddsRequires, AddsGated};
 
 // ---- what the decisions say
 
@@ -173,6 +173,27 @@ pub fn add_lock(s: &[u8], clauses: &mut [u8], l: Limits, n: Counters, r: Run, x:
     store(clauses, l, n, pair(9, x, 0, 0))
 }
 
+// An owner's requires, whose literals there is room for.
+fn store_requires(s: &[u8], clauses: &mut [u8], l: Limits, n: Counters, r: Run, owner: u16, count: usize, form: u16, number: u16, all: bool) -> Counters
+    requires { ⌜ Fits l (length (now s)) ⌝ }
+    requires { ⌜ CanAdd l n (held l (now s)) (length (now clauses)) ⌝ }
+    requires { ⌜ (0 < r .number) × (n .literals + count ≤ l .literals) ⌝ }
+    ensures { λ m. ⌜ AddsRequires l r owner count form number all n (held l (now (s .entry))) (now (clauses .entry)) m (now (clauses .exit)) ⌝ }
+{
+    let out = is_false(s, l, n, owner);
+    let row = Stored {
+        kind: 1,
+        first: owner,
+        second: 0,
+        start: n.literals as u16,
+        count: count as u16,
+        form,
+        number,
+        conflict: run_unless(all, out, r),
+    };
+    store(clauses, l, n, row)
+}
+
 // An owner's requires: its condition literals are the `count` numbers behind those of the stored clauses, its candidates those of the goal.
 pub fn add_requires(s: &[u8], clauses: &mut [u8], l: Limits, n: Counters, r: Run, owner: u16, count: usize, form: u16, number: u16, all: bool) -> Counters
     requires { ⌜ Fits l (length (now s)) ⌝ }
@@ -186,18 +207,7 @@ pub fn add_requires(s: &[u8], clauses: &mut [u8], l: Limits, n: Counters, r: Run
     if l.literals < n.literals + count {
         return encoder::filled(n);
     }
-    let out = is_false(s, l, n, owner);
-    let row = Stored {
-        kind: 1,
-        first: owner,
-        second: 0,
-        start: n.literals as u16,
-        count: count as u16,
-        form,
-        number,
-        conflict: run_unless(all, out, r),
-    };
-    store(clauses, l, n, row)
+    store_requires(s, clauses, l, n, r, owner, count, form, number, all)
 }
 
 // ---- clauses that may set a literal
@@ -308,18 +318,27 @@ fn outcome_of(s: &[u8], l: Limits, n: Counters, a: Literal, b: Literal) -> Outco
     }
 }
 
+// The row as a conflict of this run.
+fn as_conflict(row: Stored, r: Run) -> Stored
+    ensures { λ c. ⌜ c ≡ asConflict (r .number) row ⌝ }
+{
+    let mut c = row;
+    c.conflict = r.number;
+    c
+}
+
 // A row whose two literals are a and b.
-fn add_pair(s: &mut [u8], clauses: &mut [u8], l: Limits, n: Counters, r: Run, kind: u16, first: u16, second: u16, a: Literal, b: Literal) -> Counters
+fn add_pair(s: &mut [u8], clauses: &mut [u8], l: Limits, n: Counters, r: Run, row: Stored, a: Literal, b: Literal) -> Counters
     requires { ⌜ Fits l (length (now s)) ⌝ }
     requires { ⌜ CanAdd l n (held l (now s)) (length (now clauses)) ⌝ }
     requires { ⌜ CanPair l r a b ⌝ }
-    ensures { λ m. ⌜ AddsPair l r kind first second a b n (held l (now (s .entry))) (now (clauses .entry)) m (held l (now (s .exit))) (now (clauses .exit)) ⌝ }
+    ensures { λ m. ⌜ AddsPair l r row a b n (held l (now (s .entry))) (now (clauses .entry)) m (held l (now (s .exit))) (now (clauses .exit)) ⌝ }
 {
     match outcome_of(s, l, n, a, b) {
-        Outcome::Nothing => store(clauses, l, n, pair(kind, first, second, 0)),
-        Outcome::Conflict => store(clauses, l, n, pair(kind, first, second, r.number)),
-        Outcome::SetsFirst => store_setting(s, clauses, l, n, r, pair(kind, first, second, 0), a),
-        Outcome::SetsSecond => store_setting(s, clauses, l, n, r, pair(kind, first, second, 0), b),
+        Outcome::Nothing => store(clauses, l, n, row),
+        Outcome::Conflict => store(clauses, l, n, as_conflict(row, r)),
+        Outcome::SetsFirst => store_setting(s, clauses, l, n, r, row, a),
+        Outcome::SetsSecond => store_setting(s, clauses, l, n, r, row, b),
     }
 }
 
@@ -330,7 +349,7 @@ pub fn add_forbid(s: &mut [u8], clauses: &mut [u8], l: Limits, n: Counters, r: R
     requires { ⌜ (0 < r .number) × (x < l .variables) × ((literalOf helper) .variable < l .variables) ⌝ }
     ensures { λ m. ⌜ Adds l r (forbid x (literalOf helper)) n (held l (now (s .entry))) (now (clauses .entry)) m (held l (now (s .exit))) (now (clauses .exit)) ⌝ }
 {
-    add_pair(s, clauses, l, n, r, 6, x, helper.code, Literal::new(x, false), helper)
+    add_pair(s, clauses, l, n, r, pair(6, x, helper.code, 0), Literal::new(x, false), helper)
 }
 
 pub fn add_any_gate(s: &mut [u8], clauses: &mut [u8], l: Limits, n: Counters, r: Run, gate: u16, owner: u16) -> Counters
@@ -339,5 +358,5 @@ pub fn add_any_gate(s: &mut [u8], clauses: &mut [u8], l: Limits, n: Counters, r:
     requires { ⌜ (0 < r .number) × (gate < l .variables) × (owner < l .variables) ⌝ }
     ensures { λ m. ⌜ Adds l r (anyGate gate owner) n (held l (now (s .entry))) (now (clauses .entry)) m (held l (now (s .exit))) (now (clauses .exit)) ⌝ }
 {
-    add_pair(s, clauses, l, n, r, 10, gate, owner, Literal::new(gate, true), Literal::new(owner, false))
+    add_pair(s, clauses, l, n, r, pair(10, gate, owner, 0), Literal::new(gate, true), Literal::new(owner, false))
 }

@@ -37,25 +37,25 @@ enum-told-9 : tie.Need-enum-told-9
 enum-told-9 c = search needs
 
 returns : tie.Need-returns
-returns c = ?
+returns c = search (needs, outcome-true)
 
 returns-2 : tie.Need-returns-2
-returns-2 c = ?
+returns-2 c = search (needs, outcome-false-true)
 
 returns-3 : tie.Need-returns-3
-returns-3 c = ?
+returns-3 c = search (needs, outcome-false-false)
 
 returns-4 : tie.Need-returns-4
-returns-4 c = ?
+returns-4 c = search (needs, outcome-false-undecided)
 
 returns-5 : tie.Need-returns-5
-returns-5 c = ?
+returns-5 c = search (needs, outcome-undecided-true)
 
 returns-6 : tie.Need-returns-6
-returns-6 c = ?
+returns-6 c = search (needs, outcome-undecided-false)
 
 returns-7 : tie.Need-returns-7
-returns-7 c = ?
+returns-7 c = search (needs, outcome-undecided)
 
 pub outcome-of-spec : {M : Type 1} → statement M
 outcome-of-spec =

@@ -2,10 +2,7 @@ use borrow.Author.Needs.{needs}
 use Rattle.clauses.specs.Adding.{pairOf}
 use Rattle.clauses.proofs.pair.Statement.{statement}
 use Rattle.clauses.proofs.pair.Tie as tie
-use Rattle.clauses.proofs.pair.Reads as reads
-use Rattle.clauses.proofs.pair.Lts as lts
 
--- src/lib.rt:114:1
 returns : tie.Need-returns
 unfolding pairOf
 returns c = search needs
