@@ -17,14 +17,17 @@ use Rattle.rules.specs.Catalogue.{Part, Catalogue, noPart, partAt, noRange, ran
 use Rattle.rules.specs.Refusals.{unlessAny}
 use Rattle.rules.specs.Refusals as rules
 use Rattle.rules.specs.Records.{Item}
-use Rattle.rules.specs.Items.{ownerOf, partOf, ceiling, given, atCeiling, absent, ownerAbsent, conditionAbsent, ofSameName, itemRefusals, withItem, addItem}
+use Rattle.rules.specs.Items.{ownerOf, goalOf, partOf, ceiling, given, atCeiling, absent, ownerAbsent, conditionAbsent, ofSameName, itemRefusals, withItem, addItem}
 use Rattle.refusal.specs.declared.Thing.the-variants as Thing
 use Rattle.refusal.specs.declared.Contradiction.the-variants as Contradiction
 use Rattle.refusal.specs.declared.Refusal.the-variants.{TooMany, Missing, Contradicts}
 use Rattle.refusal.specs.Refusing.{thingOf, contradictionOf, refusalOf}
+use Rattle.requirement.specs.declared.Requirement.{Requirement}
+use Rattle.requirement.specs.Requirements.{requirementIs}
+use Rattle.requirement.specs.Requirements as goals
 use Rattle.tables.specs.declared.Counts.{Counts}
 use Rattle.tables.specs.Tables as T
-use Rattle.tables.specs.Tables.{tables, tablesIn, withName, withPart, withRange, withUnion, withRequirement, withConstraint, requirementIs, requirementFrom, constraintIs, constraintFrom}
+use Rattle.tables.specs.Tables.{tables, tablesIn, withName, withPart, withRange, withUnion, withRequirement, withConstraint, constraintIs, constraintFrom}
 use Rattle.tables.proofs.Rows.{counts}
 use Rattle.marks.specs.Marks.{isMarked, Marked, Cleared}
 use Rattle.marks.proofs.Laws.{marked-row, marked-other, cleared-row, cleared-other}
@@ -83,11 +86,11 @@ module _ (k : Counts) (m u t : List ℕ) where
   unfolding assembled withUnion catalogue withItem
   with-union g = rw (unions-counted k t, union-more (k .unions) (rows (k .members) u) g)
 
-  with-requirement : (o f n c : ℕ)
-      → assembled (withRequirement (tables k t) (requirementIs (record { owner = o; form = f; number = n; condition = c }))) (isMarked m) (rows (k .members) u)
+  with-requirement : (o f n c : ℕ) (g : Requirement) → goals.goalOf g ≡ goalOf f n
+      → assembled (withRequirement (tables k t) (requirementIs (record { owner = o; requirement = g; condition = c }))) (isMarked m) (rows (k .members) u)
       ≡ withItem (catalogue k m u t) (Item.requirement o f n c)
-  unfolding assembled withRequirement requirementIs requirementFrom catalogue withItem
-  with-requirement o f n c = refl
+  unfolding assembled withRequirement requirementIs catalogue withItem
+  with-requirement o f n c g e = rw e
 
   with-constraint : (o r : ℕ)
       → assembled (withConstraint (tables k t) (constraintIs (record { owner = o; range = r }))) (isMarked m) (rows (k .members) u)
@@ -382,15 +385,15 @@ module _ (k : Counts) (m u t : List ℕ) where
                 requirement-unknown h =
                     record { is = rw (space, owned, over-ranges, v, over-unions, s, conditioned, le-ltb 1 f b, ← e, h, unlessAny); still = tt }
 
-                pub requirement-entered : b′ ≡ false → (r : Counts) (t′ : List ℕ) → Kept k m u t
-                    → T.Added k r t′ (withRequirement (tables k t) (requirementIs (record { owner = o; form = f; number = n; condition = q })))
+                pub requirement-entered : b′ ≡ false → (r : Counts) (t′ : List ℕ) (goal : Requirement) → Kept k m u t → goals.goalOf goal ≡ goalOf f n
+                    → T.Added k r t′ (withRequirement (tables k t) (requirementIs (record { owner = o; requirement = goal; condition = q })))
                     → Entered k c requirementItem (Counted r) m u t′
                 unfolding answered addItem itemRefusals unlessAny rowsOf withRequirement
-                requirement-entered h r t′ kept y =
+                requirement-entered h r t′ goal kept is y =
                     record {
                       is =
                           rw (space, owned, over-ranges, v, over-unions, s, conditioned, le-ltb 1 f b, ← e, h, unlessAny)
-                          (ap rules.ok (put-is m u y ∙ with-requirement k m u t o f n q));
+                          (ap rules.ok (put-is m u y ∙ with-requirement k m u t o f n q goal is));
                       still = table-kept kept y (unions-counted k t) (sized-same (tables k t) _ refl refl (kept .sized)) refl;
                     }
 

@@ -3,8 +3,9 @@ use reader::Record;
 use refusal::Contradiction;
 use refusal::Refusal;
 use refusal::Thing;
+use requirement::ConditionalRequirement;
+use requirement::Requirement;
 use tables::Condition;
-use tables::ConditionalRequirement;
 use tables::Constraint;
 use tables::Counts;
 use tables::Size;
@@ -389,11 +390,10 @@ pub fn add_requirement(
     if owner_unknown(marks, unions, t, k, owner) {
         return Added::Refused(Refusal::Contradicts(Contradiction::OwnerUnknown));
     }
-    let form = form as u16;
+    let requirement = Requirement::from_parts(form as u16, number);
     let q = ConditionalRequirement {
         owner,
-        form,
-        number,
+        requirement,
         condition,
     };
     Added::Counted(tables::put_requirement(t, k, q))

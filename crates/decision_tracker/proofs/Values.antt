@@ -8,7 +8,7 @@ use borrow.Author.Tests.{eq-eqb, ne-eqb}
 use Rattle.rules.specs.Truth.{same}
 use Rattle.rules.specs.Lists.{snoc}
 use Rattle.rules.specs.Literal.{Literal, pos}
-use Rattle.rules.specs.Decisions.{Decision, Evaluation, undecided, satisfied, falsified, decidedAs, evaluate, isUndecided, isFalsified, isSatisfied}
+use Rattle.rules.specs.Decisions.{Decision, Evaluation, undecided, satisfied, falsified, decidedAs, evaluate, isUndecided, isFalsified, isSatisfied, isTrue, isFalse}
 use Rattle.rules.proofs.Bools.{by-cases}
 use Rattle.rules.proofs.Each.{Each}
 use Rattle.rules.proofs.Evaluation.{Undecided}
@@ -74,3 +74,40 @@ satisfied-seen (falsified k) = refl
 
 pub reads-undecided : (ds : List Decision) (l : Literal) (v : Value) → v ≡ seen (evaluate ds l) → v ≡ values.Undecided → isUndecided (evaluate ds l) ≡ true
 reads-undecided ds l v e q = undecided-seen (evaluate ds l) ∙ rw (← e, q)
+
+-- ---- what the code answers of a variable or a literal
+
+module _ (ds : List Decision) (k : Literal) {v : Value} (e : v ≡ seen (evaluate ds k)) where
+  pub falsified-undecided : v ≡ values.Undecided → false ≡ isFalsified (evaluate ds k)
+  falsified-undecided q = rw (falsified-seen, ← e, q)
+
+  pub falsified-false : v ≡ values.False → true ≡ isFalsified (evaluate ds k)
+  falsified-false q = rw (falsified-seen, ← e, q)
+
+  pub falsified-true : v ≡ values.True → false ≡ isFalsified (evaluate ds k)
+  falsified-true q = rw (falsified-seen, ← e, q)
+
+module _ (ds : List Decision) (x : ℕ) {v : Value} (e : v ≡ seen (evaluate ds (pos x))) where
+  pub true-undecided : v ≡ values.Undecided → false ≡ isTrue ds x
+  unfolding isTrue
+  true-undecided q = rw (satisfied-seen, ← e, q)
+
+  pub true-false : v ≡ values.False → false ≡ isTrue ds x
+  unfolding isTrue
+  true-false q = rw (satisfied-seen, ← e, q)
+
+  pub true-true : v ≡ values.True → true ≡ isTrue ds x
+  unfolding isTrue
+  true-true q = rw (satisfied-seen, ← e, q)
+
+  pub false-undecided : v ≡ values.Undecided → false ≡ isFalse ds x
+  unfolding isFalse
+  false-undecided q = falsified-undecided ds (pos x) e q
+
+  pub false-false : v ≡ values.False → true ≡ isFalse ds x
+  unfolding isFalse
+  false-false q = falsified-false ds (pos x) e q
+
+  pub false-true : v ≡ values.True → false ≡ isFalse ds x
+  unfolding isFalse
+  false-true q = falsified-true ds (pos x) e q

@@ -8,7 +8,7 @@ ghost use lib.Dec.{eqb};
 ghost use lib.ListN.{length, getD};
 ghost use Rattle.rules.specs.Lists.{snoc};
 ghost use Rattle.rules.specs.Literal.{pos};
-ghost use Rattle.rules.specs.Decisions.{evaluate, lastLevel, upToLevel};
+ghost use Rattle.rules.specs.Decisions.{evaluate, isTrue, isFalse, isFalsified, lastLevel, upToLevel};
 ghost use Rattle.rules.proofs.Levels.{Rising};
 ghost use Rattle.clause.specs.Literals.{literalOf, valueOf};
 ghost use Rattle.state.specs.Layout.{held, Fits};
@@ -44,6 +44,43 @@ pub fn eval(s: &[u8], l: Limits, d: usize, literal: Literal) -> Value
 {
     let variable = literal.variable();
     literal.eval(value(s, l, d, variable as usize))
+}
+
+pub fn is_true(s: &[u8], l: Limits, d: usize, variable: u16) -> bool
+    requires { ⌜ Fits l (length (now s)) ⌝ }
+    requires { ⌜ Kept l d (held l (now s)) ⌝ }
+    ensures { λ b. ⌜ b ≡ isTrue (decisions d (held l (now (s .entry)))) variable ⌝ }
+{
+    match value(s, l, d, variable as usize) {
+        Value::Undecided => false,
+        Value::False => false,
+        Value::True => true,
+    }
+}
+
+pub fn is_false(s: &[u8], l: Limits, d: usize, variable: u16) -> bool
+    requires { ⌜ Fits l (length (now s)) ⌝ }
+    requires { ⌜ Kept l d (held l (now s)) ⌝ }
+    ensures { λ b. ⌜ b ≡ isFalse (decisions d (held l (now (s .entry)))) variable ⌝ }
+{
+    match value(s, l, d, variable as usize) {
+        Value::Undecided => false,
+        Value::False => true,
+        Value::True => false,
+    }
+}
+
+// Is a literal decided false?
+pub fn falsified(s: &[u8], l: Limits, d: usize, literal: Literal) -> bool
+    requires { ⌜ Fits l (length (now s)) ⌝ }
+    requires { ⌜ Kept l d (held l (now s)) ⌝ }
+    ensures { λ b. ⌜ b ≡ isFalsified (evaluate (decisions d (held l (now (s .entry)))) (literalOf literal)) ⌝ }
+{
+    match eval(s, l, d, literal) {
+        Value::Undecided => false,
+        Value::False => true,
+        Value::True => false,
+    }
 }
 
 pub fn decision_at(s: &[u8], l: Limits, d: usize, i: usize) -> Decision

@@ -5,18 +5,18 @@ use mathlib.Core.List.{List, [], _∷_}
 use Prim.Native.Nat.{ℕ, _≤_}
 use native.Mathlib.Omega.{arith}
 use lib.Dec.{ltb}
-use lib.ListN.{length}
 use borrow.Author.Tests.{ltb-true, lt-ltb}
 use Rattle.rules.specs.Catalogue.{Catalogue}
-use Rattle.rules.specs.Lists.{fold}
+use Rattle.rules.specs.Lists.{fold, elem}
 use Rattle.rules.specs.State.{State}
 use Rattle.rules.proofs.Bools.{by-cases}
-use Rattle.rules.proofs.Grows.{Grows, same, and-then, stays-above}
+use Rattle.rules.proofs.Grows.{same, and-then, stays-above}
 use Rattle.state.specs.declared.Limits.{Limits}
+use Rattle.state.specs.Changed.{Changed}
 use Rattle.entries.specs.Entries.{drawnIn}
 use Rattle.encoder.specs.declared.Counters.{Counters}
 use Rattle.encoder.specs.Held.{Reading, stateOf, Good}
-use Rattle.encoder.specs.Did.{limitsOf, roomOf, beyond, Widens, filled, Did}
+use Rattle.encoder.specs.Did.{limitsOf, roomOf, beyond, Widens, filled, SameHand, Did, PlainDid}
 use Rattle.encoder.proofs.Frames.{good-filled}
 
 -- ---- widening
@@ -49,6 +49,17 @@ same-room : (l : Limits) (n n′ : Counters) → n′ .first ≡ n .first → ro
 unfolding roomOf
 same-room l n n′ e = rw e
 
+-- ---- the list at hand
+
+pub hand-same : {st : ℕ → List ℕ} → SameHand st st
+hand-same = record { list = refl; marks = refl }
+
+pub hand-then : {st st′ st″ : ℕ → List ℕ} → SameHand st st′ → SameHand st′ st″ → SameHand st st″
+hand-then p q = record { list = q .list ∙ p .list; marks = q .marks ∙ p .marks }
+
+pub hand-kept : {js : List ℕ} {st st′ : ℕ → List ℕ} → Changed js st st′ → elem 14 js ≡ false → elem 15 js ≡ false → SameHand st st′
+hand-kept ch p q = record { list = ch .same 14 p; marks = ch .same 15 q }
+
 -- ---- steps
 
 module _ {c : Catalogue} {l : Limits} where
@@ -60,6 +71,8 @@ module _ {c : Catalogue} {l : Limits} where
           wide = λ v s. widens-same;
           good = λ g. g;
           first = refl;
+          hand = hand-same;
+          fewer = refl;
           drawn = λ k. refl;
           stays = λ e. e;
           done = λ g e e′ v. refl;
@@ -73,6 +86,8 @@ module _ {c : Catalogue} {l : Limits} where
           wide = w;
           good = λ g. g;
           first = refl;
+          hand = hand-same;
+          fewer = refl;
           drawn = λ k. refl;
           stays = λ e. e;
           done = λ g e e′ v. absurd (true≢false (sym f ∙ e));
@@ -88,6 +103,8 @@ module _ {c : Catalogue} {l : Limits} where
           wide = w;
           good = λ g. g;
           first = refl;
+          hand = hand-same;
+          fewer = refl;
           drawn = λ k. refl;
           stays = λ e. e;
           done = λ g e e′ v. sym (h g e v);
@@ -103,6 +120,8 @@ module _ {c : Catalogue} {l : Limits} where
           wide = w;
           good = good-filled;
           first = unfold filled in refl;
+          hand = hand-same;
+          fewer = unfold filled in refl;
           drawn = λ k. refl;
           stays = λ e. unfold filled in refl;
           done = λ g e e′ v. absurd (true≢false (unfold filled in e′));
@@ -111,16 +130,18 @@ module _ {c : Catalogue} {l : Limits} where
 
   module _ {F : Reading → State → State} {n : Counters} {st : ℕ → List ℕ} {cl wt : List ℕ} {n′ : Counters} {st′ : ℕ → List ℕ} {cl′ wt′ : List ℕ} where
     -- F, and nothing becomes full
-    pub did-made : ((v : Reading) (s : State) → Widens s (F v s)) → n′ .first ≡ n .first → n′ .full ≡ n .full
+    pub did-made : ((v : Reading) (s : State) → Widens s (F v s)) → n′ .first ≡ n .first → SameHand st st′ → n′ .drawn ≡ n .drawn → n′ .full ≡ n .full
         → ((k : ℕ) → drawnIn l k wt′ ≡ drawnIn l k wt)
         → (Good c l n st cl wt → Good c l n′ st′ cl′ wt′)
         → (Good c l n st cl wt → (v : Reading) → stateOf c l v n′ st′ cl′ wt′ ≡ F v (stateOf c l v n st cl wt))
         → Did c l F n st cl wt n′ st′ cl′ wt′
-    did-made w a f d g h =
+    did-made w a i j f d g h =
         record {
           wide = w;
           good = g;
           first = a;
+          hand = i;
+          fewer = j;
           drawn = d;
           stays = λ e. f ∙ e;
           done = λ k e e′ v. h k v;
@@ -136,6 +157,8 @@ module _ {c : Catalogue} {l : Limits} where
           wide = w;
           good = d .good;
           first = d .first;
+          hand = d .hand;
+          fewer = d .fewer;
           drawn = d .drawn;
           stays = d .stays;
           done = λ g e e′ v. d .done g e e′ v ∙ h g e v;
@@ -150,6 +173,8 @@ module _ {c : Catalogue} {l : Limits} where
           wide = λ v s. widens-then (d .wide v s) (w v (F v s));
           good = d .good;
           first = d .first;
+          hand = d .hand;
+          fewer = d .fewer;
           drawn = d .drawn;
           stays = d .stays;
           done = λ g e e′ v. absurd (true≢false (sym f ∙ e′));
@@ -164,6 +189,8 @@ module _ {c : Catalogue} {l : Limits} where
             wide = λ v s. widens-then (d .wide v s) (k .wide v (F v s));
             good = λ g. k .good (d .good g);
             first = k .first ∙ d .first;
+            hand = hand-then (d .hand) (k .hand);
+            fewer = k .fewer ∙ d .fewer;
             drawn = λ i. k .drawn i ∙ d .drawn i;
             stays = λ e. k .stays (d .stays e);
             done = λ g e e″ v. let e′ = not-full e″ in k .done (d .good g) e′ e″ v ∙ ap (G v) (d .done g e e′ v);
@@ -175,3 +202,8 @@ module _ {c : Catalogue} {l : Limits} where
         where
           not-full : n″ .full ≡ false → n′ .full ≡ false
           not-full e″ = by-cases (n′ .full) (λ e′. absurd (true≢false (sym (k .stays e′) ∙ e″))) (λ e′. e′)
+
+-- a step that does not read the catalogue, where it is full already
+pub plain-full : {l : Limits} {n : Counters} {st : ℕ → List ℕ} {F : Catalogue → Reading → State → State}
+    → ((c : Catalogue) (v : Reading) (s : State) → Widens s (F c v s)) → n .full ≡ true → PlainDid l F n st n st
+plain-full w f = record { is = λ c. record { is = λ cl wt. did-full f (w c) } }

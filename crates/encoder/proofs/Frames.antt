@@ -1,18 +1,15 @@
 -- What a step that changes some regions leaves: what holds between two steps (`Good`), and the state.
-use mathlib.Core.Path.{_≡_, refl, sym, _∙_, ap}
+use mathlib.Core.Path.{_≡_, refl}
 use mathlib.Core.Bool.{Bool, true, false, _||_, cond}
-use mathlib.Core.List.{List, [], _∷_, map}
-use Prim.Native.Nat.{ℕ, suc, _+_, _<_, _≤_}
+use mathlib.Core.List.{List, [], map}
+use Prim.Native.Nat.{ℕ, _+_, _<_, _≤_}
 use native.Mathlib.Omega.{arith}
-use lib.Dec.{eqb, ltb}
+use lib.Dec.{eqb}
 use lib.ListN.{length, getD, length-map}
 use borrow.Author.Tests.{eqb-true, le-ltb}
-use Rattle.rules.specs.Lists.{any, elem, snoc, sum}
-use Rattle.rules.specs.Clause.{Clause, install, requires, gated, conditionLiterals}
+use Rattle.rules.specs.Lists.{any, elem}
 use Rattle.rules.specs.Catalogue.{Catalogue}
-use Rattle.rules.specs.Candidates.{candidates}
-use Rattle.rules.specs.Items.{goalOf}
-use Rattle.rules.specs.Variables.{Origin, known, variableOf, partOrigin, partVariable}
+use Rattle.rules.specs.Variables.{Origin, known, partOrigin, partVariable}
 use Rattle.rules.specs.Opening.{trackedOf}
 use Rattle.rules.specs.Limits.{above}
 use Rattle.rules.proofs.Each.{Each, each-imp}
@@ -20,6 +17,7 @@ use Rattle.rules.proofs.Grows.{Prefix}
 use Rattle.rules.proofs.Places.{keeps-variable}
 use Rattle.state.specs.declared.Limits.{Limits}
 use Rattle.state.specs.Changed.{Changed}
+use Rattle.state.proofs.Changed.{changed-none}
 use Rattle.state.proofs.Rows.{length-rows}
 use Rattle.variable_map.specs.Mapping.{variables, Mapped}
 use Rattle.variable_map.proofs.Laws as variables
@@ -28,10 +26,11 @@ use Rattle.decision_tracker.specs.Tracking.{Kept}
 use Rattle.decision_tracker.proofs.Laws.{kept-kept}
 use Rattle.marked.specs.Marked.{listed, Marked}
 use Rattle.marked.proofs.Laws.{listed-same, marked-same}
+use Rattle.line.specs.Line.{queued}
+use Rattle.line.proofs.Line.{queued-same}
 use Rattle.entries.specs.Entries.{rowAt, waitingIn}
 use Rattle.tables.proofs.Listed.{listed-length}
-use Rattle.words.specs.Words.{words}
-use Rattle.solver.specs.Rows.{Row, rowIn, rows}
+use Rattle.solver.specs.Rows.{Row, rows}
 use Rattle.encoder.specs.declared.Counters.{Counters}
 use Rattle.encoder.specs.Held.{Reading, stateOf, openingOf, goalVariables, clauseIn, clausesIn, Sound, GoodState, GoodClauses, Good}
 use Rattle.encoder.specs.Did.{limitsOf, filled}
@@ -61,7 +60,6 @@ pub record Anew (js : List ℕ) (c : Catalogue) (l : Limits) (n n′ : Counters)
   pub tracked : Of (elem 10 js || elem 11 js) (Marked 10 11 (n′ .tracked) st′) (n′ .tracked ≡ n .tracked)
   pub counted : Of (elem 10 js || elem 12 js) ((m : ℕ) → m < 64 → getD (st′ 12) m 0 ≡ length (trackedOf c m (listed (n′ .tracked) 10 st′)))
       (n′ .tracked ≡ n .tracked)
-  pub ranges : Of (elem 14 js || elem 15 js) (Marked 14 15 0 st′) (Unit {0})
   pub literals : n′ .literals ≤ l .literals
   pub before : n′ .first ≤ n′ .tail
   pub room : n′ .tail ≤ 3649 + l .waiting
@@ -79,7 +77,6 @@ module _ {js : List ℕ} {c : Catalogue} {l : Limits} {n n′ : Counters} {st st
         named = by-parts (elem 8 js) (elem 9 js) (a .named) (λ p q e. rw e (marked-same (g .named) ch p q));
         tracked = by-parts (elem 10 js) (elem 11 js) (a .tracked) (λ p q e. rw e (marked-same (g .tracked) ch p q));
         counted = by-parts (elem 10 js) (elem 12 js) (a .counted) (λ p q e m h. rw (e, ch .same 12 q, listed-same (n .tracked) 10 ch p) (g .counted m h));
-        ranges = by-parts (elem 14 js) (elem 15 js) (a .ranges) (λ p q e. marked-same (g .ranges) ch p q);
         literals = a .literals;
         before = a .before;
         room = a .room;
@@ -95,6 +92,21 @@ module _ {js : List ℕ} {c : Catalogue} {l : Limits} {n n′ : Counters} {st st
         literals = rw (v, k, i, variables-kept ch (n .variables) p, ch .same 19 q) (g .literals);
         sound = rw (v, k, i, variables-kept ch (n .variables) p) (g .sound);
       }
+
+  -- ---- all of it, where variables, clauses and literals are as they were; `search` finds what is to be shown anew
+
+  pub good-kept : {cl wt wt′ : List ℕ} → Good c l n st cl wt → Anew js c l n n′ st′ → elem 16 js ≡ false → elem 19 js ≡ false → n′ .variables ≡ n .variables
+      → n′ .clauses ≡ n .clauses → n′ .literals ≡ n .literals → n′ .waiting + n′ .drawn ≤ l .waiting → Good c l n′ st′ cl wt′
+  good-kept g a p q v k i w = record { state = state-kept a (g .state); clauses = clauses-kept p q v k i (g .clauses); entries = w }
+
+-- ---- the state: with these and `ch .same`, under `unfolding any`, `simp` leaves what was changed
+
+module _ {js : List ℕ} {st st′ : ℕ → List ℕ} (ch : Changed js st st′) where
+  pub list-kept : (n r : ℕ) → elem r js ≡ false → listed n r st′ ≡ listed n r st
+  list-kept n r e = listed-same n r ch e
+
+  pub line-kept : (head tail : ℕ) → elem 20 js ≡ false → queued head tail st′ ≡ queued head tail st
+  line-kept head tail e = queued-same head tail ch e
 
 -- ---- more variables: what is stored names those that were there
 
@@ -126,42 +138,22 @@ module _ {vs ws : List Origin} (p : Prefix vs ws) where
     clauses-still w Each.nil = refl
     clauses-still w (Each.cons s ss) = rw (clause-still w s, clauses-still w ss)
 
--- ---- all of it
+-- ---- where it is full
 
 pub good-filled : {c : Catalogue} {l : Limits} {n : Counters} {st : ℕ → List ℕ} {cl wt : List ℕ} → Good c l n st cl wt → Good c l (filled n) st cl wt
-unfolding filled
-good-filled g =
-    let s = g .state in
-    let k = g .clauses in
-    record {
-      state = record {
-        mapped = s .mapped;
-        kept = s .kept;
-        owners = s .owners;
-        names = s .names;
-        several = s .several;
-        added = s .added;
-        named = s .named;
-        tracked = s .tracked;
-        counted = s .counted;
-        ranges = s .ranges;
-        literals = s .literals;
-        before = s .before;
-        room = s .room;
-      };
-      clauses = record { room = k .room; literals = k .literals; sound = k .sound };
-      entries = g .entries;
-    }
+unfolding filled any
+good-filled {st = st} g = good-kept (changed-none [] st) g (search) refl refl refl refl refl (g .entries)
+
+-- ---- between two steps no limit is passed
 
 pub clauses-counted : (c : Catalogue) (vs : List Origin) (w : List ℕ) (k : ℕ) (cl : List ℕ) → length (clausesIn c vs w (rows k cl)) ≡ k
 unfolding clausesIn rows
-clauses-counted c vs w k cl = length-map (rows k cl) (clauseIn c vs w) ∙ listed-length k (rowIn (words cl))
+clauses-counted c vs w k cl = rw (length-map, listed-length)
 
 pub waiting-counted : (l : Limits) (k : ℕ) (wt : List ℕ) → length (waitingIn l k wt) ≡ k
 unfolding waitingIn
 waiting-counted l k wt = length-rows (λ i. rowAt wt i) k
 
--- between two steps no limit is passed
 pub good-within : {c : Catalogue} {l : Limits} {n : Counters} {st : ℕ → List ℕ} {cl wt : List ℕ} → Good c l n st cl wt → (v : Reading)
     → above (limitsOf l) (stateOf c l v n st cl wt) ≡ false
 unfolding above limitsOf stateOf openingOf
@@ -170,7 +162,10 @@ good-within {c} {l} {n} {st} {cl} {wt} g v =
     let b : length (clausesIn c (variables (n .variables) st) (st 19) (rows (n .clauses) cl)) ≡ n .clauses = clauses-counted _ _ _ (n .clauses) cl in
     let d : length (waitingIn l (n .waiting) wt) ≡ n .waiting = waiting-counted l (n .waiting) wt in
     rw (
-      a, b, d, ← g .clauses .literals,
+      a,
+      b,
+      d,
+      ← g .clauses .literals,
       le-ltb (l .variables) (n .variables) (g .state .mapped .room),
       le-ltb (l .clauses) (n .clauses) (g .clauses .room),
       le-ltb (l .literals) (n .literals) (g .state .literals),

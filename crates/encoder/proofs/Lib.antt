@@ -1,3 +1,4 @@
-pub mod Frames
 pub mod Did
+pub mod Counted
+pub mod Frames
 pub mod Widening

@@ -1,5 +1,5 @@
 -- No step makes anything that is counted less.
-use mathlib.Core.Path.{_≡_, refl, sym, _∙_, ap}
+use mathlib.Core.Path.{_≡_}
 use mathlib.Core.Bool.{Bool, true, false}
 use mathlib.Core.List.{List, [], _∷_}
 use Prim.Native.Nat.{ℕ, _≤_}
@@ -9,7 +9,7 @@ use Rattle.rules.specs.Lists.{fold, when, unless, snoc}
 use Rattle.rules.specs.Clause.{Clause}
 use Rattle.rules.specs.Catalogue.{Owner, part, Catalogue, rangeName}
 use Rattle.rules.specs.Variables.{Origin}
-use Rattle.rules.specs.Opening.{Task, owner, name, Opening, setOwners, setNames, queue, openOwner, openName, openNames, nameForTracking, openReady}
+use Rattle.rules.specs.Opening.{Task, owner, name, Opening, queue, openOwner, openName, openNames, nameForTracking, openReady}
 use Rattle.rules.specs.State.{State, setClauses, Run}
 use Rattle.rules.proofs.ListLaws.{length-snoc}
 use Rattle.rules.proofs.Effects.{effect-is, effect-leaves}

@@ -47,12 +47,19 @@ pub record Looked (vs : List Origin) (o : Origin) (x : ℕ) : Type 0 where
   pub is : known vs o ≡ true → x ≡ variableOf vs o
   pub below : known vs o ≡ true → x < length vs
 
+-- the list at hand, of ranges or of names, and its marks are as they were
+pub record SameHand (st st′ : ℕ → List ℕ) : Type 0 where
+  pub list : st′ 14 ≡ st 14
+  pub marks : st′ 15 ≡ st 15
+
 -- From entry to exit F was done. F may look at what the run's tasks are read by.
 pub record Did (c : Catalogue) (l : Limits) (F : Reading → State → State) (n : Counters) (st : ℕ → List ℕ) (cl wt : List ℕ)
     (n′ : Counters) (st′ : ℕ → List ℕ) (cl′ wt′ : List ℕ) : Type 0 where
   pub wide : (v : Reading) (s : State) → Widens s (F v s)
   pub good : Good c l n st cl wt → Good c l n′ st′ cl′ wt′
   pub first : n′ .first ≡ n .first
+  pub hand : SameHand st st′
+  pub fewer : n′ .drawn ≡ n .drawn
   pub drawn : (k : ℕ) → drawnIn l k wt′ ≡ drawnIn l k wt
   pub stays : n .full ≡ true → n′ .full ≡ true
   pub done : Good c l n st cl wt → n .full ≡ false → n′ .full ≡ false → (v : Reading) → stateOf c l v n′ st′ cl′ wt′ ≡ F v (stateOf c l v n st cl wt)

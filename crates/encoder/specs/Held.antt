@@ -146,7 +146,6 @@ pub record GoodState (c : Catalogue) (l : Limits) (n : Counters) (st : ℕ → L
   pub named : Marked 8 9 (n .named) st
   pub tracked : Marked 10 11 (n .tracked) st
   pub counted : (m : ℕ) → m < 64 → getD (st 12) m 0 ≡ length (trackedOf c m (listed (n .tracked) 10 st))
-  pub ranges : Marked 14 15 0 st
   pub literals : n .literals ≤ l .literals
   pub before : n .first ≤ n .tail
   pub room : n .tail ≤ 3649 + l .waiting

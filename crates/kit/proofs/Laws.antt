@@ -214,7 +214,7 @@ pub cleared : (xs ys : List ℕ) → ys ≡ replicate (length xs) 0 → Zeroed x
 cleared xs ys e = record { is = e ∙ zeros xs }
 
 -- an area that has changed since, but not in length
-still-zeroed : {xs ys zs : List ℕ} → Zeroed ys zs → length ys ≡ length xs → Zeroed xs zs
+pub still-zeroed : {xs ys zs : List ℕ} → Zeroed ys zs → length ys ≡ length xs → Zeroed xs zs
 still-zeroed {xs} {ys} z e = record { is = z .is ∙ sym (zeros ys) ∙ ap (λ (n : ℕ). replicate n 0) e ∙ zeros xs }
 
 -- ---- the catalogue
@@ -245,16 +245,9 @@ module _ (z : rules.Terms) (job : List ℕ) where
   told-is (Read.Sheet at k) m u t r = ap checked (r .same .check z) ∙ stays (catalogue k m u t) at (r .ended .starts)
   told-is (Read.Refused f at) m u t r = ap checked (r .same .check z) ∙ stops (numberAndPlace (length job) at (refusalOf f)) at
 
-pub catalogue-checked : (job m u t m₁ u₁ t₁ m′ u′ t′ : List ℕ) (read : Read) (r : Answer) → ReadUp job read m₁ u₁ t₁
-    → length m₁ ≡ length m → length u₁ ≡ length u → length t₁ ≡ length t → Zeroed m₁ m′ → Zeroed u₁ u′ → Zeroed t₁ t′
-    → Gives r (toldOf (length job) read) → CatalogueChecked job r m u t m′ u′ t′
-catalogue-checked job m u t m₁ u₁ t₁ m′ u′ t′ read r x e f g a b c h =
-    record {
-      gives = λ z. rw (told-is z job read m₁ u₁ t₁ x) h;
-      marks = still-zeroed a e;
-      unions = still-zeroed b f;
-      tables = still-zeroed c g;
-    }
+pub catalogue-told : (job m u t : List ℕ) (read : Read) (r : Answer) → ReadUp job read m u t → Gives r (toldOf (length job) read)
+    → (z : rules.Terms) → Gives r (checked (walk (checkStep z job) 0 0 job (reading emptyCatalogue)))
+catalogue-told job m u t read r x g z = rw (told-is z job read m u t x) g
 
 -- ---- check, on the catalogue's three areas
 

@@ -163,7 +163,9 @@ fn check_catalogue(job: &[u8], marks: &mut [u8], unions: &mut [u8], t: &mut [u8]
         (now (marks .exit)) (now (unions .exit)) (now (t .exit)) ⌝ }
 {
     let read = catalogue::read_catalogue(job, marks, unions, t);
-    clear_three(marks, unions, t);
+    clear(marks);
+    clear(unions);
+    clear(t);
     told(job.len(), read)
 }
 

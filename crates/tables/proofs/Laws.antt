@@ -12,13 +12,18 @@ use Rattle.rules.specs.AtMostOne.{bit}
 use Rattle.rules.specs.Catalogue.{Condition, noPart, noCondition, noRequirement, noConstraint}
 use Rattle.rules.specs.Items.{partOf, ownerOf, conditionOf, goalOf}
 use Rattle.words.specs.Words.{words, length-words}
+use Rattle.requirement.specs.declared.Requirement.{Requirement}
+use Rattle.requirement.specs.declared.Requirement.the-variants.{Single}
+use Rattle.requirement.specs.declared.ConditionalRequirement.{ConditionalRequirement}
+use Rattle.requirement.specs.Requirements.{formOf, numberOf, requirementIs}
+use Rattle.requirement.specs.Requirements as goals
+use Rattle.requirement.proofs.Laws.{goal-from-parts}
 use Rattle.tables.specs.declared.Counts.{Counts}
 use Rattle.tables.specs.declared.Condition as C
-use Rattle.tables.specs.declared.ConditionalRequirement.{ConditionalRequirement}
 use Rattle.tables.specs.declared.Constraint as K
 use Rattle.tables.specs.declared.Size as S
 use Rattle.tables.specs.Tables.{Tables, Size, noSize, field, nameRow, partRow, rangeRow, conditionRow, sizeRow, requirementRow, constraintRow}
-use Rattle.tables.specs.Tables.{conditionBy, conditionFrom, sizeFrom, requirementFrom, constraintFrom, conditionIs, sizeIs, requirementIs, constraintIs}
+use Rattle.tables.specs.Tables.{conditionBy, conditionFrom, sizeFrom, requirementFrom, constraintFrom, conditionIs, sizeIs, constraintIs}
 use Rattle.tables.specs.Tables.{tablesIn, tables, Laid, Added}
 use Rattle.tables.specs.Tables.{withName, withPart, withRange, withUnion, withCondition, withRequirement, withConstraint}
 use Rattle.tables.proofs.Listed.{listed-at, listed-past, listed-length}
@@ -106,16 +111,17 @@ module _ (k : Counts) (t : List ℕ) (i : ℕ) where
   unfolding tables tablesIn sizeIs sizeFrom
   size-past h = sym (listed-past (k .conditions) (sizeRow (words t)) i noSize h)
 
-  pub requirement-in : (o f n c : ℕ) → i < k .requirements
+  pub requirement-in : (o f n c : ℕ) (g : Requirement) → i < k .requirements
       → o ≡ number (13572 + 6 * i) → f ≡ number (13572 + 6 * i + 1) → n ≡ number (13572 + 6 * i + 2) → c ≡ number (13572 + 6 * i + 3)
-      → requirementIs (record { owner = o; form = f; number = n; condition = c }) ≡ getD (tables k t .requirements) i noRequirement
-  unfolding tables tablesIn requirementIs requirementRow field
-  requirement-in o f n c h e₀ e₁ e₂ e₃ =
-      rw (listed-at (k .requirements) (requirementRow (words t)) i noRequirement h, add-zero (13572 + 6 * i), e₀, e₁, e₂, e₃)
+      → goals.goalOf g ≡ goalOf f n
+      → requirementIs (record { owner = o; requirement = g; condition = c }) ≡ getD (tables k t .requirements) i noRequirement
+  unfolding tables tablesIn requirementIs requirementRow requirementFrom field
+  requirement-in o f n c g h e₀ e₁ e₂ e₃ e =
+      rw (listed-at (k .requirements) (requirementRow (words t)) i noRequirement h, add-zero (13572 + 6 * i), e, e₀, e₁, e₂, e₃)
 
   pub requirement-past : k .requirements ≤ i
-      → requirementIs (record { owner = 65535; form = 0; number = 0; condition = 65535 }) ≡ getD (tables k t .requirements) i noRequirement
-  unfolding tables tablesIn requirementIs requirementFrom ownerOf goalOf conditionOf
+      → requirementIs (record { owner = 65535; requirement = Single 0; condition = 65535 }) ≡ getD (tables k t .requirements) i noRequirement
+  unfolding tables tablesIn requirementIs ownerOf goals.goalOf conditionOf
   requirement-past h = sym (listed-past (k .requirements) (requirementRow (words t)) i noRequirement h)
 
   pub constraint-in : (o r : ℕ) → i < k .constraints
@@ -197,18 +203,23 @@ condition-added k t t₁ t₂ t₃ t₄ c z l h e₁ e₂ e₃ e₄ =
     let b = stored-begins 12036 6 (k .conditions) s refl (omega (arith, length-words t)) in
     added withBoth k (moreConditions k) t t₄ s (search needs) (search needs) refl (one-condition k (words t₄)) (rw (condition-from b, size-from b))
 
-pub requirement-added : (k : Counts) (t t₁ t₂ t₃ t₄ : List ℕ) (q : ConditionalRequirement) → Laid k (length t) → k .requirements < 1024
+requirement-numbers : (q : ConditionalRequirement)
+    → requirementFrom (q .owner) (formOf (goals.goalOf (q .requirement))) (numberOf (goals.goalOf (q .requirement))) (q .condition) ≡ requirementIs q
+unfolding requirementFrom requirementIs
+requirement-numbers q = rw (goal-from-parts (goals.goalOf (q .requirement)))
+
+pub requirement-added : (k : Counts) (t t₁ t₂ t₃ t₄ : List ℕ) (q : ConditionalRequirement) (f n : ℕ) → Laid k (length t) → k .requirements < 1024
+    → f ≡ formOf (goals.goalOf (q .requirement)) → n ≡ numberOf (goals.goalOf (q .requirement))
     → words t₁ ≡ set (words t) (13572 + 6 * k .requirements) (q .owner)
-    → words t₂ ≡ set (words t₁) (13572 + 6 * k .requirements + 1) (q .form)
-    → words t₃ ≡ set (words t₂) (13572 + 6 * k .requirements + 2) (q .number)
+    → words t₂ ≡ set (words t₁) (13572 + 6 * k .requirements + 1) f
+    → words t₃ ≡ set (words t₂) (13572 + 6 * k .requirements + 2) n
     → words t₄ ≡ set (words t₃) (13572 + 6 * k .requirements + 3) (q .condition)
     → Added k (moreRequirements k) t₄ (withRequirement (tables k t) (requirementIs q))
-unfolding requirementIs
-requirement-added k t t₁ t₂ t₃ t₄ q l h e₁ e₂ e₃ e₄ =
-    let s : Stored (words t) (13572 + 6 * k .requirements) (q .owner ∷ q .form ∷ q .number ∷ q .condition ∷ []) (words t₄) =
+requirement-added k t t₁ t₂ t₃ t₄ q f n l h e e′ e₁ e₂ e₃ e₄ =
+    let s : Stored (words t) (13572 + 6 * k .requirements) (q .owner ∷ f ∷ n ∷ q .condition ∷ []) (words t₄) =
     then (then (then (first _ e₁) _ e₂) _ e₃) _ e₄ in
     added withRequirement k (moreRequirements k) t t₄ s (search needs) (search needs) refl (one-requirement k (words t₄))
-    (requirement-from (stored-begins 13572 6 (k .requirements) s refl (omega (arith, length-words t))))
+    (requirement-from (stored-begins 13572 6 (k .requirements) s refl (omega (arith, length-words t))) ∙ rw (e, e′, requirement-numbers q))
 
 pub constraint-added : (k : Counts) (t t₁ t₂ : List ℕ) (c : K.Constraint) → Laid k (length t) → k .constraints < 512
     → words t₁ ≡ set (words t) (19716 + 3 * k .constraints) (c .owner)

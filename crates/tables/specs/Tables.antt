@@ -12,7 +12,6 @@ use Rattle.rules.specs.Items.{ownerOf, conditionOf, goalOf, operatorOf, partOf}
 use Rattle.words.specs.Words.{words}
 use Rattle.tables.specs.declared.Counts.{Counts}
 use Rattle.tables.specs.declared.Condition as C
-use Rattle.tables.specs.declared.ConditionalRequirement.{ConditionalRequirement}
 use Rattle.tables.specs.declared.Constraint as K
 use Rattle.tables.specs.declared.Size as S
 
@@ -117,9 +116,6 @@ conditionIs c = conditionFrom (c .operator) (c .left) (c .right)
 
 unfoldable pub sizeIs : S.Size → Size
 sizeIs z = sizeFrom (z .count) (z .longest)
-
-unfoldable pub requirementIs : ConditionalRequirement → Requirement
-requirementIs q = requirementFrom (q .owner) (q .form) (q .number) (q .condition)
 
 unfoldable pub constraintIs : K.Constraint → Constraint
 constraintIs c = constraintFrom (c .owner) (c .range)

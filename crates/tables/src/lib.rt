@@ -1,5 +1,7 @@
 // The catalogue's tables in one lent area of bytes: reading a row, and writing one row more.
 // A number past a table's end reads as nothing, as in the definitions.
+use requirement::ConditionalRequirement;
+use requirement::Requirement;
 ghost use mathlib.Core.Path.{_≡_};
 ghost use Prim.Native.Nat.{_+_, _*_, _/_, _%_, _<_, _≤_};
 ghost use lib.Dec.{eqb};
@@ -9,12 +11,12 @@ ghost use Rattle.rules.specs.AtMostOne.{bit};
 ghost use Rattle.rules.specs.Catalogue.{noPart, noCondition, noRequirement, noConstraint};
 ghost use Rattle.rules.specs.Items.{partOf};
 ghost use Rattle.words.specs.Words.{words};
+ghost use Rattle.requirement.specs.Requirements.{requirementIs};
 ghost use Rattle.tables.specs.Tables.{
     tables,
     conditionIs,
     sizeIs,
     noSize,
-    requirementIs,
     constraintIs,
     withName,
     withPart,
@@ -50,14 +52,6 @@ pub struct Condition {
 pub struct Size {
     pub count: u16,
     pub longest: u16,
-}
-
-// A requirement with its condition: the owner (65,535 the root), the form (0 range, 1 union) and number, the condition (65,535 none).
-pub struct ConditionalRequirement {
-    pub owner: u16,
-    pub form: u16,
-    pub number: u16,
-    pub condition: u16,
 }
 
 pub struct Constraint {
@@ -184,9 +178,10 @@ pub fn requirement_at(t: &[u8], k: Counts, q: usize) -> ConditionalRequirement
         let form = words::get(t, at + 1);
         let number = words::get(t, at + 2);
         let condition = words::get(t, at + 3);
-        ConditionalRequirement { owner, form, number, condition }
+        let requirement = Requirement::from_parts(form, number);
+        ConditionalRequirement { owner, requirement, condition }
     } else {
-        ConditionalRequirement { owner: 65535, form: 0, number: 0, condition: 65535 }
+        ConditionalRequirement { owner: 65535, requirement: Requirement::Single(0), condition: 65535 }
     }
 }
 
@@ -284,9 +279,10 @@ pub fn put_requirement(t: &mut [u8], k: Counts, q: ConditionalRequirement) -> Co
     ensures { λ r. ⌜ Added k r (now (t .exit)) (withRequirement (tables k (now (t .entry))) (requirementIs q)) ⌝ }
 {
     let at = 13572 + 6 * k.requirements;
+    let goal = q.requirement;
     words::put(t, at, q.owner);
-    words::put(t, at + 1, q.form);
-    words::put(t, at + 2, q.number);
+    words::put(t, at + 1, goal.form());
+    words::put(t, at + 2, goal.number());
     words::put(t, at + 3, q.condition);
     let mut more = k;
     more.requirements = k.requirements + 1;

@@ -5,8 +5,8 @@ ghost use mathlib.Core.Bool.{true};
 ghost use Prim.Native.Nat.{_+_, _*_, _<_, _≤_};
 ghost use lib.ListN.{length, getD};
 ghost use Rattle.rules.specs.Lists.{snoc};
-ghost use Rattle.rules.specs.Catalogue.{root};
-ghost use Rattle.rules.specs.Variables.{chosen};
+ghost use Rattle.rules.specs.Catalogue.{root, range, union};
+ghost use Rattle.rules.specs.Variables.{chosen, forbid, one, violation, gate, partOrigin};
 ghost use Rattle.rules.specs.State as rules;
 ghost use Rattle.state.specs.Layout.{held, Fits};
 ghost use Rattle.state.specs.Changed.{Blank};
@@ -23,6 +23,55 @@ pub struct Origin {
 pub enum Named {
     Variable { count: usize, variable: u16 },
     Full,
+}
+
+// The root's.
+pub fn root() -> Origin
+    ensures { λ o. ⌜ originOf o ≡ chosen root ⌝ }
+{
+    Origin { kind: 0, number: 0, bit: 0 }
+}
+
+// Part p's.
+pub fn part(p: u16) -> Origin
+    ensures { λ o. ⌜ originOf o ≡ partOrigin p ⌝ }
+{
+    Origin { kind: 1, number: p, bit: 0 }
+}
+
+// Helper j of a name.
+pub fn helper(name: u16, j: u16) -> Origin
+    ensures { λ o. ⌜ originOf o ≡ forbid name j ⌝ }
+{
+    Origin { kind: 2, number: name, bit: j }
+}
+
+// One-of-name.
+pub fn one(name: u16) -> Origin
+    ensures { λ o. ⌜ originOf o ≡ one name ⌝ }
+{
+    Origin { kind: 3, number: name, bit: 0 }
+}
+
+// The violation of a range.
+pub fn violation(range: u16) -> Origin
+    ensures { λ o. ⌜ originOf o ≡ violation range ⌝ }
+{
+    Origin { kind: 4, number: range, bit: 0 }
+}
+
+// The gate of a range.
+pub fn range_gate(number: u16) -> Origin
+    ensures { λ o. ⌜ originOf o ≡ gate (range number) ⌝ }
+{
+    Origin { kind: 5, number, bit: 0 }
+}
+
+// The gate of a union.
+pub fn union_gate(number: u16) -> Origin
+    ensures { λ o. ⌜ originOf o ≡ gate (union number) ⌝ }
+{
+    Origin { kind: 6, number, bit: 0 }
 }
 
 pub fn slot(o: Origin) -> usize

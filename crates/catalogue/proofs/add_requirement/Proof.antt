@@ -43,6 +43,9 @@ same-length c = search needs
 returns-7 : tie.Need-returns-7
 returns-7 c = search (needs, requirement-unknown)
 
+from-parts-requires : tie.Need-from-parts-requires
+from-parts-requires c κs = search needs
+
 put-requirement-requires : tie.Need-put-requirement-requires
 put-requirement-requires c κs = search needs
 
@@ -69,6 +72,7 @@ add-requirement-spec =
     owner-unknown-requires
     same-length
     returns-7
+    from-parts-requires
     put-requirement-requires
     same-length-2
     returns-8)

@@ -16,11 +16,17 @@ put-requires c κs = search needs
 add-put : tie.Need-add-put
 add-put c = search needs
 
+form-requires : tie.Need-form-requires
+form-requires c κs = search needs
+
 put-requires-2 : tie.Need-put-requires-2
 put-requires-2 c κs = search needs
 
 add-put-2 : tie.Need-add-put-2
 add-put-2 c = search needs
+
+number-requires : tie.Need-number-requires
+number-requires c κs = search needs
 
 put-requires-3 : tie.Need-put-requires-3
 put-requires-3 c κs = search needs
@@ -48,8 +54,10 @@ put-requirement-spec =
     add-at
     put-requires
     add-put
+    form-requires
     put-requires-2
     add-put-2
+    number-requires
     put-requires-3
     add-put-3
     put-requires-4

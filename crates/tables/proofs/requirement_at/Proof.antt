@@ -31,6 +31,9 @@ add-get-3 c = search needs
 get-requires-4 : tie.Need-get-requires-4
 get-requires-4 c κs = search needs
 
+from-parts-requires : tie.Need-from-parts-requires
+from-parts-requires c κs = search needs
+
 returns : tie.Need-returns
 returns c = search (needs, requirement-in)
 
@@ -50,5 +53,6 @@ requirement-at-spec =
     get-requires-3
     add-get-3
     get-requires-4
+    from-parts-requires
     returns
     returns-2)

@@ -1,0 +1,50 @@
+-- The distinct ranges of a goal as the list at hand, and what is decided of parts.
+use mathlib.Core.Path.{_≡_}
+use mathlib.Core.Bool.{Bool, true, _&&_, cond}
+use mathlib.Core.List.{List, [], _∷_}
+use Prim.Native.Nat.{ℕ, _<_}
+use Rattle.rules.specs.Lists.{elem, snoc, distinct}
+use Rattle.rules.specs.Catalogue.{Goal, Catalogue}
+use Rattle.rules.specs.Candidates.{goalRanges}
+use Rattle.rules.specs.Variables.{Origin, known, partOrigin, partVariable}
+use Rattle.rules.specs.Decisions.{Decision, isTrue, isFalse}
+use Rattle.rules.proofs.Each.{Each}
+use Rattle.rules.proofs.WellFormed.{WellFormed}
+use Rattle.tables.specs.declared.Counts.{Counts}
+use Rattle.cache.specs.Areas.{catalogue}
+use Rattle.catalogue.specs.Reading.{Kept}
+use Rattle.state.specs.Changed.{Changed}
+use Rattle.marked.specs.Marked.{listed, Marked}
+
+-- the areas hold a catalogue in which every number names something given
+pub record Catalogued (k : Counts) (m u t : List ℕ) : Type 0 where
+  pub kept : Kept k m u t
+  pub formed : WellFormed (catalogue k m u t)
+
+-- one number more, unless it is there: a step of `distinct`
+unfoldable pub noted : ℕ → List ℕ → List ℕ
+noted x xs = cond (elem x xs) xs (snoc xs x)
+
+-- the list at hand has r numbers now, those before and x
+pub record Notes (x m : ℕ) (st : ℕ → List ℕ) (r : ℕ) (st′ : ℕ → List ℕ) : Type 0 where
+  pub marked : Marked 14 15 r st′
+  pub is : listed r 14 st′ ≡ noted x (listed m 14 st)
+  pub others : Changed (14 ∷ 15 ∷ []) st st′
+
+-- the list at hand is xs
+pub record Gathers (xs : List ℕ) (st : ℕ → List ℕ) (r : ℕ) (st′ : ℕ → List ℕ) : Type 0 where
+  pub marked : Marked 14 15 r st′
+  pub is : listed r 14 st′ ≡ xs
+  pub others : Changed (14 ∷ 15 ∷ []) st st′
+
+-- part p has a variable that is decided true: the rules' `decidedTrue` of a state with these variables and decisions
+unfoldable pub trueOf : List Origin → List Decision → ℕ → Bool
+trueOf vs ds p = known vs (partOrigin p) && isTrue ds (partVariable vs p)
+
+-- its variable is decided false
+unfoldable pub falseOf : List Origin → List Decision → ℕ → Bool
+falseOf vs ds p = isFalse ds (partVariable vs p)
+
+-- each of these parts has a variable
+pub record AllKnown (vs : List Origin) (ps : List ℕ) : Type 0 where
+  pub known : Each (λ p. known vs (partOrigin p) ≡ true) ps
