@@ -1,0 +1,4 @@
+pub mod Storing
+pub mod Setting
+pub mod Adding
+pub mod Added

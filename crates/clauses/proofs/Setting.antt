@@ -1,0 +1,159 @@
+-- What the decisions say of a variable; and the last clause sets a literal.
+use mathlib.Core.Path.{_≡_, refl, sym, _∙_, ap}
+use mathlib.Core.Bool.{Bool, true, false}
+use mathlib.Core.List.{List, [], _∷_}
+use mathlib.Core.Option.{some}
+use Prim.Native.Nat.{ℕ, _+_, _-_, _<_, _≤_}
+use native.Mathlib.Omega.{arith}
+use lib.ListN.{length}
+use Rattle.rules.specs.Lists.{any, snoc, when}
+use Rattle.rules.specs.Literal.{Literal, pos}
+use Rattle.rules.specs.Catalogue.{Catalogue}
+use Rattle.rules.specs.Decisions.{Decision, evaluate, isUndecided, isTrue, isFalse}
+use Rattle.rules.specs.State.{State, Run, force}
+use Rattle.rules.proofs.Effects.{forced}
+use Rattle.rules.proofs.Grows.{whole}
+use Rattle.clause.specs.declared.Literal as code
+use Rattle.clause.specs.declared.Value.{Value}
+use Rattle.clause.specs.declared.Value.the-variants as values
+use Rattle.clause.specs.Literals.{literalOf}
+use Rattle.state.specs.declared.Limits.{Limits}
+use Rattle.variable_map.proofs.Laws.{variables-kept}
+use Rattle.decision_tracker.specs.declared.Decision as tracker
+use Rattle.decision_tracker.specs.Tracking.{clauseBy, decisionBy, decisionOf, decisions, seen, saysUndecided, Kept, Free, Told}
+use Rattle.decision_tracker.proofs.Laws.{clause-some, literal-free}
+use Rattle.decision_tracker.proofs.Values.{undecided-seen, falsified-seen, satisfied-seen, reads-undecided}
+use Rattle.marked.proofs.Laws.{listed-same}
+use Rattle.line.proofs.Line.{queued-same}
+use Rattle.encoder.specs.declared.Counters.{Counters}
+use Rattle.encoder.specs.declared.Run as encoder
+use Rattle.encoder.specs.Held.{runOf, Reading, openingOf, stateOf, Good}
+use Rattle.encoder.specs.Did.{Widens}
+use Rattle.encoder.proofs.Frames.{state-kept, clauses-kept}
+use Rattle.encoder.proofs.Did.{widens-same, did-idle, did-made}
+use Rattle.encoder.proofs.Widening.{widens-when}
+use Rattle.clauses.specs.Adding.{Forces}
+
+-- ---- a variable's value
+
+module _ (ds : List Decision) (x : ℕ) {v : Value} (e : v ≡ seen (evaluate ds (pos x))) where
+  pub true-undecided : v ≡ values.Undecided → false ≡ isTrue ds x
+  unfolding isTrue
+  true-undecided q = rw (satisfied-seen, ← e, q)
+
+  pub true-false : v ≡ values.False → false ≡ isTrue ds x
+  unfolding isTrue
+  true-false q = rw (satisfied-seen, ← e, q)
+
+  pub true-true : v ≡ values.True → true ≡ isTrue ds x
+  unfolding isTrue
+  true-true q = rw (satisfied-seen, ← e, q)
+
+  pub false-undecided : v ≡ values.Undecided → false ≡ isFalse ds x
+  unfolding isFalse
+  false-undecided q = rw (falsified-seen, ← e, q)
+
+  pub false-false : v ≡ values.False → true ≡ isFalse ds x
+  unfolding isFalse
+  false-false q = rw (falsified-seen, ← e, q)
+
+  pub false-true : v ≡ values.True → false ≡ isFalse ds x
+  unfolding isFalse
+  false-true q = rw (falsified-seen, ← e, q)
+
+-- ---- a literal is set
+
+pub force-widens : (r : Run) (i : ℕ) (x : Literal) (s : State) → Widens s (force r i x s)
+unfolding force
+force-widens r i x s =
+    widens-when _ _ (λ u. record { grows = record { variables = whole; clauses = whole; waiting = whole }; line = omega arith; several = omega arith }) s
+
+-- counters with another number of decisions
+abbrev pub deciding : ℕ → Counters → Counters
+deciding x n =
+    record {
+      variables = n .variables;
+      clauses = n .clauses;
+      literals = n .literals;
+      decisions = x;
+      owners = n .owners;
+      names = n .names;
+      several = n .several;
+      added = n .added;
+      named = n .named;
+      tracked = n .tracked;
+      waiting = n .waiting;
+      drawn = n .drawn;
+      first = n .first;
+      tail = n .tail;
+      runs = n .runs;
+      full = n .full;
+    }
+
+pub force-free : {l : Limits} {d y : ℕ} {st : ℕ → List ℕ} {v : Value} (x : code.Literal) → Kept l d st → y ≡ (literalOf x) .variable
+    → (literalOf x) .variable < l .variables → v ≡ seen (evaluate (decisions d st) (literalOf x)) → v ≡ values.Undecided → Free l d y st
+force-free x k e h f q = literal-free (literalOf x) k e (rw e h) f q
+
+abbrev pub newDecision : (x : ℕ) (b : Bool) (level clause : ℕ) → tracker.Decision
+newDecision x b level clause = record { variable = x; value = b; level = level; clause = clause }
+
+module _ (l : Limits) (r : encoder.Run) (n : Counters) (x : code.Literal) (st : ℕ → List ℕ) {v : Value}
+    (e : v ≡ seen (evaluate (decisions (n .decisions) st) (literalOf x))) where
+  force-idle : saysUndecided v ≡ false → Forces l r x n st n st
+  force-idle q = record { is = λ c cl wt. did-idle (λ w s. force-widens _ _ _ s) (λ g _ w. idle c cl wt w) }
+    where
+      idle : (c : Catalogue) (cl wt : List ℕ) (w : Reading)
+          → force (runOf r) (n .clauses - 1) (literalOf x) (stateOf c l w n st cl wt) ≡ stateOf c l w n st cl wt
+      idle c cl wt w = unfold force when stateOf in rw (undecided-seen, ← e, q)
+
+  module _ (q : v ≡ values.Undecided) {y : ℕ} {b : Bool} (ey : y ≡ (literalOf x) .variable) (eb : b ≡ (literalOf x) .positive) (h : 0 < n .clauses) where
+    new-is : decisionOf (newDecision y b (r .level) (n .clauses)) ≡ forced (runOf r) (n .clauses - 1) (literalOf x)
+    unfolding decisionOf decisionBy runOf
+    new-is =
+        let p : n .clauses ≡ n .clauses - 1 + 1 = omega arith in
+        let k : clauseBy (n .clauses) ≡ some (n .clauses - 1) = ap clauseBy p ∙ clause-some (n .clauses - 1) in
+        rw (ey, eb, k)
+
+    module _ (count : ℕ) (st′ : ℕ → List ℕ) (t : Told l count (snoc (decisions (n .decisions) st) (decisionOf (newDecision y b (r .level) (n .clauses)))) st st′)
+        (c : Catalogue) (cl wt : List ℕ) where
+      force-state : (w : Reading) → stateOf c l w (deciding count n) st′ cl wt ≡ force (runOf r) (n .clauses - 1) (literalOf x) (stateOf c l w n st cl wt)
+      unfolding stateOf openingOf force when any
+      force-state w =
+          let ch = t .rest in
+          rw (
+            t .is, new-is, reads-undecided (decisions (n .decisions) st) (literalOf x) v e q,
+            listed-same (n .owners) 1 ch refl, listed-same (n .names) 3 ch refl, listed-same (n .several) 5 ch refl, listed-same (n .added) 6 ch refl,
+            listed-same (n .named) 8 ch refl, listed-same (n .tracked) 10 ch refl, queued-same (n .first) (n .tail) ch refl,
+            variables-kept ch (n .variables) refl, ch .same 19 refl,
+          )
+
+      force-good : Good c l n st cl wt → Good c l (deciding count n) st′ cl wt
+      unfolding any
+      force-good g =
+          let s = g .state in
+          record {
+            state = state-kept (t .rest)
+                (record {
+                  mapped = refl; kept = t .kept; owners = refl; names = refl; several = s .several; added = refl; named = refl; tracked = refl; counted = refl;
+                  ranges = tt; literals = s .literals; before = s .before; room = s .room;
+                }) s;
+            clauses = clauses-kept (t .rest) refl refl refl refl refl (g .clauses);
+            entries = g .entries;
+          }
+
+module _ {l : Limits} {r : encoder.Run} {n : Counters} {x : code.Literal} {st : ℕ → List ℕ} {v : Value}
+    (e : v ≡ seen (evaluate (decisions (n .decisions) st) (literalOf x))) where
+  pub force-false : v ≡ values.False → Forces l r x n st n st
+  force-false q = force-idle l r n x _ e (ap saysUndecided q)
+
+  pub force-true : v ≡ values.True → Forces l r x n st n st
+  force-true q = force-idle l r n x _ e (ap saysUndecided q)
+
+  pub force-sets : v ≡ values.Undecided → {y : ℕ} {b : Bool} → y ≡ (literalOf x) .variable → b ≡ (literalOf x) .positive → 0 < n .clauses
+      → {count : ℕ} {st′ : ℕ → List ℕ} → Told l count (snoc (decisions (n .decisions) st) (decisionOf (newDecision y b (r .level) (n .clauses)))) st st′
+      → Forces l r x n st (deciding count n) st′
+  force-sets q ey eb h t =
+      record {
+        is = λ c cl wt. did-made (λ w s. force-widens _ _ _ s) refl refl (λ i. refl) (force-good l r n x _ e q ey eb h _ _ t c cl wt)
+            (λ g. force-state l r n x _ e q ey eb h _ _ t c cl wt);
+      }
