@@ -53,6 +53,8 @@ did-part {l = l} {n = n} d f w =
       wide = λ v s. widens-then (d .wide v s) (w v s);
       good = d .good;
       first = d .first;
+      hand = d .hand;
+      fewer = d .fewer;
       drawn = d .drawn;
       stays = d .stays;
       done = λ g e e′ v. absurd (true≢false (sym f ∙ e′));

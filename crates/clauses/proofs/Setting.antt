@@ -1,4 +1,4 @@
--- What the decisions say of a variable; and the last clause sets a literal.
+-- The last clause sets a literal.
 use mathlib.Core.Path.{_≡_, refl, sym, _∙_, ap}
 use mathlib.Core.Bool.{Bool, true, false}
 use mathlib.Core.List.{List, [], _∷_}
@@ -7,9 +7,9 @@ use Prim.Native.Nat.{ℕ, _+_, _-_, _<_, _≤_}
 use native.Mathlib.Omega.{arith}
 use lib.ListN.{length}
 use Rattle.rules.specs.Lists.{any, snoc, when}
-use Rattle.rules.specs.Literal.{Literal, pos}
+use Rattle.rules.specs.Literal.{Literal}
 use Rattle.rules.specs.Catalogue.{Catalogue}
-use Rattle.rules.specs.Decisions.{Decision, evaluate, isUndecided, isTrue, isFalse}
+use Rattle.rules.specs.Decisions.{evaluate}
 use Rattle.rules.specs.State.{State, Run, force}
 use Rattle.rules.proofs.Effects.{forced}
 use Rattle.rules.proofs.Grows.{whole}
@@ -22,44 +22,15 @@ use Rattle.variable_map.proofs.Laws.{variables-kept}
 use Rattle.decision_tracker.specs.declared.Decision as tracker
 use Rattle.decision_tracker.specs.Tracking.{clauseBy, decisionBy, decisionOf, decisions, seen, saysUndecided, Kept, Free, Told}
 use Rattle.decision_tracker.proofs.Laws.{clause-some, literal-free}
-use Rattle.decision_tracker.proofs.Values.{undecided-seen, falsified-seen, satisfied-seen, reads-undecided}
-use Rattle.marked.proofs.Laws.{listed-same}
-use Rattle.line.proofs.Line.{queued-same}
+use Rattle.decision_tracker.proofs.Values.{undecided-seen, reads-undecided}
 use Rattle.encoder.specs.declared.Counters.{Counters}
 use Rattle.encoder.specs.declared.Run as encoder
 use Rattle.encoder.specs.Held.{runOf, Reading, openingOf, stateOf, Good}
 use Rattle.encoder.specs.Did.{Widens}
-use Rattle.encoder.proofs.Frames.{state-kept, clauses-kept}
-use Rattle.encoder.proofs.Did.{widens-same, did-idle, did-made}
+use Rattle.encoder.proofs.Frames.{good-kept, list-kept, line-kept}
+use Rattle.encoder.proofs.Did.{did-idle, did-made, hand-kept}
 use Rattle.encoder.proofs.Widening.{widens-when}
 use Rattle.clauses.specs.Adding.{Forces}
-
--- ---- a variable's value
-
-module _ (ds : List Decision) (x : ℕ) {v : Value} (e : v ≡ seen (evaluate ds (pos x))) where
-  pub true-undecided : v ≡ values.Undecided → false ≡ isTrue ds x
-  unfolding isTrue
-  true-undecided q = rw (satisfied-seen, ← e, q)
-
-  pub true-false : v ≡ values.False → false ≡ isTrue ds x
-  unfolding isTrue
-  true-false q = rw (satisfied-seen, ← e, q)
-
-  pub true-true : v ≡ values.True → true ≡ isTrue ds x
-  unfolding isTrue
-  true-true q = rw (satisfied-seen, ← e, q)
-
-  pub false-undecided : v ≡ values.Undecided → false ≡ isFalse ds x
-  unfolding isFalse
-  false-undecided q = rw (falsified-seen, ← e, q)
-
-  pub false-false : v ≡ values.False → true ≡ isFalse ds x
-  unfolding isFalse
-  false-false q = rw (falsified-seen, ← e, q)
-
-  pub false-true : v ≡ values.True → false ≡ isFalse ds x
-  unfolding isFalse
-  false-true q = rw (falsified-seen, ← e, q)
 
 -- ---- a literal is set
 
@@ -120,26 +91,12 @@ module _ (l : Limits) (r : encoder.Run) (n : Counters) (x : code.Literal) (st : 
       unfolding stateOf openingOf force when any
       force-state w =
           let ch = t .rest in
-          rw (
-            t .is, new-is, reads-undecided (decisions (n .decisions) st) (literalOf x) v e q,
-            listed-same (n .owners) 1 ch refl, listed-same (n .names) 3 ch refl, listed-same (n .several) 5 ch refl, listed-same (n .added) 6 ch refl,
-            listed-same (n .named) 8 ch refl, listed-same (n .tracked) 10 ch refl, queued-same (n .first) (n .tail) ch refl,
-            variables-kept ch (n .variables) refl, ch .same 19 refl,
-          )
+          let u = reads-undecided (decisions (n .decisions) st) (literalOf x) v e q in
+          simp (t .is, new-is, u, list-kept ch, line-kept ch, variables-kept ch, ch .same)
 
       force-good : Good c l n st cl wt → Good c l (deciding count n) st′ cl wt
       unfolding any
-      force-good g =
-          let s = g .state in
-          record {
-            state = state-kept (t .rest)
-                (record {
-                  mapped = refl; kept = t .kept; owners = refl; names = refl; several = s .several; added = refl; named = refl; tracked = refl; counted = refl;
-                  ranges = tt; literals = s .literals; before = s .before; room = s .room;
-                }) s;
-            clauses = clauses-kept (t .rest) refl refl refl refl refl (g .clauses);
-            entries = g .entries;
-          }
+      force-good g = good-kept (t .rest) g (search) refl refl refl refl refl (g .entries)
 
 module _ {l : Limits} {r : encoder.Run} {n : Counters} {x : code.Literal} {st : ℕ → List ℕ} {v : Value}
     (e : v ≡ seen (evaluate (decisions (n .decisions) st) (literalOf x))) where
@@ -154,6 +111,6 @@ module _ {l : Limits} {r : encoder.Run} {n : Counters} {x : code.Literal} {st : 
       → Forces l r x n st (deciding count n) st′
   force-sets q ey eb h t =
       record {
-        is = λ c cl wt. did-made (λ w s. force-widens _ _ _ s) refl refl (λ i. refl) (force-good l r n x _ e q ey eb h _ _ t c cl wt)
+        is = λ c cl wt. did-made (λ w s. force-widens _ _ _ s) refl (unfold any in hand-kept (t .rest) refl refl) refl refl (λ i. refl) (force-good l r n x _ e q ey eb h _ _ t c cl wt)
             (λ g. force-state l r n x _ e q ey eb h _ _ t c cl wt);
       }

@@ -27,7 +27,7 @@ use Rattle.encoder.specs.declared.Counters.{Counters}
 use Rattle.encoder.specs.Held.{Reading, conflictIf, conflictsFrom, clauseIn, clausesIn, openingOf, stateOf, Sound, Good}
 use Rattle.encoder.specs.Did.{limitsOf, roomOf, beyond, Widens, filled}
 use Rattle.encoder.proofs.Frames.{state-kept, clauses-counted}
-use Rattle.encoder.proofs.Did.{did-full, did-filled, did-made}
+use Rattle.encoder.proofs.Did.{did-full, did-filled, did-made, hand-same}
 use Rattle.clauses.specs.Adding.{withClause, Fitting, Stores}
 
 map-snoc : {A B : Type 0} (f : A → B) (xs : List A) (x : A) → map f (snoc xs x) ≡ snoc (map f xs) (f x)
@@ -105,13 +105,9 @@ module _ (l : Limits) (n : Counters) (row : Stored) (cl : List ℕ) where
     store-good : count ≤ l .clauses → Fitting c l n st row → Good c l n st cl wt → Good c l (counting count (n .literals + row .count) n) st cl′ wt
     unfolding any
     store-good h f g =
-        let s = g .state in
+        let room = f .room in
         record {
-          state = state-kept (changed-none [] st)
-              (record {
-                mapped = refl; kept = refl; owners = refl; names = refl; several = s .several; added = refl; named = refl; tracked = refl; counted = refl;
-                ranges = tt; literals = f .room; before = s .before; room = s .room;
-              }) s;
+          state = state-kept (changed-none [] st) (search) (g .state);
           clauses = record {
             room = h;
             literals = rw (e, literals-more c (variables (n .variables) st) (st 19) (rows (n .clauses) cl) (rowOf row), ← g .clauses .literals, f .counted);
@@ -147,5 +143,5 @@ module _ {l : Limits} {n : Counters} {row : Stored} {cl : List ℕ} where
         decisions = refl;
         room = omega arith;
         count = λ f. k;
-        is = λ c st wt p. did-made (λ v s. withClause-widens _ _ s) refl refl (λ i. refl) (store-good l n row cl _ _ e c st wt (omega arith) p) (λ g. store-state l n row cl _ _ e c st wt);
+        is = λ c st wt p. did-made (λ v s. withClause-widens _ _ s) refl hand-same refl refl (λ i. refl) (store-good l n row cl _ _ e c st wt (omega arith) p) (λ g. store-state l n row cl _ _ e c st wt);
       }

@@ -18,32 +18,6 @@ ghost use Rattle.state.specs.Layout.{held, Fits};
 ghost use Rattle.decision_tracker.specs.Tracking.{decisions, Kept};
 ghost use Rattle.clauses.specs.Adding.{reasonFor, pairOf, CanAdd, Stores, CanForce, Forces, Sets, Adds, outcomeIn, asConflict, CanPair, AddsPair, AddsRequires, AddsGated};
 
-// ---- what the decisions say
-
-fn is_true(s: &[u8], l: Limits, n: Counters, x: u16) -> bool
-    requires { ⌜ Fits l (length (now s)) ⌝ }
-    requires { ⌜ Kept l (n .decisions) (held l (now s)) ⌝ }
-    ensures { λ b. ⌜ b ≡ isTrue (decisions (n .decisions) (held l (now (s .entry)))) x ⌝ }
-{
-    match decision_tracker::value(s, l, n.decisions, x as usize) {
-        Value::Undecided => false,
-        Value::False => false,
-        Value::True => true,
-    }
-}
-
-fn is_false(s: &[u8], l: Limits, n: Counters, x: u16) -> bool
-    requires { ⌜ Fits l (length (now s)) ⌝ }
-    requires { ⌜ Kept l (n .decisions) (held l (now s)) ⌝ }
-    ensures { λ b. ⌜ b ≡ isFalse (decisions (n .decisions) (held l (now (s .entry)))) x ⌝ }
-{
-    match decision_tracker::value(s, l, n.decisions, x as usize) {
-        Value::Undecided => false,
-        Value::False => true,
-        Value::True => false,
-    }
-}
-
 // ---- storing and setting
 
 // The run's number if the clause is a conflict, and else 0.
@@ -135,7 +109,7 @@ pub fn add_excluded(s: &[u8], clauses: &mut [u8], l: Limits, n: Counters, r: Run
     requires { ⌜ 0 < r .number ⌝ }
     ensures { λ m. ⌜ Adds l r (excluded x p (reasonFor unknown)) n (held l (now (s .entry))) (now (clauses .entry)) m (held l (now (s .entry))) (now (clauses .exit)) ⌝ }
 {
-    let conflict = is_true(s, l, n, x);
+    let conflict = decision_tracker::is_true(s, l, n.decisions, x);
     let run = run_if(conflict, r);
     if unknown {
         return store(clauses, l, n, pair(4, x, p, run));
@@ -149,8 +123,8 @@ pub fn add_constrains(s: &[u8], clauses: &mut [u8], l: Limits, n: Counters, r: R
     requires { ⌜ 0 < r .number ⌝ }
     ensures { λ m. ⌜ Adds l r (constrains owner x) n (held l (now (s .entry))) (now (clauses .entry)) m (held l (now (s .entry))) (now (clauses .exit)) ⌝ }
 {
-    let chosen = is_true(s, l, n, x);
-    let out = is_false(s, l, n, owner);
+    let chosen = decision_tracker::is_true(s, l, n.decisions, x);
+    let out = decision_tracker::is_false(s, l, n.decisions, owner);
     store(clauses, l, n, pair(5, owner, x, run_unless(chosen, out, r)))
 }
 
@@ -160,8 +134,8 @@ pub fn add_aux_owner(s: &[u8], clauses: &mut [u8], l: Limits, n: Counters, r: Ru
     requires { ⌜ 0 < r .number ⌝ }
     ensures { λ m. ⌜ Adds l r (auxOwner owner violation) n (held l (now (s .entry))) (now (clauses .entry)) m (held l (now (s .entry))) (now (clauses .exit)) ⌝ }
 {
-    let violated = is_true(s, l, n, violation);
-    let out = is_false(s, l, n, owner);
+    let violated = decision_tracker::is_true(s, l, n.decisions, violation);
+    let out = decision_tracker::is_false(s, l, n.decisions, owner);
     store(clauses, l, n, pair(8, owner, violation, run_unless(violated, out, r)))
 }
 
@@ -180,7 +154,7 @@ fn store_requires(s: &[u8], clauses: &mut [u8], l: Limits, n: Counters, r: Run, 
     requires { ⌜ (0 < r .number) × (n .literals + count ≤ l .literals) ⌝ }
     ensures { λ m. ⌜ AddsRequires l r owner count form number all n (held l (now (s .entry))) (now (clauses .entry)) m (now (clauses .exit)) ⌝ }
 {
-    let out = is_false(s, l, n, owner);
+    let out = decision_tracker::is_false(s, l, n.decisions, owner);
     let row = Stored {
         kind: 1,
         first: owner,
@@ -256,7 +230,7 @@ pub fn add_aux_out(s: &mut [u8], clauses: &mut [u8], l: Limits, n: Counters, r: 
     ensures { λ m. ⌜ Adds l r (auxOut x violation) n (held l (now (s .entry))) (now (clauses .entry)) m (held l (now (s .exit))) (now (clauses .exit)) ⌝ }
 {
     let row = pair(7, x, violation, 0);
-    if is_true(s, l, n, x) {
+    if decision_tracker::is_true(s, l, n.decisions, x) {
         return store_setting(s, clauses, l, n, r, row, Literal::new(violation, true));
     }
     store(clauses, l, n, row)
@@ -268,7 +242,7 @@ fn is_one(s: &[u8], l: Limits, n: Counters, r: Run, y: u16, x: u16) -> bool
     requires { ⌜ Kept l (n .decisions) (held l (now s)) ⌝ }
     ensures { λ b. ⌜ b ≡ (isTrue (decisions (n .decisions) (held l (now (s .entry)))) x && leb (r .before) y) ⌝ }
 {
-    if is_true(s, l, n, x) {
+    if decision_tracker::is_true(s, l, n.decisions, x) {
         return r.before <= y as usize;
     }
     false
