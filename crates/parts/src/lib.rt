@@ -6,11 +6,11 @@ use state::Limits;
 use tables::Counts;
 ghost use mathlib.Core.Path.{_≡_};
 ghost use mathlib.Core.Bool.{true, not, _&&_};
-ghost use mathlib.Core.List.{[]};
+ghost use mathlib.Core.List.{[], _∷_};
 ghost use Prim.Native.Nat.{_<_, _≤_};
 ghost use lib.Dec.{eqb};
 ghost use lib.ListN.{length, getD};
-ghost use Rattle.rules.specs.Lists.{fold, when};
+ghost use Rattle.rules.specs.Lists.{fold, when, listIf};
 ghost use Rattle.rules.specs.Catalogue.{noPart};
 ghost use Rattle.rules.specs.Variables.{known, partOrigin};
 ghost use Rattle.rules.specs.Opening.{openReady};
@@ -186,7 +186,7 @@ fn add_if(marks: &[u8], unions: &[u8], t: &[u8], k: Counts, s: &mut [u8], clause
     requires { ⌜ LongEnough l (length (now clauses)) 16384 ⌝ }
     requires { ⌜ CanAdd l r adding ⌝ }
     requires { ⌜ (p < 1024) ⌝ }
-    requires { ⌜ selectedOf (catalogue k (now marks) (now unions) (now t)) which p ≡ true → known (variables (n .variables) (held l (now s))) (partOrigin p) ≡ true ⌝ }
+    requires { ⌜ AllKnown (variables (n .variables) (held l (now s))) (listIf (selectedOf (catalogue k (now marks) (now unions) (now t)) which p) (p ∷ [])) ⌝ }
     ensures { λ m. ⌜ ClausesDid (catalogue k (now (marks .entry)) (now (unions .entry)) (now (t .entry))) l (λ v. when (selectedOf (catalogue k (now (marks .entry)) (now (unions .entry)) (now (t .entry))) which p) (addingOf (runOf r) adding p)) n (held l (now (s .entry))) (now (clauses .entry)) m (held l (now (s .exit))) (now (clauses .exit)) ⌝ }
 {
     if selected(marks, unions, t, k, which, p) {
