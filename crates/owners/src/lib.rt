@@ -154,7 +154,7 @@ fn queue_constraint(marks: &[u8], unions: &[u8], t: &[u8], k: Counts, s: &mut [u
     opening::queue(s, l, n, 3137 + i as u16)
 }
 
-fn rule(marks: &[u8], unions: &[u8], t: &[u8], k: Counts, s: &mut [u8], l: Limits, n: Counters, what: Rule, o: u16, i: usize) -> Counters
+fn take_rule(marks: &[u8], unions: &[u8], t: &[u8], k: Counts, s: &mut [u8], l: Limits, n: Counters, what: Rule, o: u16, i: usize) -> Counters
     requires { ⌜ Kept k (now marks) (now unions) (now t) ⌝ }
     requires { ⌜ WellFormed (catalogue k (now marks) (now unions) (now t)) ⌝ }
     requires { ⌜ Fits l (length (now s)) ⌝ }
@@ -193,7 +193,7 @@ fn each_rule(marks: &[u8], unions: &[u8], t: &[u8], k: Counts, s: &mut [u8], l: 
     let mut m = n;
     let mut i = 0;
     while i < count {
-        m = rule(marks, unions, t, k, s, l, m, what, o, i);
+        m = take_rule(marks, unions, t, k, s, l, m, what, o, i);
         i += 1;
     }
     m
