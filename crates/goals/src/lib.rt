@@ -224,6 +224,7 @@ pub fn all_false(marks: &[u8], unions: &[u8], t: &[u8], k: Counts, s: &[u8], l: 
     requires { ⌜ Catalogued k (now marks) (now unions) (now t) ⌝ }
     requires { ⌜ Fits l (length (now s)) ⌝ }
     requires { ⌜ Mapped l (n .variables) (held l (now s)) × Kept l (n .decisions) (held l (now s)) ⌝ }
+    requires { ⌜ Marked 14 15 m (held l (now s)) ⌝ }
     requires { ⌜ AllKnown (variables (n .variables) (held l (now s)))
         (concatMap (matching (catalogue k (now marks) (now unions) (now t))) (listed m 14 (held l (now s)))) ⌝ }
     ensures { λ b. ⌜ b ≡ all (falseOf (variables (n .variables) (held l (now (s .entry)))) (decisions (n .decisions) (held l (now (s .entry)))))
@@ -244,6 +245,7 @@ pub fn all_false(marks: &[u8], unions: &[u8], t: &[u8], k: Counts, s: &[u8], l: 
 pub fn some_candidate(marks: &[u8], unions: &[u8], t: &[u8], k: Counts, s: &[u8], l: Limits, m: usize) -> bool
     requires { ⌜ Catalogued k (now marks) (now unions) (now t) ⌝ }
     requires { ⌜ Fits l (length (now s)) ⌝ }
+    requires { ⌜ Marked 14 15 m (held l (now s)) ⌝ }
     ensures { λ b. ⌜ b ≡ not (eqb (length (concatMap (matching (catalogue k (now (marks .entry)) (now (unions .entry)) (now (t .entry)))) (listed m 14 (held l (now (s .entry)))))) 0) ⌝ }
 {
     let mut j = 0;
