@@ -8,7 +8,7 @@ use native.Mathlib.Omega.{arith}
 use lib.Dec.{eqb}
 use lib.ListN.{length, getD, drop, length-append, drop-of-length-le}
 use lib.Seq.{drop-cons, getD-take}
-use borrow.Author.Tests.{eq-eqb, ne-eqb, lt-ltb}
+use borrow.Author.Tests.{eq-eqb, ne-eqb, lt-ltb, not-true, not-false}
 use Rattle.rules.specs.Lists.{any, all, concatMap}
 use Rattle.rules.specs.Catalogue.{Catalogue}
 use Rattle.rules.specs.Candidates.{matching}
@@ -161,11 +161,11 @@ module _ (k : Counts) (m u t : List ℕ) (r : ℕ) (vs : List Origin) (ds : List
         unfolding all falseOf
         denied = rw g (sym (ap (all (falseOf vs ds)) here) ∙ x .is)
 
-        pub deny-step : a ≡ true → Denying (catalogue k m u t) r vs ds (p + 1)
-        deny-step q = record { known = known-rest (rw here at (x .known)); is = rw q at denied }
+        pub deny-step : not a ≡ false → Denying (catalogue k m u t) r vs ds (p + 1)
+        deny-step q = record { known = known-rest (rw here at (x .known)); is = rw (not-false a q) at denied }
 
-        pub deny-fails : a ≡ false → false ≡ all (falseOf vs ds) (matching (catalogue k m u t) r)
-        deny-fails q = rw q at denied
+        pub deny-fails : not a ≡ true → false ≡ all (falseOf vs ds) (matching (catalogue k m u t) r)
+        deny-fails q = rw (not-true a q) at denied
 
     pub deny-end : k .parts ≤ p → true ≡ all (falseOf vs ds) (matching (catalogue k m u t) r)
     unfolding all
@@ -208,12 +208,12 @@ module _ {c : Catalogue} {vs : List Origin} {ds : List Decision} {m : ℕ} {st :
           rw (g, ← all-both (falseOf vs ds) (matching c r) (concatMap (matching c) (drop (j + 1) (listed m 14 st))))
           (sym (ap (λ (l : List ℕ). all (falseOf vs ds) (concatMap (matching c) l)) (at-hand (x .marked) j r h e)) ∙ x .is)
 
-      pub refute-step : b ≡ true → Refuting c vs ds m st (j + 1)
+      pub refute-step : not b ≡ false → Refuting c vs ds m st (j + 1)
       unfolding concatMap
-      refute-step q = record { marked = x .marked; known = record { known = each-right (matching c r) (refute-apart .known) }; is = rw q at refuted }
+      refute-step q = record { marked = x .marked; known = record { known = each-right (matching c r) (refute-apart .known) }; is = rw (not-false b q) at refuted }
 
-      pub refute-fails : b ≡ false → false ≡ all (falseOf vs ds) (concatMap (matching c) (listed m 14 st))
-      refute-fails q = rw q at refuted
+      pub refute-fails : not b ≡ true → false ≡ all (falseOf vs ds) (concatMap (matching c) (listed m 14 st))
+      refute-fails q = rw (not-true b q) at refuted
 
   pub refute-end : m ≤ j → true ≡ all (falseOf vs ds) (concatMap (matching c) (listed m 14 st))
   unfolding concatMap all

@@ -25,7 +25,7 @@ cast-decided-false : tie.Need-cast-decided-false Inv-loop μ-loop
 cast-decided-false c = search needs
 
 decided-false-requires : tie.Need-decided-false-requires Inv-loop μ-loop
-decided-false-requires c κs = search (needs, deny-known)
+decided-false-requires c κs = (search needs, ((search needs, (search needs, search needs)), search (needs, deny-known)))
 
 returns : tie.Need-returns Inv-loop μ-loop
 returns c = search (needs, deny-fails)
@@ -37,7 +37,7 @@ loop-less : tie.Need-loop-less Inv-loop μ-loop
 loop-less c = search needs
 
 loop-again : tie.Need-loop-again Inv-loop μ-loop
-loop-again c = ⊎-elim (λ w. search (needs, deny-step)) (λ w. search (needs, deny-past)) (c .if1 .came)
+loop-again c = ⊎-elim (λ w. search (needs, deny-step)) (λ w. search (needs, deny-past)) (c .if2 .came)
 
 returns-2 : tie.Need-returns-2 Inv-loop μ-loop
 returns-2 c = search (needs, deny-end)

@@ -26,7 +26,7 @@ cast-decided-true : tie.Need-cast-decided-true Inv-loop μ-loop
 cast-decided-true c = search needs
 
 decided-true-requires : tie.Need-decided-true-requires Inv-loop μ-loop
-decided-true-requires c κs = search needs
+decided-true-requires c κs = (search needs, (search needs, (search needs, search needs)))
 
 returns : tie.Need-returns Inv-loop μ-loop
 returns c = search (needs, seek-found)
@@ -38,7 +38,7 @@ loop-less : tie.Need-loop-less Inv-loop μ-loop
 loop-less c = search needs
 
 loop-again : tie.Need-loop-again Inv-loop μ-loop
-loop-again c = ⊎-elim (λ w. search (needs, seek-miss)) (λ w. search (needs, seek-past)) (c .if1 .came)
+loop-again c = ⊎-elim (λ w. search (needs, seek-miss)) (λ w. search (needs, seek-past)) (c .if2 .came)
 
 returns-2 : tie.Need-returns-2 Inv-loop μ-loop
 returns-2 c = search (needs, seek-none)
