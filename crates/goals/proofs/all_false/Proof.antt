@@ -24,7 +24,7 @@ cast-range-false : tie.Need-cast-range-false Inv-loop μ-loop
 cast-range-false c = search needs
 
 range-false-requires : tie.Need-range-false-requires Inv-loop μ-loop
-range-false-requires c κs = search (needs, refute-known)
+range-false-requires c κs = (search needs, (search needs, (search needs, search (needs, refute-known))))
 
 returns : tie.Need-returns Inv-loop μ-loop
 returns c = search (needs, refute-fails)

@@ -25,7 +25,7 @@ cast-decided-false : tie.Need-cast-decided-false Inv-loop μ-loop
 cast-decided-false c = search needs
 
 decided-false-requires : tie.Need-decided-false-requires Inv-loop μ-loop
-decided-false-requires c κs = (search needs, ((search needs, (search needs, search needs)), search (needs, deny-known)))
+decided-false-requires c κs = (search needs, ((search needs, search needs, search needs), search (needs, deny-known)))
 
 returns : tie.Need-returns Inv-loop μ-loop
 returns c = search (needs, deny-fails)

@@ -26,7 +26,7 @@ cast-decided-true : tie.Need-cast-decided-true Inv-loop μ-loop
 cast-decided-true c = search needs
 
 decided-true-requires : tie.Need-decided-true-requires Inv-loop μ-loop
-decided-true-requires c κs = (search needs, (search needs, (search needs, search needs)))
+decided-true-requires c κs = (search needs, (search needs, search needs, search needs))
 
 returns : tie.Need-returns Inv-loop μ-loop
 returns c = search (needs, seek-found)
