@@ -2,7 +2,7 @@
 use mathlib.Core.Path.{_≡_, refl, sym, _∙_, ap}
 use mathlib.Core.Bool.{Bool, true, false, not, _&&_, _||_}
 use mathlib.Core.List.{List, [], _∷_}
-use Prim.Native.Nat.{ℕ, suc, _+_, _-_, _<_, _≤_}
+use Prim.Native.Nat.{ℕ, _+_, _-_, _<_, _≤_}
 use native.Mathlib.Numerals.{add-one}
 use native.Mathlib.Omega.{arith}
 use lib.Dec.{eqb}
@@ -13,7 +13,7 @@ use Rattle.rules.specs.Lists.{any, all, concatMap}
 use Rattle.rules.specs.Catalogue.{Catalogue}
 use Rattle.rules.specs.Candidates.{matching}
 use Rattle.rules.specs.Conditions.{Disjunct}
-use Rattle.rules.specs.Variables.{Origin, known, variableOf, partOrigin, partVariable}
+use Rattle.rules.specs.Variables.{Origin, known, partOrigin, partVariable}
 use Rattle.rules.specs.Decisions.{Decision, isTrue, isFalse}
 use Rattle.rules.specs.Opening.{holdsNow}
 use Rattle.rules.proofs.Each.{Each, cons, each-left, each-right}

@@ -1,11 +1,11 @@
 -- The list at hand against its code: one number more, and the ranges of a goal, each once.
-use mathlib.Core.Path.{_≡_, refl, sym, _∙_, ap}
+use mathlib.Core.Path.{_≡_, refl, sym, _∙_}
 use mathlib.Core.Bool.{Bool, true, false}
 use mathlib.Core.List.{List, [], _∷_}
 use Prim.Native.Nat.{ℕ, _+_, _<_, _≤_}
 use native.Mathlib.Omega.{arith}
 use lib.ListN.{length, getD}
-use Rattle.rules.specs.Lists.{elem, fold, distinct}
+use Rattle.rules.specs.Lists.{fold, distinct}
 use Rattle.rules.specs.Catalogue.{Catalogue, union}
 use Rattle.rules.specs.Candidates.{goalRanges}
 use Rattle.rules.proofs.ListLaws.{All, all-weaken}

@@ -1,3 +1,4 @@
+-- `goals::all_false` tells whether every candidate of the ranges at hand is decided false. The invariant: it is so of all if it is so from range j on.
 use borrow.Author.Needs.{needs}
 use Prim.Native.Nat.{_-_}
 use Rattle.cache.specs.Areas.{catalogue}

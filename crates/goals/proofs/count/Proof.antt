@@ -1,3 +1,4 @@
+-- `goals::count` gives how many candidates a goal has, or `most` if it has more.
 use borrow.Author.Needs.{needs}
 use Rattle.goals.proofs.Counting.{count-few, count-enough, count-union}
 use Rattle.goals.proofs.Hand.{union-given}

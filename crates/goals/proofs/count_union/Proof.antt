@@ -1,3 +1,4 @@
+-- `goals::count_union` counts the candidates of a union, and stops at `most`. The invariant: what was counted and what is left are the whole.
 use borrow.Author.Needs.{needs}
 use Prim.Native.Nat.{_-_}
 use Rattle.unions.specs.Unions.{rows}

@@ -1,3 +1,4 @@
+-- `goals::decided_false` tells whether a part's variable is decided false.
 use borrow.Author.Needs.{needs}
 use Rattle.goals.proofs.Decided.{part-in-tables, false-is}
 use Rattle.goals.proofs.decided_false.Statement.{statement}

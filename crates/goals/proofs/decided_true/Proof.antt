@@ -1,3 +1,4 @@
+-- `goals::decided_true` tells whether a part has a variable that is decided true.
 use borrow.Author.Needs.{needs}
 use Rattle.goals.proofs.Decided.{part-in-tables, true-some, true-none}
 use Rattle.goals.proofs.decided_true.Statement.{statement}

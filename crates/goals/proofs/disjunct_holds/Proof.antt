@@ -1,3 +1,4 @@
+-- `goals::disjunct_holds` tells whether a disjunct holds now. The invariant: it does if what is left from range j on does.
 use borrow.Author.Needs.{needs}
 use Prim.Native.Nat.{_-_}
 use mathlib.Core.List.{[]}

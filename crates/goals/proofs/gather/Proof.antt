@@ -1,3 +1,4 @@
+-- `goals::gather` lists the ranges of a goal, each once.
 use borrow.Author.Needs.{needs}
 use Rattle.goals.proofs.Hand.{range-given, union-given, gather-range, gather-union}
 use Rattle.goals.proofs.gather.Statement.{statement}

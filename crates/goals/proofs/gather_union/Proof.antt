@@ -1,3 +1,4 @@
+-- `goals::gather_union` lists the ranges of a union, each once. The invariant: what is left of the list's making is the whole of it.
 use borrow.Author.Needs.{needs}
 use Prim.Native.Nat.{_-_}
 use Rattle.unions.specs.Unions.{rows}

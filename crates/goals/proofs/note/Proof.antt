@@ -1,3 +1,4 @@
+-- `goals::note` lists a number that is not there yet.
 use borrow.Author.Needs.{needs}
 use Rattle.goals.proofs.Hand.{note-free, note-there, note-new}
 use Rattle.goals.proofs.note.Statement.{statement}

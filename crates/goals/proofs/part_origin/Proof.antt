@@ -1,3 +1,4 @@
+-- `goals::part_origin` gives the origin of a part's variable.
 use borrow.Author.Needs.{needs}
 use Rattle.goals.proofs.Decided.{origin-is}
 use Rattle.goals.proofs.part_origin.Statement.{statement}

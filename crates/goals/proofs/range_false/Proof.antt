@@ -1,3 +1,4 @@
+-- `goals::range_false` tells whether every matching part of a range is decided false. The invariant: it is so of all if it is so from part p on.
 use borrow.Author.Needs.{needs}
 use Prim.Native.Nat.{_-_}
 use mathlib.Core.Logic.{⊎-elim}

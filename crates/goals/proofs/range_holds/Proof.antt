@@ -1,3 +1,4 @@
+-- `goals::range_holds` tells whether some matching part of a range is decided true. The invariant: it is so among all if it is so from part p on.
 use borrow.Author.Needs.{needs}
 use Prim.Native.Nat.{_-_}
 use mathlib.Core.Logic.{⊎-elim}

@@ -1,3 +1,4 @@
+-- `goals::some_candidate` tells whether a range at hand has a matching part. The invariant: the ranges passed have none.
 use borrow.Author.Needs.{needs}
 use Prim.Native.Nat.{_-_}
 use Rattle.cache.specs.Areas.{catalogue}
