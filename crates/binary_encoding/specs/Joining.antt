@@ -22,7 +22,7 @@ use Rattle.variable_map.specs.Mapping.{variables}
 use Rattle.encoder.specs.declared.Counters.{Counters}
 use Rattle.encoder.specs.declared.Run as code
 use Rattle.encoder.specs.Did.{onOpening}
-use Rattle.parts.specs.Parts.{AllKnown}
+use Rattle.goals.specs.Goals.{AllKnown}
 use Rattle.binary_encoding.specs.declared.Tracker.{Tracker}
 
 -- ---- the tracker

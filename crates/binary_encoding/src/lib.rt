@@ -27,8 +27,8 @@ ghost use Rattle.variable_map.specs.Mapping.{variables, Mapped};
 ghost use Rattle.marked.specs.Marked.{listed, Marked};
 ghost use Rattle.encoder.specs.Held.{runOf, LongEnough, GoodState, Good};
 ghost use Rattle.encoder.specs.Did.{onOpening, StateDid, ClausesDid};
-ghost use Rattle.goals.specs.Goals.{Gathers};
-ghost use Rattle.parts.specs.Parts.{AllKnown};
+ghost use Rattle.goals.specs.Goals.{AllKnown, Gathers};
+
 ghost use Rattle.binary_encoding.specs.Joining.{Holds, helpersIn, tracking, newHelperClauses, oneClauses, trackedClauses, joinStep, joinIf, linkStep, linkIf, HelpersKnown, HelpersBelow, NamedGiven, Distinct, CanJoin};
 
 // A name's helper variables: the first `count` of ten.
