@@ -14,6 +14,7 @@ use Rattle.rules.proofs.Grows.{same, and-then, stays-above}
 use Rattle.state.specs.declared.Limits.{Limits}
 use Rattle.state.specs.Changed.{Changed}
 use Rattle.entries.specs.Entries.{drawnIn}
+use Rattle.marked.proofs.Laws.{listed-same, marked-same}
 use Rattle.encoder.specs.declared.Counters.{Counters}
 use Rattle.encoder.specs.Held.{Reading, stateOf, Good}
 use Rattle.encoder.specs.Did.{limitsOf, roomOf, beyond, Widens, filled, SameHand, Did, PlainDid}
@@ -52,13 +53,13 @@ same-room l n n′ e = rw e
 -- ---- the list at hand
 
 pub hand-same : {st : ℕ → List ℕ} → SameHand st st
-hand-same = record { list = refl; marks = refl }
+hand-same = record { marked = λ m k. k; list = λ m k. refl }
 
 pub hand-then : {st st′ st″ : ℕ → List ℕ} → SameHand st st′ → SameHand st′ st″ → SameHand st st″
-hand-then p q = record { list = q .list ∙ p .list; marks = q .marks ∙ p .marks }
+hand-then p q = record { marked = λ m k. q .marked m (p .marked m k); list = λ m k. q .list m (p .marked m k) ∙ p .list m k }
 
 pub hand-kept : {js : List ℕ} {st st′ : ℕ → List ℕ} → Changed js st st′ → elem 14 js ≡ false → elem 15 js ≡ false → SameHand st st′
-hand-kept ch p q = record { list = ch .same 14 p; marks = ch .same 15 q }
+hand-kept ch p q = record { marked = λ m k. marked-same k ch p q; list = λ m k. listed-same m 14 ch p }
 
 -- ---- steps
 

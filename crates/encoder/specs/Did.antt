@@ -13,6 +13,7 @@ use Rattle.rules.specs.State.{State, setOpening}
 use Rattle.rules.specs.Limits as rules
 use Rattle.rules.proofs.Grows.{Grows}
 use Rattle.state.specs.declared.Limits.{Limits}
+use Rattle.marked.specs.Marked.{listed, Marked}
 use Rattle.entries.specs.Entries.{drawnIn}
 use Rattle.encoder.specs.declared.Counters.{Counters}
 use Rattle.encoder.specs.Held.{Reading, stateOf, Good}
@@ -47,10 +48,10 @@ pub record Looked (vs : List Origin) (o : Origin) (x : ℕ) : Type 0 where
   pub is : known vs o ≡ true → x ≡ variableOf vs o
   pub below : known vs o ≡ true → x < length vs
 
--- the list at hand, of ranges or of names, and its marks are as they were
+-- the list at hand, of ranges or of names, is as it was
 pub record SameHand (st st′ : ℕ → List ℕ) : Type 0 where
-  pub list : st′ 14 ≡ st 14
-  pub marks : st′ 15 ≡ st 15
+  pub marked : (m : ℕ) → Marked 14 15 m st → Marked 14 15 m st′
+  pub list : (m : ℕ) → Marked 14 15 m st → listed m 14 st′ ≡ listed m 14 st
 
 -- From entry to exit F was done. F may look at what the run's tasks are read by.
 pub record Did (c : Catalogue) (l : Limits) (F : Reading → State → State) (n : Counters) (st : ℕ → List ℕ) (cl wt : List ℕ)
@@ -68,6 +69,11 @@ pub record Did (c : Catalogue) (l : Limits) (F : Reading → State → State) (n
 -- the same of a step of the state area alone, whatever the other two hold
 pub record StateDid (c : Catalogue) (l : Limits) (F : Reading → State → State) (n : Counters) (st : ℕ → List ℕ) (n′ : Counters) (st′ : ℕ → List ℕ) : Type 0 where
   pub is : (cl wt : List ℕ) → Did c l F n st cl wt n′ st′ cl wt
+
+-- the same of the state area and the clauses', whatever the waiting area holds
+pub record ClausesDid (c : Catalogue) (l : Limits) (F : Reading → State → State) (n : Counters) (st : ℕ → List ℕ) (cl : List ℕ)
+    (n′ : Counters) (st′ : ℕ → List ℕ) (cl′ : List ℕ) : Type 0 where
+  pub is : (wt : List ℕ) → Did c l F n st cl wt n′ st′ cl′ wt
 
 -- the same of one that does not read the catalogue
 pub record PlainDid (l : Limits) (F : Catalogue → Reading → State → State) (n : Counters) (st : ℕ → List ℕ) (n′ : Counters) (st′ : ℕ → List ℕ) : Type 0 where

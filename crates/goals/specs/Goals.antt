@@ -2,10 +2,8 @@
 use mathlib.Core.Path.{_≡_}
 use mathlib.Core.Bool.{Bool, true, _&&_, cond}
 use mathlib.Core.List.{List, [], _∷_}
-use Prim.Native.Nat.{ℕ, _<_}
-use Rattle.rules.specs.Lists.{elem, snoc, distinct}
-use Rattle.rules.specs.Catalogue.{Goal, Catalogue}
-use Rattle.rules.specs.Candidates.{goalRanges}
+use Prim.Native.Nat.{ℕ}
+use Rattle.rules.specs.Lists.{elem, snoc}
 use Rattle.rules.specs.Variables.{Origin, known, partOrigin, partVariable}
 use Rattle.rules.specs.Decisions.{Decision, isTrue, isFalse}
 use Rattle.rules.proofs.Each.{Each}

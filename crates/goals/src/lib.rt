@@ -42,7 +42,15 @@ pub fn note(s: &mut [u8], l: Limits, m: usize, x: u16) -> usize
     marked::push(s, l, state::CANDIDATES, state::RANGE_MARKS, m, x)
 }
 
-fn gather_union(marks: &[u8], unions: &[u8], t: &[u8], k: Counts, s: &mut [u8], l: Limits, u: u16) -> usize
+fn gather_union(
+    marks: &[u8],
+    unions: &[u8],
+    t: &[u8],
+    k: Counts,
+    s: &mut [u8],
+    l: Limits,
+    u: u16,
+) -> usize
     requires { ⌜ Catalogued k (now marks) (now unions) (now t) ⌝ }
     requires { ⌜ Fits l (length (now s)) ⌝ }
     requires { ⌜ Marked 14 15 0 (held l (now s)) × (u < k .unions) ⌝ }
@@ -60,7 +68,15 @@ fn gather_union(marks: &[u8], unions: &[u8], t: &[u8], k: Counts, s: &mut [u8], 
 }
 
 // The distinct ranges of a goal become the list at hand; how many.
-pub fn gather(marks: &[u8], unions: &[u8], t: &[u8], k: Counts, s: &mut [u8], l: Limits, goal: Requirement) -> usize
+pub fn gather(
+    marks: &[u8],
+    unions: &[u8],
+    t: &[u8],
+    k: Counts,
+    s: &mut [u8],
+    l: Limits,
+    goal: Requirement,
+) -> usize
     requires { ⌜ Catalogued k (now marks) (now unions) (now t) ⌝ }
     requires { ⌜ Fits l (length (now s)) ⌝ }
     requires { ⌜ Marked 14 15 0 (held l (now s)) ⌝ }
@@ -105,7 +121,14 @@ fn count_union(marks: &[u8], unions: &[u8], t: &[u8], k: Counts, u: u16, most: u
 }
 
 // How many candidates a goal has, or `most` if it has more.
-pub fn count(marks: &[u8], unions: &[u8], t: &[u8], k: Counts, goal: Requirement, most: usize) -> usize
+pub fn count(
+    marks: &[u8],
+    unions: &[u8],
+    t: &[u8],
+    k: Counts,
+    goal: Requirement,
+    most: usize,
+) -> usize
     requires { ⌜ Catalogued k (now marks) (now unions) (now t) ⌝ }
     requires { ⌜ GoalGiven (catalogue k (now marks) (now unions) (now t)) (goalOf goal) ⌝ }
     requires { ⌜ most ≤ 4 ⌝ }
@@ -139,11 +162,24 @@ pub fn decided_true(s: &[u8], l: Limits, n: Counters, p: u16) -> bool
     ensures { λ b. ⌜ b ≡ trueOf (variables (n .variables) (held l (now (s .entry)))) (decisions (n .decisions) (held l (now (s .entry)))) p ⌝ }
 {
     let place = variable_map::variable(s, l, n.variables, part_origin(p));
-    if place > 0 { decision_tracker::is_true(s, l, n.decisions, place - 1) } else { false }
+    if place > 0 {
+        decision_tracker::is_true(s, l, n.decisions, place - 1)
+    } else {
+        false
+    }
 }
 
 // Some matching part of range r is decided true.
-fn range_holds(marks: &[u8], unions: &[u8], t: &[u8], k: Counts, s: &[u8], l: Limits, n: Counters, r: usize) -> bool
+fn range_holds(
+    marks: &[u8],
+    unions: &[u8],
+    t: &[u8],
+    k: Counts,
+    s: &[u8],
+    l: Limits,
+    n: Counters,
+    r: usize,
+) -> bool
     requires { ⌜ Catalogued k (now marks) (now unions) (now t) ⌝ }
     requires { ⌜ Fits l (length (now s)) ⌝ }
     requires { ⌜ Mapped l (n .variables) (held l (now s)) × Kept l (n .decisions) (held l (now s)) ⌝ }
@@ -163,7 +199,17 @@ fn range_holds(marks: &[u8], unions: &[u8], t: &[u8], k: Counts, s: &[u8], l: Li
 }
 
 // Each range of disjunct i of condition c has a matching part decided true.
-pub fn disjunct_holds(marks: &[u8], unions: &[u8], t: &[u8], k: Counts, s: &[u8], l: Limits, n: Counters, c: usize, i: usize) -> bool
+pub fn disjunct_holds(
+    marks: &[u8],
+    unions: &[u8],
+    t: &[u8],
+    k: Counts,
+    s: &[u8],
+    l: Limits,
+    n: Counters,
+    c: usize,
+    i: usize,
+) -> bool
     requires { ⌜ Catalogued k (now marks) (now unions) (now t) ⌝ }
     requires { ⌜ Fits l (length (now s)) ⌝ }
     requires { ⌜ Mapped l (n .variables) (held l (now s)) × Kept l (n .decisions) (held l (now s)) ⌝ }
@@ -199,7 +245,16 @@ fn decided_false(s: &[u8], l: Limits, n: Counters, p: u16) -> bool
 }
 
 // Every matching part of range r is decided false.
-fn range_false(marks: &[u8], unions: &[u8], t: &[u8], k: Counts, s: &[u8], l: Limits, n: Counters, r: usize) -> bool
+fn range_false(
+    marks: &[u8],
+    unions: &[u8],
+    t: &[u8],
+    k: Counts,
+    s: &[u8],
+    l: Limits,
+    n: Counters,
+    r: usize,
+) -> bool
     requires { ⌜ Catalogued k (now marks) (now unions) (now t) ⌝ }
     requires { ⌜ Fits l (length (now s)) ⌝ }
     requires { ⌜ Mapped l (n .variables) (held l (now s)) × Kept l (n .decisions) (held l (now s)) ⌝ }
@@ -220,10 +275,20 @@ fn range_false(marks: &[u8], unions: &[u8], t: &[u8], k: Counts, s: &[u8], l: Li
 }
 
 // Every candidate of the m ranges at hand is decided false.
-pub fn all_false(marks: &[u8], unions: &[u8], t: &[u8], k: Counts, s: &[u8], l: Limits, n: Counters, m: usize) -> bool
+pub fn all_false(
+    marks: &[u8],
+    unions: &[u8],
+    t: &[u8],
+    k: Counts,
+    s: &[u8],
+    l: Limits,
+    n: Counters,
+    m: usize,
+) -> bool
     requires { ⌜ Catalogued k (now marks) (now unions) (now t) ⌝ }
     requires { ⌜ Fits l (length (now s)) ⌝ }
     requires { ⌜ Mapped l (n .variables) (held l (now s)) × Kept l (n .decisions) (held l (now s)) ⌝ }
+    requires { ⌜ Marked 14 15 m (held l (now s)) ⌝ }
     requires { ⌜ AllKnown (variables (n .variables) (held l (now s)))
         (concatMap (matching (catalogue k (now marks) (now unions) (now t))) (listed m 14 (held l (now s)))) ⌝ }
     ensures { λ b. ⌜ b ≡ all (falseOf (variables (n .variables) (held l (now (s .entry)))) (decisions (n .decisions) (held l (now (s .entry)))))
@@ -241,9 +306,18 @@ pub fn all_false(marks: &[u8], unions: &[u8], t: &[u8], k: Counts, s: &[u8], l: 
 }
 
 // One of the m ranges at hand has a matching part.
-pub fn some_candidate(marks: &[u8], unions: &[u8], t: &[u8], k: Counts, s: &[u8], l: Limits, m: usize) -> bool
+pub fn some_candidate(
+    marks: &[u8],
+    unions: &[u8],
+    t: &[u8],
+    k: Counts,
+    s: &[u8],
+    l: Limits,
+    m: usize,
+) -> bool
     requires { ⌜ Catalogued k (now marks) (now unions) (now t) ⌝ }
     requires { ⌜ Fits l (length (now s)) ⌝ }
+    requires { ⌜ Marked 14 15 m (held l (now s)) ⌝ }
     ensures { λ b. ⌜ b ≡ not (eqb (length (concatMap (matching (catalogue k (now (marks .entry)) (now (unions .entry)) (now (t .entry)))) (listed m 14 (held l (now (s .entry)))))) 0) ⌝ }
 {
     let mut j = 0;

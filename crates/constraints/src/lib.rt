@@ -1,0 +1,121 @@
+// A constraint's task: a clause for each non-matching part, or, from 4 on, a violation variable.
+use cache::Choice;
+use encoder::Counters;
+use encoder::Run;
+use parts::Adding;
+use parts::Naming;
+use parts::Parts;
+use state::Limits;
+use tables::Counts;
+use variable_map::Origin;
+ghost use mathlib.Core.Path.{_≡_};
+ghost use mathlib.Core.Bool.{true};
+ghost use mathlib.Core.List.{[]};
+ghost use Prim.Native.Nat.{_<_};
+ghost use lib.ListN.{length};
+ghost use Rattle.rules.specs.Candidates.{nonMatching};
+ghost use Rattle.rules.specs.Opening.{constraint};
+ghost use Rattle.rules.specs.Variables.{chosen, violation, known};
+ghost use Rattle.rules.proofs.WellFormed.{WellFormed, OwnerGiven};
+ghost use Rattle.cache.specs.Areas.{catalogue};
+ghost use Rattle.catalogue.specs.Reading.{Kept};
+ghost use Rattle.state.specs.Layout.{held, Fits};
+ghost use Rattle.variable_map.specs.Mapping.{originOf, variables};
+ghost use Rattle.marked.specs.Marked.{ownerOf};
+ghost use Rattle.encoder.specs.Held.{runOf, LongEnough, Good};
+ghost use Rattle.encoder.specs.Did.{ClausesDid};
+ghost use Rattle.parts.specs.Parts.{AllKnown};
+ghost use Rattle.owners.specs.Owners.{serving};
+ghost use Rattle.constraints.specs.Constraints.{constrainFew, addViolation, constrainMany};
+
+// The variable of an owner: the root, or a part.
+pub fn owner_origin(o: u16) -> Origin
+    ensures { λ r. ⌜ originOf r ≡ chosen (ownerOf o) ⌝ }
+{
+    if o == 1024 {
+        return variable_map::root();
+    }
+    variable_map::part(o)
+}
+
+// Under 4 non-matching parts: one clause each. The owner, by its number o, has its variable.
+fn constrain_few(marks: &[u8], unions: &[u8], t: &[u8], k: Counts, s: &mut [u8], clauses: &mut [u8], l: Limits, n: Counters, run: Run, r: usize, o: u16) -> Counters
+    requires { ⌜ Kept k (now marks) (now unions) (now t) ⌝ }
+    requires { ⌜ WellFormed (catalogue k (now marks) (now unions) (now t)) ⌝ }
+    requires { ⌜ Fits l (length (now s)) ⌝ }
+    requires { ⌜ Good (catalogue k (now marks) (now unions) (now t)) l n (held l (now s)) (now clauses) [] ⌝ }
+    requires { ⌜ LongEnough l (length (now clauses)) 16384 ⌝ }
+    requires { ⌜ (0 < run .number) × (r < k .ranges) × (o < 1025) × OwnerGiven (catalogue k (now marks) (now unions) (now t)) (ownerOf o) ⌝ }
+    requires { ⌜ known (variables (n .variables) (held l (now s))) (chosen (ownerOf o)) ≡ true ⌝ }
+    ensures { λ m. ⌜ ClausesDid (catalogue k (now (marks .entry)) (now (unions .entry)) (now (t .entry))) l (λ v. constrainFew (catalogue k (now (marks .entry)) (now (unions .entry)) (now (t .entry))) (runOf run) (ownerOf o) r) n (held l (now (s .entry))) (now (clauses .entry)) m (held l (now (s .exit))) (now (clauses .exit)) ⌝ }
+{
+    let m = parts::name_each(marks, unions, t, k, s, l, n, Parts::Chosen { range: r, choice: Choice::NonMatching }, Naming::Variable);
+    if m.full {
+        return m;
+    }
+    let x = opening::variable_of(s, l, m, owner_origin(o));
+    parts::add_each(marks, unions, t, k, s, clauses, l, m, run, Parts::Chosen { range: r, choice: Choice::NonMatching }, Adding::Constrains(x))
+}
+
+// From 4 on: a violation that is new has a clause for each part, and the owner one.
+fn add_violation(marks: &[u8], unions: &[u8], t: &[u8], k: Counts, s: &mut [u8], clauses: &mut [u8], l: Limits, n: Counters, run: Run, r: usize, o: u16, new: bool) -> Counters
+    requires { ⌜ Kept k (now marks) (now unions) (now t) ⌝ }
+    requires { ⌜ WellFormed (catalogue k (now marks) (now unions) (now t)) ⌝ }
+    requires { ⌜ Fits l (length (now s)) ⌝ }
+    requires { ⌜ Good (catalogue k (now marks) (now unions) (now t)) l n (held l (now s)) (now clauses) [] ⌝ }
+    requires { ⌜ LongEnough l (length (now clauses)) 16384 ⌝ }
+    requires { ⌜ (0 < run .number) × (r < k .ranges) × (o < 1025) × OwnerGiven (catalogue k (now marks) (now unions) (now t)) (ownerOf o) ⌝ }
+    requires { ⌜ (known (variables (n .variables) (held l (now s))) (chosen (ownerOf o)) ≡ true) × (known (variables (n .variables) (held l (now s))) (violation r) ≡ true) ⌝ }
+    requires { ⌜ AllKnown (variables (n .variables) (held l (now s))) (nonMatching (catalogue k (now marks) (now unions) (now t)) r) ⌝ }
+    ensures { λ m. ⌜ ClausesDid (catalogue k (now (marks .entry)) (now (unions .entry)) (now (t .entry))) l (λ v. addViolation (catalogue k (now (marks .entry)) (now (unions .entry)) (now (t .entry))) (runOf run) (ownerOf o) r new) n (held l (now (s .entry))) (now (clauses .entry)) m (held l (now (s .exit))) (now (clauses .exit)) ⌝ }
+{
+    let y = opening::variable_of(s, l, n, variable_map::violation(r as u16));
+    let x = opening::variable_of(s, l, n, owner_origin(o));
+    if new {
+        let m = parts::add_each(marks, unions, t, k, s, clauses, l, n, run, Parts::Chosen { range: r, choice: Choice::NonMatching }, Adding::AuxOut(y));
+        return clauses::add_aux_owner(s, clauses, l, m, run, x, y);
+    }
+    clauses::add_aux_owner(s, clauses, l, n, run, x, y)
+}
+
+fn constrain_many(marks: &[u8], unions: &[u8], t: &[u8], k: Counts, s: &mut [u8], clauses: &mut [u8], l: Limits, n: Counters, run: Run, r: usize, o: u16) -> Counters
+    requires { ⌜ Kept k (now marks) (now unions) (now t) ⌝ }
+    requires { ⌜ WellFormed (catalogue k (now marks) (now unions) (now t)) ⌝ }
+    requires { ⌜ Fits l (length (now s)) ⌝ }
+    requires { ⌜ Good (catalogue k (now marks) (now unions) (now t)) l n (held l (now s)) (now clauses) [] ⌝ }
+    requires { ⌜ LongEnough l (length (now clauses)) 16384 ⌝ }
+    requires { ⌜ (0 < run .number) × (r < k .ranges) × (o < 1025) × OwnerGiven (catalogue k (now marks) (now unions) (now t)) (ownerOf o) ⌝ }
+    requires { ⌜ known (variables (n .variables) (held l (now s))) (chosen (ownerOf o)) ≡ true ⌝ }
+    ensures { λ m. ⌜ ClausesDid (catalogue k (now (marks .entry)) (now (unions .entry)) (now (t .entry))) l (λ v. constrainMany (catalogue k (now (marks .entry)) (now (unions .entry)) (now (t .entry))) (runOf run) (ownerOf o) r) n (held l (now (s .entry))) (now (clauses .entry)) m (held l (now (s .exit))) (now (clauses .exit)) ⌝ }
+{
+    let new = variable_map::variable(s, l, n.variables, variable_map::violation(r as u16)) == 0;
+    let a = opening::name_variable(s, l, n, variable_map::violation(r as u16));
+    let b = parts::name_each(marks, unions, t, k, s, l, a, Parts::Chosen { range: r, choice: Choice::NonMatching }, Naming::Variable);
+    if b.full {
+        return b;
+    }
+    add_violation(marks, unions, t, k, s, clauses, l, b, run, r, o, new)
+}
+
+pub fn serve_constraint(marks: &[u8], unions: &[u8], t: &[u8], k: Counts, s: &mut [u8], clauses: &mut [u8], l: Limits, n: Counters, run: Run, i: usize) -> Counters
+    requires { ⌜ Kept k (now marks) (now unions) (now t) ⌝ }
+    requires { ⌜ WellFormed (catalogue k (now marks) (now unions) (now t)) ⌝ }
+    requires { ⌜ Fits l (length (now s)) ⌝ }
+    requires { ⌜ Good (catalogue k (now marks) (now unions) (now t)) l n (held l (now s)) (now clauses) [] ⌝ }
+    requires { ⌜ LongEnough l (length (now clauses)) 16384 ⌝ }
+    requires { ⌜ 0 < run .number ⌝ }
+    requires { ⌜ i < k .constraints ⌝ }
+    ensures { λ m. ⌜ ClausesDid (catalogue k (now (marks .entry)) (now (unions .entry)) (now (t .entry))) l (λ v. serving (catalogue k (now (marks .entry)) (now (unions .entry)) (now (t .entry))) (runOf run) (constraint i)) n (held l (now (s .entry))) (now (clauses .entry)) m (held l (now (s .exit))) (now (clauses .exit)) ⌝ }
+{
+    let it = tables::constraint_at(t, k, i);
+    let o = owners::owner_number(it.owner);
+    let r = it.range as usize;
+    let m = opening::name_variable(s, l, n, owner_origin(o));
+    if m.full {
+        return m;
+    }
+    if cache::non_matching_count(marks, unions, t, k, r) < 4 {
+        return constrain_few(marks, unions, t, k, s, clauses, l, m, run, r, o);
+    }
+    constrain_many(marks, unions, t, k, s, clauses, l, m, run, r, o)
+}

@@ -1,0 +1,4 @@
+pub mod Hand
+pub mod Counting
+pub mod Parts
+pub mod Decided

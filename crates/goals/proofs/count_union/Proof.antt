@@ -1,0 +1,69 @@
+-- `goals::count_union` counts the candidates of a union, and stops at `most`. The invariant: what was counted and what is left are the whole.
+use borrow.Author.Needs.{needs}
+use Prim.Native.Nat.{_-_}
+use Rattle.unions.specs.Unions.{rows}
+use Rattle.cache.specs.Areas.{catalogue}
+use Rattle.goals.proofs.Counting.{Totalling, total-start, total-step, total-full, total-end}
+use Rattle.goals.proofs.count_union.Statement.{statement}
+use Rattle.goals.proofs.count_union.Tie as tie
+
+abbrev Inv-loop : tie.InvT-loop
+Inv-loop marks unions t k u most total₀ i₀ total i = Totalling (catalogue k marks unions t) (k .members) (rows (k .members) unions) u most total i
+
+abbrev μ-loop : tie.MeasureT-loop
+μ-loop marks unions t k u most total₀ i₀ total i = k .members - i
+
+next-of-requires : tie.Need-next-of-requires Inv-loop μ-loop
+next-of-requires c κs = search needs
+
+loop-holds : tie.Need-loop-holds Inv-loop μ-loop
+loop-holds c = search (needs, total-start)
+
+member-at-requires : tie.Need-member-at-requires Inv-loop μ-loop
+member-at-requires c κs = search needs
+
+cast-matching-count : tie.Need-cast-matching-count Inv-loop μ-loop
+cast-matching-count c = search needs
+
+matching-count-requires : tie.Need-matching-count-requires Inv-loop μ-loop
+matching-count-requires c κs = search needs
+
+add-total : tie.Need-add-total Inv-loop μ-loop
+add-total c = search needs
+
+returns : tie.Need-returns Inv-loop μ-loop
+returns c = search (needs, total-full)
+
+add-next-of : tie.Need-add-next-of Inv-loop μ-loop
+add-next-of c = search needs
+
+next-of-requires-2 : tie.Need-next-of-requires-2 Inv-loop μ-loop
+next-of-requires-2 c κs = search needs
+
+loop-less : tie.Need-loop-less Inv-loop μ-loop
+loop-less c = search needs
+
+loop-again : tie.Need-loop-again Inv-loop μ-loop
+loop-again c = search (needs, total-step)
+
+returns-2 : tie.Need-returns-2 Inv-loop μ-loop
+returns-2 c = search (needs, total-end)
+
+pub count-union-spec : {M : Type 1} → statement M
+count-union-spec =
+    tie.close
+    (tie.spec
+    Inv-loop
+    μ-loop
+    next-of-requires
+    loop-holds
+    member-at-requires
+    cast-matching-count
+    matching-count-requires
+    add-total
+    returns
+    add-next-of
+    next-of-requires-2
+    loop-less
+    loop-again
+    returns-2)

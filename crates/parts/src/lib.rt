@@ -1,0 +1,215 @@
+// Parts of a rule, one after another in file order: they get variables, are named for tracking and opened, or a clause is added for each.
+use cache::Choice;
+use encoder::Counters;
+use encoder::Run;
+use state::Limits;
+use tables::Counts;
+ghost use mathlib.Core.Path.{_≡_};
+ghost use mathlib.Core.Bool.{true, not, _&&_};
+ghost use mathlib.Core.List.{[], _∷_};
+ghost use Prim.Native.Nat.{_<_, _≤_};
+ghost use lib.Dec.{eqb};
+ghost use lib.ListN.{length, getD};
+ghost use Rattle.rules.specs.Lists.{fold, when, listIf};
+ghost use Rattle.rules.specs.Catalogue.{noPart};
+ghost use Rattle.rules.specs.Variables.{known, partOrigin};
+ghost use Rattle.rules.specs.Opening.{openReady};
+ghost use Rattle.tables.specs.Tables.{tables, Laid};
+ghost use Rattle.cache.specs.Areas.{catalogue};
+ghost use Rattle.catalogue.specs.Reading.{Kept};
+ghost use Rattle.state.specs.Layout.{held, Fits};
+ghost use Rattle.variable_map.specs.Mapping.{variables};
+ghost use Rattle.encoder.specs.Held.{runOf, LongEnough, GoodState, Good};
+ghost use Rattle.encoder.specs.Did.{onOpening, StateDid, ClausesDid};
+ghost use Rattle.parts.specs.declared.Naming.the-variants.{Tracked, Candidate};
+ghost use Rattle.parts.specs.Parts.{selectedOf, partsFor, namingOf, addingOf, CanAdd, AllKnown};
+
+// Which parts: those chosen of a range, those of a name but the locked one, the excluded ones of a name.
+pub enum Parts {
+    Chosen { range: usize, choice: Choice },
+    Others { name: u16, locked: usize },
+    Excluded(u16),
+}
+
+// What is named: a variable; for a part that is also tracked; for a candidate, which is also opened if it is ready.
+pub enum Naming {
+    Variable,
+    Tracked,
+    Candidate,
+}
+
+// The clause that is added: lock, excluded, constrains of an owner's variable, aux-out of a violation.
+pub enum Adding {
+    Lock,
+    Excluded,
+    Constrains(u16),
+    AuxOut(u16),
+}
+
+fn is_other(t: &[u8], k: Counts, name: u16, locked: usize, p: usize) -> bool
+    requires { ⌜ Laid k (length (now t)) ⌝ }
+    ensures { λ b. ⌜ b ≡ (eqb ((getD (tables k (now (t .entry)) .parts) p noPart) .name) name && not (eqb p locked)) ⌝ }
+{
+    if tables::part_name(t, k, p) != name {
+        return false;
+    }
+    p != locked
+}
+
+fn is_excluded(t: &[u8], k: Counts, name: u16, p: usize) -> bool
+    requires { ⌜ Laid k (length (now t)) ⌝ }
+    ensures { λ b. ⌜ b ≡ (eqb ((getD (tables k (now (t .entry)) .parts) p noPart) .name) name && (getD (tables k (now (t .entry)) .parts) p noPart) .excluded) ⌝ }
+{
+    if tables::part_name(t, k, p) != name {
+        return false;
+    }
+    tables::excluded(t, k, p)
+}
+
+// Is part p one of these?
+pub fn selected(marks: &[u8], unions: &[u8], t: &[u8], k: Counts, which: Parts, p: usize) -> bool
+    requires { ⌜ Kept k (now marks) (now unions) (now t) ⌝ }
+    ensures { λ b. ⌜ b ≡ selectedOf (catalogue k (now (marks .entry)) (now (unions .entry)) (now (t .entry))) which p ⌝ }
+{
+    match which {
+        Parts::Chosen { range, choice } => cache::chosen(marks, unions, t, k, range, choice, p),
+        Parts::Others { name, locked } => is_other(t, k, name, locked, p),
+        Parts::Excluded(name) => is_excluded(t, k, name, p),
+    }
+}
+
+// ---- naming
+
+fn open_ready(marks: &[u8], unions: &[u8], t: &[u8], k: Counts, s: &mut [u8], l: Limits, n: Counters, p: u16) -> Counters
+    requires { ⌜ Kept k (now marks) (now unions) (now t) ⌝ }
+    requires { ⌜ Fits l (length (now s)) ⌝ }
+    requires { ⌜ GoodState (catalogue k (now marks) (now unions) (now t)) l n (held l (now s)) ⌝ }
+    requires { ⌜ p < 1024 ⌝ }
+    ensures { λ m. ⌜ StateDid (catalogue k (now (marks .entry)) (now (unions .entry)) (now (t .entry))) l (λ v. onOpening (openReady (catalogue k (now (marks .entry)) (now (unions .entry)) (now (t .entry))) p)) n (held l (now (s .entry))) m (held l (now (s .exit))) ⌝ }
+{
+    if tables::ready(t, k, p as usize) {
+        return opening::open_owner(s, l, n, p);
+    }
+    n
+}
+
+fn name_tracked(marks: &[u8], unions: &[u8], t: &[u8], k: Counts, s: &mut [u8], l: Limits, n: Counters, p: u16) -> Counters
+    requires { ⌜ Kept k (now marks) (now unions) (now t) ⌝ }
+    requires { ⌜ Fits l (length (now s)) ⌝ }
+    requires { ⌜ GoodState (catalogue k (now marks) (now unions) (now t)) l n (held l (now s)) ⌝ }
+    requires { ⌜ p < 1024 ⌝ }
+    ensures { λ m. ⌜ StateDid (catalogue k (now (marks .entry)) (now (unions .entry)) (now (t .entry))) l (λ v. namingOf (catalogue k (now (marks .entry)) (now (unions .entry)) (now (t .entry))) Tracked p) n (held l (now (s .entry))) m (held l (now (s .exit))) ⌝ }
+{
+    let m = opening::name_variable(s, l, n, variable_map::part(p));
+    opening::name_for_tracking(marks, unions, t, k, s, l, m, p)
+}
+
+fn name_candidate(marks: &[u8], unions: &[u8], t: &[u8], k: Counts, s: &mut [u8], l: Limits, n: Counters, p: u16) -> Counters
+    requires { ⌜ Kept k (now marks) (now unions) (now t) ⌝ }
+    requires { ⌜ Fits l (length (now s)) ⌝ }
+    requires { ⌜ GoodState (catalogue k (now marks) (now unions) (now t)) l n (held l (now s)) ⌝ }
+    requires { ⌜ p < 1024 ⌝ }
+    ensures { λ m. ⌜ StateDid (catalogue k (now (marks .entry)) (now (unions .entry)) (now (t .entry))) l (λ v. namingOf (catalogue k (now (marks .entry)) (now (unions .entry)) (now (t .entry))) Candidate p) n (held l (now (s .entry))) m (held l (now (s .exit))) ⌝ }
+{
+    let m = name_tracked(marks, unions, t, k, s, l, n, p);
+    open_ready(marks, unions, t, k, s, l, m, p)
+}
+
+fn name_part(marks: &[u8], unions: &[u8], t: &[u8], k: Counts, s: &mut [u8], l: Limits, n: Counters, naming: Naming, p: u16) -> Counters
+    requires { ⌜ Kept k (now marks) (now unions) (now t) ⌝ }
+    requires { ⌜ Fits l (length (now s)) ⌝ }
+    requires { ⌜ GoodState (catalogue k (now marks) (now unions) (now t)) l n (held l (now s)) ⌝ }
+    requires { ⌜ p < 1024 ⌝ }
+    ensures { λ m. ⌜ StateDid (catalogue k (now (marks .entry)) (now (unions .entry)) (now (t .entry))) l (λ v. namingOf (catalogue k (now (marks .entry)) (now (unions .entry)) (now (t .entry))) naming p) n (held l (now (s .entry))) m (held l (now (s .exit))) ⌝ }
+{
+    match naming {
+        Naming::Variable => opening::name_variable(s, l, n, variable_map::part(p)),
+        Naming::Tracked => name_tracked(marks, unions, t, k, s, l, n, p),
+        Naming::Candidate => name_candidate(marks, unions, t, k, s, l, n, p),
+    }
+}
+
+fn name_if(marks: &[u8], unions: &[u8], t: &[u8], k: Counts, s: &mut [u8], l: Limits, n: Counters, which: Parts, naming: Naming, p: usize) -> Counters
+    requires { ⌜ Kept k (now marks) (now unions) (now t) ⌝ }
+    requires { ⌜ Fits l (length (now s)) ⌝ }
+    requires { ⌜ GoodState (catalogue k (now marks) (now unions) (now t)) l n (held l (now s)) ⌝ }
+    requires { ⌜ p < 1024 ⌝ }
+    ensures { λ m. ⌜ StateDid (catalogue k (now (marks .entry)) (now (unions .entry)) (now (t .entry))) l (λ v. when (selectedOf (catalogue k (now (marks .entry)) (now (unions .entry)) (now (t .entry))) which p) (namingOf (catalogue k (now (marks .entry)) (now (unions .entry)) (now (t .entry))) naming p)) n (held l (now (s .entry))) m (held l (now (s .exit))) ⌝ }
+{
+    if selected(marks, unions, t, k, which, p) {
+        return name_part(marks, unions, t, k, s, l, n, naming, p as u16);
+    }
+    n
+}
+
+// Each of these parts is named.
+pub fn name_each(marks: &[u8], unions: &[u8], t: &[u8], k: Counts, s: &mut [u8], l: Limits, n: Counters, which: Parts, naming: Naming) -> Counters
+    requires { ⌜ Kept k (now marks) (now unions) (now t) ⌝ }
+    requires { ⌜ Fits l (length (now s)) ⌝ }
+    requires { ⌜ GoodState (catalogue k (now marks) (now unions) (now t)) l n (held l (now s)) ⌝ }
+    ensures { λ m. ⌜ StateDid (catalogue k (now (marks .entry)) (now (unions .entry)) (now (t .entry))) l (λ v. fold (namingOf (catalogue k (now (marks .entry)) (now (unions .entry)) (now (t .entry))) naming) (partsFor (catalogue k (now (marks .entry)) (now (unions .entry)) (now (t .entry))) which)) n (held l (now (s .entry))) m (held l (now (s .exit))) ⌝ }
+{
+    let mut m = n;
+    let mut p = 0;
+    while p < k.parts {
+        m = name_if(marks, unions, t, k, s, l, m, which, naming, p);
+        p += 1;
+    }
+    m
+}
+
+// ---- adding
+
+fn add_part(marks: &[u8], unions: &[u8], t: &[u8], k: Counts, s: &mut [u8], clauses: &mut [u8], l: Limits, n: Counters, r: Run, adding: Adding, p: u16) -> Counters
+    requires { ⌜ Kept k (now marks) (now unions) (now t) ⌝ }
+    requires { ⌜ Fits l (length (now s)) ⌝ }
+    requires { ⌜ Good (catalogue k (now marks) (now unions) (now t)) l n (held l (now s)) (now clauses) [] ⌝ }
+    requires { ⌜ LongEnough l (length (now clauses)) 16384 ⌝ }
+    requires { ⌜ CanAdd l r adding ⌝ }
+    requires { ⌜ (p < 1024) ⌝ }
+    requires { ⌜ known (variables (n .variables) (held l (now s))) (partOrigin p) ≡ true ⌝ }
+    ensures { λ m. ⌜ ClausesDid (catalogue k (now (marks .entry)) (now (unions .entry)) (now (t .entry))) l (λ v. addingOf (runOf r) adding p) n (held l (now (s .entry))) (now (clauses .entry)) m (held l (now (s .exit))) (now (clauses .exit)) ⌝ }
+{
+    let x = opening::variable_of(s, l, n, variable_map::part(p));
+    match adding {
+        Adding::Lock => clauses::add_lock(s, clauses, l, n, r, x),
+        Adding::Excluded => clauses::add_excluded(s, clauses, l, n, r, x, p, false),
+        Adding::Constrains(owner) => clauses::add_constrains(s, clauses, l, n, r, owner, x),
+        Adding::AuxOut(violation) => clauses::add_aux_out(s, clauses, l, n, r, x, violation),
+    }
+}
+
+fn add_if(marks: &[u8], unions: &[u8], t: &[u8], k: Counts, s: &mut [u8], clauses: &mut [u8], l: Limits, n: Counters, r: Run, which: Parts, adding: Adding, p: usize) -> Counters
+    requires { ⌜ Kept k (now marks) (now unions) (now t) ⌝ }
+    requires { ⌜ Fits l (length (now s)) ⌝ }
+    requires { ⌜ Good (catalogue k (now marks) (now unions) (now t)) l n (held l (now s)) (now clauses) [] ⌝ }
+    requires { ⌜ LongEnough l (length (now clauses)) 16384 ⌝ }
+    requires { ⌜ CanAdd l r adding ⌝ }
+    requires { ⌜ (p < 1024) ⌝ }
+    requires { ⌜ AllKnown (variables (n .variables) (held l (now s))) (listIf (selectedOf (catalogue k (now marks) (now unions) (now t)) which p) (p ∷ [])) ⌝ }
+    ensures { λ m. ⌜ ClausesDid (catalogue k (now (marks .entry)) (now (unions .entry)) (now (t .entry))) l (λ v. when (selectedOf (catalogue k (now (marks .entry)) (now (unions .entry)) (now (t .entry))) which p) (addingOf (runOf r) adding p)) n (held l (now (s .entry))) (now (clauses .entry)) m (held l (now (s .exit))) (now (clauses .exit)) ⌝ }
+{
+    if selected(marks, unions, t, k, which, p) {
+        return add_part(marks, unions, t, k, s, clauses, l, n, r, adding, p as u16);
+    }
+    n
+}
+
+// A clause is added for each of these parts, which have variables.
+pub fn add_each(marks: &[u8], unions: &[u8], t: &[u8], k: Counts, s: &mut [u8], clauses: &mut [u8], l: Limits, n: Counters, r: Run, which: Parts, adding: Adding) -> Counters
+    requires { ⌜ Kept k (now marks) (now unions) (now t) ⌝ }
+    requires { ⌜ Fits l (length (now s)) ⌝ }
+    requires { ⌜ Good (catalogue k (now marks) (now unions) (now t)) l n (held l (now s)) (now clauses) [] ⌝ }
+    requires { ⌜ LongEnough l (length (now clauses)) 16384 ⌝ }
+    requires { ⌜ CanAdd l r adding ⌝ }
+    requires { ⌜ AllKnown (variables (n .variables) (held l (now s))) (partsFor (catalogue k (now marks) (now unions) (now t)) which) ⌝ }
+    ensures { λ m. ⌜ ClausesDid (catalogue k (now (marks .entry)) (now (unions .entry)) (now (t .entry))) l (λ v. fold (addingOf (runOf r) adding) (partsFor (catalogue k (now (marks .entry)) (now (unions .entry)) (now (t .entry))) which)) n (held l (now (s .entry))) (now (clauses .entry)) m (held l (now (s .exit))) (now (clauses .exit)) ⌝ }
+{
+    let mut m = n;
+    let mut p = 0;
+    while p < k.parts {
+        m = add_if(marks, unions, t, k, s, clauses, l, m, r, which, adding, p);
+        p += 1;
+    }
+    m
+}
