@@ -1,17 +1,17 @@
 -- Each kind of clause: a law for each way out of each function.
-use mathlib.Core.Path.{_≡_, refl, sym, _∙_, ap}
-use mathlib.Core.Bool.{Bool, true, false, cond, not, _&&_, true≢false, false≢true}
-use mathlib.Core.List.{List, [], _∷_, _++_, map}
-use Prim.Native.Nat.{ℕ, suc, _+_, _-_, _*_, _<_, _≤_}
+use mathlib.Core.Path.{_≡_, refl, _∙_, ap}
+use mathlib.Core.Bool.{Bool, true, false, cond, not, _&&_, false≢true}
+use mathlib.Core.List.{List, map}
+use Prim.Native.Nat.{ℕ, suc, _+_, _<_, _≤_}
 use native.Mathlib.Omega.{arith}
-use lib.Dec.{eqb, ltb, leb}
+use lib.Dec.{ltb, leb}
 use lib.ListN.{length}
 use borrow.Author.Tests.{lt-ltb}
-use Rattle.rules.specs.Lists.{snoc, when, sum}
-use Rattle.rules.specs.Literal.{Literal, pos, neg}
+use Rattle.rules.specs.Lists.{when, sum}
+use Rattle.rules.specs.Literal.{Literal}
 use Rattle.rules.specs.Clause.{Clause, requires, gated, excluded, constrains, forbid, auxOut, auxOwner, lock, anyGate, anyOne, exclusion, unknownDependencies, conditionLiterals}
 use Rattle.rules.specs.Catalogue.{Catalogue}
-use Rattle.rules.specs.Decisions.{Decision, Evaluation, undecided, satisfied, falsified, evaluate, isTrue, isFalse, allFalse}
+use Rattle.rules.specs.Decisions.{Decision, Evaluation, undecided, satisfied, falsified, evaluate, isTrue, isFalse}
 use Rattle.rules.specs.Variables.{Origin}
 use Rattle.rules.specs.State.{State, Run, report, force, propagateBy, propagate, effect}
 use Rattle.rules.proofs.Bools.{or-true}
@@ -28,7 +28,7 @@ use Rattle.solver.specs.declared.Stored.{Stored}
 use Rattle.solver.specs.Rows.{rowOf}
 use Rattle.encoder.specs.declared.Counters.{Counters}
 use Rattle.encoder.specs.declared.Run as encoder
-use Rattle.encoder.specs.Held.{runOf, Reading, literalIn, literalsIn, goalVariables, clauseIn, stateOf, Sound, Good}
+use Rattle.encoder.specs.Held.{runOf, Reading, literalIn, literalsIn, goalVariables, clauseIn, stateOf, Good}
 use Rattle.encoder.specs.Did.{limitsOf, roomOf, beyond, filled}
 use Rattle.encoder.proofs.Frames.{good-within}
 use Rattle.encoder.proofs.Did.{did-full, did-filled}

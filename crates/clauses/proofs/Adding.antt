@@ -1,24 +1,21 @@
 -- A clause is added: stored, and heeded by what it does when it is made.
 use mathlib.Core.Path.{_≡_, refl, sym, _∙_, ap}
-use mathlib.Core.Bool.{Bool, true, false, cond, not, _&&_, true≢false}
-use mathlib.Core.List.{List, [], _∷_, _++_, map, append-nil}
-use Prim.Native.Nat.{ℕ, suc, _+_, _-_, _*_, _<_, _≤_}
+use mathlib.Core.Bool.{Bool, true, false, cond, true≢false}
+use mathlib.Core.List.{List, append-nil}
+use Prim.Native.Nat.{ℕ, _-_, _<_}
 use native.Mathlib.Omega.{arith}
-use lib.Dec.{eqb, leb}
 use lib.ListN.{length}
 use borrow.Author.Tests.{ne-eqb}
 use Rattle.rules.specs.Lists.{snoc, when}
-use Rattle.rules.specs.Literal.{Literal, pos, neg}
-use Rattle.rules.specs.Clause.{Clause, requires, gated, excluded, constrains, forbid, auxOut, auxOwner, lock, anyGate, anyOne, conditionLiterals}
+use Rattle.rules.specs.Literal.{Literal}
+use Rattle.rules.specs.Clause.{Clause}
 use Rattle.rules.specs.Catalogue.{Catalogue}
-use Rattle.rules.specs.Decisions.{Decision, evaluate, isTrue, isFalse, allFalse}
+use Rattle.rules.specs.Decisions.{Decision}
 use Rattle.rules.specs.Variables.{Origin}
-use Rattle.rules.specs.State.{State, setClauses, Run, report, force, propagate, effect}
+use Rattle.rules.specs.State.{State, setClauses, Run, report, force, effect}
 use Rattle.rules.proofs.ClauseByClause.{addClause}
-use Rattle.rules.proofs.Effects.{effect-is, effect-leaves}
-use Rattle.rules.proofs.Grows.{whole}
 use Rattle.clause.specs.declared.Literal as code
-use Rattle.clause.specs.Literals.{literalOf, signed}
+use Rattle.clause.specs.Literals.{literalOf}
 use Rattle.state.specs.declared.Limits.{Limits}
 use Rattle.variable_map.specs.Mapping.{variables}
 use Rattle.decision_tracker.specs.Tracking.{decisions}
@@ -26,12 +23,12 @@ use Rattle.solver.specs.declared.Stored.{Stored}
 use Rattle.solver.specs.Rows.{rowOf}
 use Rattle.encoder.specs.declared.Counters.{Counters}
 use Rattle.encoder.specs.declared.Run as encoder
-use Rattle.encoder.specs.Held.{runOf, Reading, conflictIf, clauseIn, clausesIn, stateOf, Good, LongEnough}
+use Rattle.encoder.specs.Held.{runOf, Reading, conflictIf, clauseIn, stateOf, Good, LongEnough}
 use Rattle.encoder.specs.Did.{roomOf, Widens, Did}
 use Rattle.encoder.proofs.Frames.{clauses-counted}
 use Rattle.encoder.proofs.Did.{widens-then, stays-beyond, did-as, did-then}
 use Rattle.encoder.proofs.Widening.{addClause-widens}
-use Rattle.clauses.specs.Adding.{withClause, pairOf, reasonFor, CanAdd, Fitting, Stores, CanForce, Forces, Sets, Adds, IsPair, AddsPair}
+use Rattle.clauses.specs.Adding.{withClause, CanAdd, Fitting, Stores, CanForce, Forces, Sets}
 use Rattle.clauses.proofs.Storing.{withClause-widens}
 use Rattle.clauses.proofs.Setting.{force-widens}
 

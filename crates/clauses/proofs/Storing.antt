@@ -1,6 +1,6 @@
 -- A clause is stored: the rows have one more, and with it the clauses and the conflicts.
 use mathlib.Core.Path.{_≡_, refl, sym, _∙_, ap}
-use mathlib.Core.Bool.{Bool, true, false, _||_, true≢false}
+use mathlib.Core.Bool.{true, true≢false}
 use mathlib.Core.List.{List, [], _∷_, _++_, map, append-nil, append-assoc}
 use Prim.Native.Nat.{ℕ, suc, _+_, _<_, _≤_}
 use native.Mathlib.Omega.{arith}
@@ -12,10 +12,10 @@ use Rattle.rules.specs.Lists.{any, snoc, sum}
 use Rattle.rules.specs.Clause.{Clause, conditionLiterals}
 use Rattle.rules.specs.Catalogue.{Catalogue}
 use Rattle.rules.specs.Variables.{Origin}
-use Rattle.rules.specs.State.{State, setClauses}
+use Rattle.rules.specs.State.{State}
 use Rattle.rules.specs.Limits.{above}
 use Rattle.rules.proofs.Bools.{or-true}
-use Rattle.rules.proofs.Each.{Each, each-imp, each-snoc}
+use Rattle.rules.proofs.Each.{each-imp, each-snoc}
 use Rattle.rules.proofs.Grows.{whole, ending}
 use Rattle.rules.proofs.ListLaws.{length-snoc, sum-append}
 use Rattle.state.specs.declared.Limits.{Limits}
@@ -98,8 +98,11 @@ module _ (l : Limits) (n : Counters) (row : Stored) (cl : List ℕ) where
     store-state v =
         let vs = variables (n .variables) st in
         rw (
-          e, map-snoc (clauseIn c vs (st 19)) (rows (n .clauses) cl) (rowOf row), conflicts-more 0 (rows (n .clauses) cl) (rowOf row),
-          zero-add, length-map (rows (n .clauses) cl) (clauseIn c vs (st 19)),
+          e,
+          map-snoc (clauseIn c vs (st 19)) (rows (n .clauses) cl) (rowOf row),
+          conflicts-more 0 (rows (n .clauses) cl) (rowOf row),
+          zero-add,
+          length-map (rows (n .clauses) cl) (clauseIn c vs (st 19)),
         ) (unfold rowOf in refl)
 
     store-good : count ≤ l .clauses → Fitting c l n st row → Good c l n st cl wt → Good c l (counting count (n .literals + row .count) n) st cl′ wt

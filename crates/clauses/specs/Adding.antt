@@ -1,7 +1,7 @@
 -- A clause is stored and heeded; a literal is set.
 use mathlib.Core.Path.{_≡_}
 use mathlib.Core.Bool.{Bool, true, false}
-use mathlib.Core.List.{List, [], _∷_, _++_, map}
+use mathlib.Core.List.{List, [], _++_, map}
 use Prim.Native.Nat.{ℕ, _+_, _-_, _*_, _<_, _≤_}
 use lib.ListN.{length}
 use Rattle.rules.specs.Lists.{snoc}
@@ -53,6 +53,7 @@ pub record Fitting (c : Catalogue) (l : Limits) (n : Counters) (st : ℕ → Lis
   pub sound : Sound c (variables (n .variables) st) (n .literals + row .count) (rowOf row)
   pub counted : conditionLiterals (clauseIn c (variables (n .variables) st) (st 19) (rowOf row)) ≡ row .count
 
+-- the row stands behind the others, or it is full
 pub record Stores (l : Limits) (row : Stored) (n : Counters) (cl : List ℕ) (n′ : Counters) (cl′ : List ℕ) : Type 0 where
   pub decisions : n′ .decisions ≡ n .decisions
   pub room : n′ .clauses ≤ l .clauses
@@ -76,7 +77,7 @@ pub record Sets (l : Limits) (r : Run) (row : Stored) (x : code.Literal)
     (n : Counters) (st : ℕ → List ℕ) (cl : List ℕ) (n′ : Counters) (st′ : ℕ → List ℕ) (cl′ : List ℕ) : Type 0 where
   pub is : (c : Catalogue) (wt : List ℕ) → Fitting c l n st row
       → Did c l (λ v s. force (runOf r) (length (s .clauses)) (literalOf x) (withClause (clauseIn c (s .variables) (st 19) (rowOf row)) (row .conflict) s))
-          n st cl wt n′ st′ cl′ wt
+      n st cl wt n′ st′ cl′ wt
 
 -- clause k is added in run r
 pub record Adds (l : Limits) (r : Run) (k : Clause) (n : Counters) (st : ℕ → List ℕ) (cl : List ℕ) (n′ : Counters) (st′ : ℕ → List ℕ) (cl′ : List ℕ) : Type 0 where
@@ -99,6 +100,7 @@ outcomeOf values.Undecided values.Undecided = outcomes.Nothing
 unfoldable pub outcomeIn : List Decision → Literal → Literal → Outcome
 outcomeIn ds a b = outcomeOf (seen (evaluate ds a)) (seen (evaluate ds b))
 
+-- of a clause of two literals: variables that exist, and a run that can be reported
 pub record CanPair (l : Limits) (r : Run) (a b : code.Literal) : Type 0 where
   pub run : 0 < r .number
   pub first : (literalOf a) .variable < l .variables
@@ -115,8 +117,14 @@ pub record IsPair (kind first second : ℕ) (k : Clause) : Type 0 where
 unfoldable pub asConflict : ℕ → Stored → Stored
 asConflict run r =
     record {
-      kind = r .kind; first = r .first; second = r .second; start = r .start; count = r .count; form = r .form; number = r .number;
-      conflict = run
+      kind = r .kind;
+      first = r .first;
+      second = r .second;
+      start = r .start;
+      count = r .count;
+      form = r .form;
+      number = r .number;
+      conflict = run;
     }
 
 -- if the row is a clause whose two literals are a and b, that clause is added

@@ -12,7 +12,7 @@ ghost use Prim.Native.Nat.{_+_, _*_, _<_, _≤_};
 ghost use lib.Dec.{leb};
 ghost use lib.ListN.{length};
 ghost use Rattle.rules.specs.Clause.{excluded, constrains, forbid, auxOut, auxOwner, lock, anyGate, anyOne};
-ghost use Rattle.rules.specs.Decisions.{isTrue, isFalse};
+ghost use Rattle.rules.specs.Decisions.{isTrue};
 ghost use Rattle.clause.specs.Literals.{literalOf};
 ghost use Rattle.state.specs.Layout.{held, Fits};
 ghost use Rattle.decision_tracker.specs.Tracking.{decisions, Kept};
@@ -103,7 +103,16 @@ fn pair(kind: u16, first: u16, second: u16, conflict: u16) -> Stored
 // ---- clauses that only report
 
 // Part p, whose variable is x, is excluded, for its unknown dependencies or else for its exclusion.
-pub fn add_excluded(s: &[u8], clauses: &mut [u8], l: Limits, n: Counters, r: Run, x: u16, p: u16, unknown: bool) -> Counters
+pub fn add_excluded(
+    s: &[u8],
+    clauses: &mut [u8],
+    l: Limits,
+    n: Counters,
+    r: Run,
+    x: u16,
+    p: u16,
+    unknown: bool,
+) -> Counters
     requires { ⌜ Fits l (length (now s)) ⌝ }
     requires { ⌜ CanAdd l n (held l (now s)) (length (now clauses)) ⌝ }
     requires { ⌜ 0 < r .number ⌝ }
@@ -117,7 +126,15 @@ pub fn add_excluded(s: &[u8], clauses: &mut [u8], l: Limits, n: Counters, r: Run
     store(clauses, l, n, pair(3, x, p, run))
 }
 
-pub fn add_constrains(s: &[u8], clauses: &mut [u8], l: Limits, n: Counters, r: Run, owner: u16, x: u16) -> Counters
+pub fn add_constrains(
+    s: &[u8],
+    clauses: &mut [u8],
+    l: Limits,
+    n: Counters,
+    r: Run,
+    owner: u16,
+    x: u16,
+) -> Counters
     requires { ⌜ Fits l (length (now s)) ⌝ }
     requires { ⌜ CanAdd l n (held l (now s)) (length (now clauses)) ⌝ }
     requires { ⌜ 0 < r .number ⌝ }
@@ -128,7 +145,15 @@ pub fn add_constrains(s: &[u8], clauses: &mut [u8], l: Limits, n: Counters, r: R
     store(clauses, l, n, pair(5, owner, x, run_unless(chosen, out, r)))
 }
 
-pub fn add_aux_owner(s: &[u8], clauses: &mut [u8], l: Limits, n: Counters, r: Run, owner: u16, violation: u16) -> Counters
+pub fn add_aux_owner(
+    s: &[u8],
+    clauses: &mut [u8],
+    l: Limits,
+    n: Counters,
+    r: Run,
+    owner: u16,
+    violation: u16,
+) -> Counters
     requires { ⌜ Fits l (length (now s)) ⌝ }
     requires { ⌜ CanAdd l n (held l (now s)) (length (now clauses)) ⌝ }
     requires { ⌜ 0 < r .number ⌝ }
@@ -136,7 +161,12 @@ pub fn add_aux_owner(s: &[u8], clauses: &mut [u8], l: Limits, n: Counters, r: Ru
 {
     let violated = decision_tracker::is_true(s, l, n.decisions, violation);
     let out = decision_tracker::is_false(s, l, n.decisions, owner);
-    store(clauses, l, n, pair(8, owner, violation, run_unless(violated, out, r)))
+    store(
+        clauses,
+        l,
+        n,
+        pair(8, owner, violation, run_unless(violated, out, r)),
+    )
 }
 
 pub fn add_lock(s: &[u8], clauses: &mut [u8], l: Limits, n: Counters, r: Run, x: u16) -> Counters
@@ -148,7 +178,18 @@ pub fn add_lock(s: &[u8], clauses: &mut [u8], l: Limits, n: Counters, r: Run, x:
 }
 
 // An owner's requires, whose literals there is room for.
-fn store_requires(s: &[u8], clauses: &mut [u8], l: Limits, n: Counters, r: Run, owner: u16, count: usize, form: u16, number: u16, all: bool) -> Counters
+fn store_requires(
+    s: &[u8],
+    clauses: &mut [u8],
+    l: Limits,
+    n: Counters,
+    r: Run,
+    owner: u16,
+    count: usize,
+    form: u16,
+    number: u16,
+    all: bool,
+) -> Counters
     requires { ⌜ Fits l (length (now s)) ⌝ }
     requires { ⌜ CanAdd l n (held l (now s)) (length (now clauses)) ⌝ }
     requires { ⌜ (0 < r .number) × (n .literals + count ≤ l .literals) ⌝ }
@@ -169,7 +210,18 @@ fn store_requires(s: &[u8], clauses: &mut [u8], l: Limits, n: Counters, r: Run, 
 }
 
 // An owner's requires: its condition literals are the `count` numbers behind those of the stored clauses, its candidates those of the goal.
-pub fn add_requires(s: &[u8], clauses: &mut [u8], l: Limits, n: Counters, r: Run, owner: u16, count: usize, form: u16, number: u16, all: bool) -> Counters
+pub fn add_requires(
+    s: &[u8],
+    clauses: &mut [u8],
+    l: Limits,
+    n: Counters,
+    r: Run,
+    owner: u16,
+    count: usize,
+    form: u16,
+    number: u16,
+    all: bool,
+) -> Counters
     requires { ⌜ Fits l (length (now s)) ⌝ }
     requires { ⌜ CanAdd l n (held l (now s)) (length (now clauses)) ⌝ }
     requires { ⌜ (0 < r .number) × (count ≤ 16384) ⌝ }
@@ -187,7 +239,15 @@ pub fn add_requires(s: &[u8], clauses: &mut [u8], l: Limits, n: Counters, r: Run
 // ---- clauses that may set a literal
 
 // A row behind the others, which sets a literal true that is undecided.
-fn store_setting(s: &mut [u8], clauses: &mut [u8], l: Limits, n: Counters, r: Run, row: Stored, literal: Literal) -> Counters
+fn store_setting(
+    s: &mut [u8],
+    clauses: &mut [u8],
+    l: Limits,
+    n: Counters,
+    r: Run,
+    row: Stored,
+    literal: Literal,
+) -> Counters
     requires { ⌜ Fits l (length (now s)) ⌝ }
     requires { ⌜ CanAdd l n (held l (now s)) (length (now clauses)) ⌝ }
     requires { ⌜ (literalOf literal) .variable < l .variables ⌝ }
@@ -201,7 +261,17 @@ fn store_setting(s: &mut [u8], clauses: &mut [u8], l: Limits, n: Counters, r: Ru
 }
 
 // A gate's own requires: the gate is made false if all candidates are.
-pub fn add_gated(s: &mut [u8], clauses: &mut [u8], l: Limits, n: Counters, r: Run, gate: u16, form: u16, number: u16, all: bool) -> Counters
+pub fn add_gated(
+    s: &mut [u8],
+    clauses: &mut [u8],
+    l: Limits,
+    n: Counters,
+    r: Run,
+    gate: u16,
+    form: u16,
+    number: u16,
+    all: bool,
+) -> Counters
     requires { ⌜ Fits l (length (now s)) ⌝ }
     requires { ⌜ CanAdd l n (held l (now s)) (length (now clauses)) ⌝ }
     requires { ⌜ gate < l .variables ⌝ }
@@ -223,7 +293,15 @@ pub fn add_gated(s: &mut [u8], clauses: &mut [u8], l: Limits, n: Counters, r: Ru
     store(clauses, l, n, row)
 }
 
-pub fn add_aux_out(s: &mut [u8], clauses: &mut [u8], l: Limits, n: Counters, r: Run, x: u16, violation: u16) -> Counters
+pub fn add_aux_out(
+    s: &mut [u8],
+    clauses: &mut [u8],
+    l: Limits,
+    n: Counters,
+    r: Run,
+    x: u16,
+    violation: u16,
+) -> Counters
     requires { ⌜ Fits l (length (now s)) ⌝ }
     requires { ⌜ CanAdd l n (held l (now s)) (length (now clauses)) ⌝ }
     requires { ⌜ violation < l .variables ⌝ }
@@ -249,7 +327,15 @@ fn is_one(s: &[u8], l: Limits, n: Counters, r: Run, y: u16, x: u16) -> bool
 }
 
 // One-of-name y for part x.
-pub fn add_any_one(s: &mut [u8], clauses: &mut [u8], l: Limits, n: Counters, r: Run, y: u16, x: u16) -> Counters
+pub fn add_any_one(
+    s: &mut [u8],
+    clauses: &mut [u8],
+    l: Limits,
+    n: Counters,
+    r: Run,
+    y: u16,
+    x: u16,
+) -> Counters
     requires { ⌜ Fits l (length (now s)) ⌝ }
     requires { ⌜ CanAdd l n (held l (now s)) (length (now clauses)) ⌝ }
     requires { ⌜ y < l .variables ⌝ }
@@ -302,7 +388,16 @@ fn as_conflict(row: Stored, r: Run) -> Stored
 }
 
 // A row whose two literals are a and b.
-fn add_pair(s: &mut [u8], clauses: &mut [u8], l: Limits, n: Counters, r: Run, row: Stored, a: Literal, b: Literal) -> Counters
+fn add_pair(
+    s: &mut [u8],
+    clauses: &mut [u8],
+    l: Limits,
+    n: Counters,
+    r: Run,
+    row: Stored,
+    a: Literal,
+    b: Literal,
+) -> Counters
     requires { ⌜ Fits l (length (now s)) ⌝ }
     requires { ⌜ CanAdd l n (held l (now s)) (length (now clauses)) ⌝ }
     requires { ⌜ CanPair l r a b ⌝ }
@@ -317,20 +412,54 @@ fn add_pair(s: &mut [u8], clauses: &mut [u8], l: Limits, n: Counters, r: Run, ro
 }
 
 // Part x agrees with a helper's literal.
-pub fn add_forbid(s: &mut [u8], clauses: &mut [u8], l: Limits, n: Counters, r: Run, x: u16, helper: Literal) -> Counters
+pub fn add_forbid(
+    s: &mut [u8],
+    clauses: &mut [u8],
+    l: Limits,
+    n: Counters,
+    r: Run,
+    x: u16,
+    helper: Literal,
+) -> Counters
     requires { ⌜ Fits l (length (now s)) ⌝ }
     requires { ⌜ CanAdd l n (held l (now s)) (length (now clauses)) ⌝ }
     requires { ⌜ (0 < r .number) × (x < l .variables) × ((literalOf helper) .variable < l .variables) ⌝ }
     ensures { λ m. ⌜ Adds l r (forbid x (literalOf helper)) n (held l (now (s .entry))) (now (clauses .entry)) m (held l (now (s .exit))) (now (clauses .exit)) ⌝ }
 {
-    add_pair(s, clauses, l, n, r, pair(6, x, helper.code, 0), Literal::new(x, false), helper)
+    add_pair(
+        s,
+        clauses,
+        l,
+        n,
+        r,
+        pair(6, x, helper.code, 0),
+        Literal::new(x, false),
+        helper,
+    )
 }
 
-pub fn add_any_gate(s: &mut [u8], clauses: &mut [u8], l: Limits, n: Counters, r: Run, gate: u16, owner: u16) -> Counters
+pub fn add_any_gate(
+    s: &mut [u8],
+    clauses: &mut [u8],
+    l: Limits,
+    n: Counters,
+    r: Run,
+    gate: u16,
+    owner: u16,
+) -> Counters
     requires { ⌜ Fits l (length (now s)) ⌝ }
     requires { ⌜ CanAdd l n (held l (now s)) (length (now clauses)) ⌝ }
     requires { ⌜ (0 < r .number) × (gate < l .variables) × (owner < l .variables) ⌝ }
     ensures { λ m. ⌜ Adds l r (anyGate gate owner) n (held l (now (s .entry))) (now (clauses .entry)) m (held l (now (s .exit))) (now (clauses .exit)) ⌝ }
 {
-    add_pair(s, clauses, l, n, r, pair(10, gate, owner, 0), Literal::new(gate, true), Literal::new(owner, false))
+    add_pair(
+        s,
+        clauses,
+        l,
+        n,
+        r,
+        pair(10, gate, owner, 0),
+        Literal::new(gate, true),
+        Literal::new(owner, false),
+    )
 }
