@@ -23,10 +23,10 @@ judging c true? q false i = not (entryHolds c true? q i)
 unfoldable pub indicesIn : Indices → List ℕ
 indicesIn x = take (x .len) (x .at)
 
-pub record Lists (x : Indices) (is : List ℕ) : Type 0 where
-  pub len : x .len ≡ length is
+pub record Lists (x : Indices) (js : List ℕ) : Type 0 where
+  pub len : x .len ≡ length js
   pub room : x .len ≤ 64
-  pub is : indicesIn x ≡ is
+  pub is : indicesIn x ≡ js
 
 -- requirement q opens its names, and task t is queued
 unfoldable pub queued : Catalogue → ℕ → Task → Opening → Opening

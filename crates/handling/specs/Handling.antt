@@ -74,7 +74,7 @@ pub record Pending (l : Limits) (n : Counters) (st : ℕ → List ℕ) (ks : Lis
 -- the literals `more` were put behind them; nothing else changed
 pub record Pushes (c : Catalogue) (l : Limits) (n : Counters) (st : ℕ → List ℕ) (count : ℕ) (more : List Literal) (count′ : ℕ) (st′ : ℕ → List ℕ) : Type 0 where
   pub same : StateDid c l (λ v s. s) n st n st′
-  pub count : count′ ≡ count + length more
+  pub more-counted : count′ ≡ count + length more
   pub pending : (ks : List Literal) → Pending l n st ks count → Pending l n st′ (ks ++ more) count′
 
 -- ---- clauses
