@@ -26,7 +26,7 @@ use Rattle.line.specs.declared.Task as line
 use Rattle.line.specs.declared.Task.the-variants.{Owner, Name, Condition, Requirement, Constraint, Drawn}
 use Rattle.line.specs.Line.{queued}
 use Rattle.line.specs.Tasks.{taskOf}
-use Rattle.entries.specs.Entries.{noEntry, waitingIn, drawnIn}
+use Rattle.entries.specs.Entries.{waitingIn, drawnIn}
 use Rattle.solver.specs.Rows.{Row, rows}
 use Rattle.encoder.specs.declared.Counters.{Counters}
 use Rattle.encoder.specs.declared.Run as code
@@ -47,13 +47,17 @@ firedNow c true? q = filter (entryHolds c true? q) (indices c q)
 unfoldable pub drawnTask : ℕ × ℕ → Task
 drawnTask e = requirement (e .0) (e .1 ∷ [])
 
+-- past the drawn entries: a requirement that no catalogue has
+abbrev pub noSuch : ℕ × ℕ
+noSuch = (65535, 0)
+
 unfoldable pub taskFrom : Catalogue → Reading → line.Task → Task
 taskFrom c v (Owner o) = owner (ownerOf o)
 taskFrom c v (Name n) = name n
 taskFrom c v (Condition q) = condition q
 taskFrom c v (Requirement q) = requirement q (firedNow c (v .truth) q)
 taskFrom c v (Constraint k) = constraint k
-taskFrom c v (Drawn e) = drawnTask (getD (v .drawn) e noEntry)
+taskFrom c v (Drawn e) = drawnTask (getD (v .drawn) e noSuch)
 
 unfoldable pub taskIn : Catalogue → Reading → ℕ → Task
 taskIn c v x = taskFrom c v (taskOf x)

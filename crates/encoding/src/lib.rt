@@ -110,7 +110,9 @@ fn serve_line(marks: &[u8], unions: &[u8], t: &[u8], k: Counts, s: &mut [u8], cl
         m = serve_next(marks, unions, t, k, s, clauses, w, l, m, r, drawn, head);
         head += 1;
     }
-    m
+    let mut done = m;
+    done.first = m.tail;
+    done
 }
 
 // ---- a run
