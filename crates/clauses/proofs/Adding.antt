@@ -50,7 +50,7 @@ did-part {l = l} {n = n} d f w =
       wide = λ v s. widens-then (d .wide v s) (w v s);
       good = d .good;
       first = d .first;
-      hand = d .hand;
+      beside = d .beside;
       fewer = d .fewer;
       drawn = d .drawn;
       stays = d .stays;

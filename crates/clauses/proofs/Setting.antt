@@ -27,7 +27,7 @@ use Rattle.encoder.specs.declared.Run as encoder
 use Rattle.encoder.specs.Held.{runOf, Reading, openingOf, stateOf, Good}
 use Rattle.encoder.specs.Did.{Widens}
 use Rattle.encoder.proofs.Frames.{good-kept, list-kept, line-kept}
-use Rattle.encoder.proofs.Did.{did-idle, did-made, hand-kept}
+use Rattle.encoder.proofs.Did.{did-idle, did-made, beside-kept}
 use Rattle.encoder.proofs.Widening.{widens-when}
 use Rattle.clauses.specs.Adding.{Forces}
 
@@ -110,6 +110,6 @@ module _ {l : Limits} {r : encoder.Run} {n : Counters} {x : code.Literal} {st : 
       → Forces l r x n st (deciding count n) st′
   force-sets q ey eb h t =
       record {
-        is = λ c cl wt. did-made (λ w s. force-widens _ _ _ s) refl (unfold any in hand-kept (t .rest) refl refl) refl refl (λ i. refl) (force-good l r n x _ e q ey eb h _ _ t c cl wt)
+        is = λ c cl wt. did-made (λ w s. force-widens _ _ _ s) refl (λ g. unfold any in beside-kept (t .rest) refl refl refl) refl refl (λ i. refl) (force-good l r n x _ e q ey eb h _ _ t c cl wt)
             (λ g. force-state l r n x _ e q ey eb h _ _ t c cl wt);
       }

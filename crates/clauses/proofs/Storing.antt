@@ -27,7 +27,7 @@ use Rattle.encoder.specs.declared.Counters.{Counters}
 use Rattle.encoder.specs.Held.{Reading, conflictIf, conflictsFrom, clauseIn, clausesIn, openingOf, stateOf, Sound, Good}
 use Rattle.encoder.specs.Did.{limitsOf, roomOf, beyond, Widens, filled}
 use Rattle.encoder.proofs.Frames.{state-kept, clauses-counted}
-use Rattle.encoder.proofs.Did.{did-full, did-filled, did-made, hand-same}
+use Rattle.encoder.proofs.Did.{did-full, did-filled, did-made, beside-same}
 use Rattle.clauses.specs.Adding.{withClause, Fitting, Stores}
 
 map-snoc : {A B : Type 0} (f : A → B) (xs : List A) (x : A) → map f (snoc xs x) ≡ snoc (map f xs) (f x)
@@ -146,5 +146,5 @@ module _ {l : Limits} {n : Counters} {row : Stored} {cl : List ℕ} where
         decisions = refl;
         room = omega arith;
         count = λ f. k;
-        is = λ c st wt p. did-made (λ v s. withClause-widens _ _ s) refl hand-same refl refl (λ i. refl) (store-good l n row cl _ _ e c st wt (omega arith) p) (λ g. store-state l n row cl _ _ e c st wt);
+        is = λ c st wt p. did-made (λ v s. withClause-widens _ _ s) refl (λ g. beside-same) refl refl (λ i. refl) (store-good l n row cl _ _ e c st wt (omega arith) p) (λ g. store-state l n row cl _ _ e c st wt);
       }

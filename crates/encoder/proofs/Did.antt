@@ -5,6 +5,7 @@ use mathlib.Core.List.{List, [], _∷_}
 use Prim.Native.Nat.{ℕ, _≤_}
 use native.Mathlib.Omega.{arith}
 use lib.Dec.{ltb}
+use lib.ListN.{take}
 use borrow.Author.Tests.{ltb-true, lt-ltb}
 use Rattle.rules.specs.Catalogue.{Catalogue}
 use Rattle.rules.specs.Lists.{fold, elem}
@@ -17,7 +18,7 @@ use Rattle.entries.specs.Entries.{drawnIn}
 use Rattle.marked.proofs.Laws.{listed-same, marked-same}
 use Rattle.encoder.specs.declared.Counters.{Counters}
 use Rattle.encoder.specs.Held.{Reading, stateOf, Good}
-use Rattle.encoder.specs.Did.{limitsOf, roomOf, beyond, Widens, filled, SameHand, Did, PlainDid}
+use Rattle.encoder.specs.Did.{limitsOf, roomOf, beyond, Widens, filled, Beside, Did, PlainDid}
 use Rattle.encoder.proofs.Frames.{good-filled}
 
 -- ---- widening
@@ -50,16 +51,19 @@ same-room : (l : Limits) (n n′ : Counters) → n′ .first ≡ n .first → ro
 unfolding roomOf
 same-room l n n′ e = rw e
 
--- ---- the list at hand
+-- ---- what every step leaves
 
-pub hand-same : {st : ℕ → List ℕ} → SameHand st st
-hand-same = record { marked = λ m k. k; list = λ m k. refl }
+pub beside-same : {first : ℕ} {st : ℕ → List ℕ} → Beside first st st
+beside-same = record { marked = λ m k. k; list = λ m k. refl; line = refl }
 
-pub hand-then : {st st′ st″ : ℕ → List ℕ} → SameHand st st′ → SameHand st′ st″ → SameHand st st″
-hand-then p q = record { marked = λ m k. q .marked m (p .marked m k); list = λ m k. q .list m (p .marked m k) ∙ p .list m k }
+pub beside-then : {first : ℕ} {st st′ st″ : ℕ → List ℕ} → Beside first st st′ → Beside first st′ st″ → Beside first st st″
+beside-then p q =
+    record { marked = λ m k. q .marked m (p .marked m k); list = λ m k. q .list m (p .marked m k) ∙ p .list m k; line = q .line ∙ p .line }
 
-pub hand-kept : {js : List ℕ} {st st′ : ℕ → List ℕ} → Changed js st st′ → elem 14 js ≡ false → elem 15 js ≡ false → SameHand st st′
-hand-kept ch p q = record { marked = λ m k. marked-same k ch p q; list = λ m k. listed-same m 14 ch p }
+pub beside-kept : {first : ℕ} {js : List ℕ} {st st′ : ℕ → List ℕ} → Changed js st st′ → elem 14 js ≡ false → elem 15 js ≡ false → elem 20 js ≡ false
+    → Beside first st st′
+beside-kept {first} ch p q r =
+    record { marked = λ m k. marked-same k ch p q; list = λ m k. listed-same m 14 ch p; line = ap (take first) (ch .same 20 r) }
 
 -- ---- steps
 
@@ -72,7 +76,7 @@ module _ {c : Catalogue} {l : Limits} where
           wide = λ v s. widens-same;
           good = λ g. g;
           first = refl;
-          hand = hand-same;
+          beside = λ g. beside-same;
           fewer = refl;
           drawn = λ k. refl;
           stays = λ e. e;
@@ -87,7 +91,7 @@ module _ {c : Catalogue} {l : Limits} where
           wide = w;
           good = λ g. g;
           first = refl;
-          hand = hand-same;
+          beside = λ g. beside-same;
           fewer = refl;
           drawn = λ k. refl;
           stays = λ e. e;
@@ -104,7 +108,7 @@ module _ {c : Catalogue} {l : Limits} where
           wide = w;
           good = λ g. g;
           first = refl;
-          hand = hand-same;
+          beside = λ g. beside-same;
           fewer = refl;
           drawn = λ k. refl;
           stays = λ e. e;
@@ -121,7 +125,7 @@ module _ {c : Catalogue} {l : Limits} where
           wide = w;
           good = good-filled;
           first = unfold filled in refl;
-          hand = hand-same;
+          beside = λ g. beside-same;
           fewer = unfold filled in refl;
           drawn = λ k. refl;
           stays = λ e. unfold filled in refl;
@@ -131,7 +135,7 @@ module _ {c : Catalogue} {l : Limits} where
 
   module _ {F : Reading → State → State} {n : Counters} {st : ℕ → List ℕ} {cl wt : List ℕ} {n′ : Counters} {st′ : ℕ → List ℕ} {cl′ wt′ : List ℕ} where
     -- F, and nothing becomes full
-    pub did-made : ((v : Reading) (s : State) → Widens s (F v s)) → n′ .first ≡ n .first → SameHand st st′ → n′ .drawn ≡ n .drawn → n′ .full ≡ n .full
+    pub did-made : ((v : Reading) (s : State) → Widens s (F v s)) → n′ .first ≡ n .first → (Good c l n st cl wt → Beside (n .first) st st′) → n′ .drawn ≡ n .drawn → n′ .full ≡ n .full
         → ((k : ℕ) → drawnIn l k wt′ ≡ drawnIn l k wt)
         → (Good c l n st cl wt → Good c l n′ st′ cl′ wt′)
         → (Good c l n st cl wt → (v : Reading) → stateOf c l v n′ st′ cl′ wt′ ≡ F v (stateOf c l v n st cl wt))
@@ -141,7 +145,7 @@ module _ {c : Catalogue} {l : Limits} where
           wide = w;
           good = g;
           first = a;
-          hand = i;
+          beside = i;
           fewer = j;
           drawn = d;
           stays = λ e. f ∙ e;
@@ -158,7 +162,7 @@ module _ {c : Catalogue} {l : Limits} where
           wide = w;
           good = d .good;
           first = d .first;
-          hand = d .hand;
+          beside = d .beside;
           fewer = d .fewer;
           drawn = d .drawn;
           stays = d .stays;
@@ -174,7 +178,7 @@ module _ {c : Catalogue} {l : Limits} where
           wide = λ v s. widens-then (d .wide v s) (w v (F v s));
           good = d .good;
           first = d .first;
-          hand = d .hand;
+          beside = d .beside;
           fewer = d .fewer;
           drawn = d .drawn;
           stays = d .stays;
@@ -190,7 +194,7 @@ module _ {c : Catalogue} {l : Limits} where
             wide = λ v s. widens-then (d .wide v s) (k .wide v (F v s));
             good = λ g. k .good (d .good g);
             first = k .first ∙ d .first;
-            hand = hand-then (d .hand) (k .hand);
+            beside = λ g. beside-then (d .beside g) (rw (d .first) at (k .beside (d .good g)));
             fewer = k .fewer ∙ d .fewer;
             drawn = λ i. k .drawn i ∙ d .drawn i;
             stays = λ e. k .stays (d .stays e);

@@ -4,7 +4,7 @@ use mathlib.Core.Bool.{Bool, true, false, _||_}
 use mathlib.Core.List.{List}
 use Prim.Native.Nat.{ℕ, _+_, _-_, _<_, _≤_}
 use lib.Dec.{ltb}
-use lib.ListN.{length}
+use lib.ListN.{length, take}
 use Rattle.rules.specs.Catalogue.{Catalogue}
 use Rattle.rules.specs.Lists.{snoc}
 use Rattle.rules.specs.Variables.{Origin, known, variableOf}
@@ -48,10 +48,11 @@ pub record Looked (vs : List Origin) (o : Origin) (x : ℕ) : Type 0 where
   pub is : known vs o ≡ true → x ≡ variableOf vs o
   pub below : known vs o ≡ true → x < length vs
 
--- the list at hand, of ranges or of names, is as it was
-pub record SameHand (st st′ : ℕ → List ℕ) : Type 0 where
+-- what every step leaves as it was: the list at hand, of ranges or of names, and the line before `first`
+pub record Beside (first : ℕ) (st st′ : ℕ → List ℕ) : Type 0 where
   pub marked : (m : ℕ) → Marked 14 15 m st → Marked 14 15 m st′
   pub list : (m : ℕ) → Marked 14 15 m st → listed m 14 st′ ≡ listed m 14 st
+  pub line : take first (st′ 20) ≡ take first (st 20)
 
 -- From entry to exit F was done. F may look at what the run's tasks are read by.
 pub record Did (c : Catalogue) (l : Limits) (F : Reading → State → State) (n : Counters) (st : ℕ → List ℕ) (cl wt : List ℕ)
@@ -59,7 +60,7 @@ pub record Did (c : Catalogue) (l : Limits) (F : Reading → State → State) (n
   pub wide : (v : Reading) (s : State) → Widens s (F v s)
   pub good : Good c l n st cl wt → Good c l n′ st′ cl′ wt′
   pub first : n′ .first ≡ n .first
-  pub hand : SameHand st st′
+  pub beside : Good c l n st cl wt → Beside (n .first) st st′
   pub fewer : n′ .drawn ≡ n .drawn
   pub drawn : (k : ℕ) → drawnIn l k wt′ ≡ drawnIn l k wt
   pub stays : n .full ≡ true → n′ .full ≡ true

@@ -6,7 +6,7 @@ use Prim.Native.Nat.{ℕ, _+_, _-_, _<_, _≤_}
 use native.Mathlib.Numerals.{add-one}
 use native.Mathlib.Omega.{arith}
 use lib.ListN.{length, getD, take, drop, length-take, length-drop, drop-of-length-le}
-use lib.Seq.{length-take-le, take-suc-set, drop-append-le, drop-cons, getD-take}
+use lib.Seq.{length-take-le, take-suc-set, drop-append-le, drop-cons, getD-take, take-set-le}
 use Rattle.rules.specs.Lists.{any, elem, snoc}
 use Rattle.regions.specs.Regions.{stored}
 use Rattle.state.specs.declared.Limits.{Limits}
@@ -33,7 +33,7 @@ pub push-is : (l : Limits) (b b′ : List ℕ) (tail x : ℕ) → Fits l (length
     → Queued tail x (held l b) (tail + 1) (held l b′)
 push-is l b b′ tail x f h e =
     let g : tail < length (held l b 20) = rw (length-line l b f) h in
-    record { count = refl; size = rw e (length-stored (held l b) 20 tail x 20); line = rw e (line-more tail x (held l b) g); others = changed-stored 20 tail x e (unfold any in refl) }
+    record { count = refl; size = rw e (length-stored (held l b) 20 tail x 20); line = rw e (line-more tail x (held l b) g); before = λ head k. rw (e, stored-here (held l b) 20 tail x) (take-set-le head (held l b 20) tail x k); others = changed-stored 20 tail x e (unfold any in refl) }
 
 -- ---- for callers
 

@@ -17,4 +17,5 @@ pub record Queued (tail x : ℕ) (st : ℕ → List ℕ) (tail′ : ℕ) (st′ 
   pub count : tail′ ≡ tail + 1
   pub size : length (st′ 20) ≡ length (st 20)
   pub line : (head : ℕ) → head ≤ tail → queued head tail′ st′ ≡ snoc (queued head tail st) x
+  pub before : (head : ℕ) → head ≤ tail → take head (st′ 20) ≡ take head (st 20)
   pub others : Changed (20 ∷ []) st st′

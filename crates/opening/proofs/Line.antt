@@ -17,14 +17,15 @@ use Rattle.state.specs.declared.Limits.{Limits}
 use Rattle.state.specs.Layout.{held, Fits}
 use Rattle.variable_map.proofs.Laws.{variables-kept}
 use Rattle.decision_tracker.proofs.Laws.{decisions-kept}
+use Rattle.marked.proofs.Laws.{listed-same, marked-same}
 use Rattle.line.specs.Line.{queued, Queued}
 use Rattle.line.proofs.Line.{length-queued, line-room}
 use Rattle.encoder.specs.declared.Counters.{Counters}
 use Rattle.encoder.specs.Held.{Reading, taskIn, openingOf, stateOf, Good}
-use Rattle.encoder.specs.Did.{limitsOf, roomOf, beyond, onOpening, filled, PlainDid}
+use Rattle.encoder.specs.Did.{limitsOf, roomOf, beyond, onOpening, filled, Beside, PlainDid}
 use Rattle.encoder.proofs.Counted as counted
 use Rattle.encoder.proofs.Frames.{good-kept, list-kept}
-use Rattle.encoder.proofs.Did.{plain-full, did-filled, did-made, hand-kept}
+use Rattle.encoder.proofs.Did.{plain-full, did-filled, did-made}
 use Rattle.encoder.proofs.Widening.{queue-widens}
 
 map-snoc : {A B : Type 0} (f : A → B) (xs : List A) (x : A) → map f (snoc xs x) ≡ snoc (map f xs) (f x)
@@ -36,6 +37,11 @@ map-snoc f (y ∷ xs) x = ap (λ (r : List _). f y ∷ r) (map-snoc f xs x)
 line-over : (l : Limits) (room : ℕ) (s : State) → room < length (s .opening .line) → beyond l room s ≡ true
 unfolding beyond
 line-over l room s h = rw (lt-ltb room (length (s .opening .line)) h) (or-true (above (limitsOf l) s))
+
+beside-queued : {first tail x tail′ : ℕ} {st st′ : ℕ → List ℕ} → Queued tail x st tail′ st′ → first ≤ tail → Beside first st st′
+unfolding any
+beside-queued {first} q h =
+    record { marked = λ m k. marked-same k (q .others) refl refl; list = λ m k. listed-same m 14 (q .others) refl; line = q .before first h }
 
 module _ {l : Limits} {n : Counters} where
   pub queue-full : (x : ℕ) {st : ℕ → List ℕ} → n .full ≡ true → PlainDid l (λ c v. onOpening (queue (taskIn c v x))) n st n st
@@ -60,7 +66,7 @@ module _ {l : Limits} {n : Counters} where
     queue-more h =
         record {
           is = λ c. record {
-            is = λ cl wt. did-made (λ v. queue-widens _) refl (unfold any in hand-kept (q .others) refl refl) refl refl (λ k. refl) (queue-good c cl wt h) (queue-state c cl wt);
+            is = λ cl wt. did-made (λ v. queue-widens _) refl (λ g. beside-queued q (g .state .before)) refl refl (λ k. refl) (queue-good c cl wt h) (queue-state c cl wt);
           };
         }
 

@@ -22,7 +22,7 @@ use Rattle.encoder.specs.Held.{Reading, taskFrom, taskIn, openingOf, stateOf, G
 use Rattle.encoder.specs.Did.{onOpening, Did, PlainDid}
 use Rattle.encoder.proofs.Counted as counted
 use Rattle.encoder.proofs.Frames.{good-kept, list-kept, line-kept}
-use Rattle.encoder.proofs.Did.{plain-full, did-idle, did-made, did-then, did-as, hand-kept}
+use Rattle.encoder.proofs.Did.{plain-full, did-idle, did-made, did-then, did-as, beside-kept}
 use Rattle.encoder.proofs.Widening.{Lengthens, openOwner-widens, openName-widens, widens-opening}
 
 -- ---- a number that has no mark can be listed
@@ -70,7 +70,7 @@ module _ (l : Limits) (n : Counters) where
     owner-good g = good-kept (p .others) g (search) refl refl refl refl refl (g .entries)
 
     owner-did : Did c l (λ v. onOpening (addOwner x)) n st cl wt (counted.withOwners count n) st′ cl wt
-    owner-did = did-made (λ v. widens-opening (addOwner x) (addOwner-lengthens x)) refl (unfold any in hand-kept (p .others) refl refl) refl refl (λ k. refl) owner-good (λ g. owner-state)
+    owner-did = did-made (λ v. widens-opening (addOwner x) (addOwner-lengthens x)) refl (λ g. unfold any in beside-kept (p .others) refl refl refl) refl refl (λ k. refl) owner-good (λ g. owner-state)
 
   pub openOwner-full : (o : ℕ) {st : ℕ → List ℕ} → n .full ≡ true → PlainDid l (λ c v. onOpening (openOwner (ownerOf o))) n st n st
   openOwner-full o f = plain-full (λ c v. openOwner-widens _) f
@@ -120,7 +120,7 @@ module _ (l : Limits) (n : Counters) where
     name-good g = good-kept (p .others) g (search) refl refl refl refl refl (g .entries)
 
     name-did : Did c l (λ v. onOpening (addName x)) n st cl wt (counted.withNames count n) st′ cl wt
-    name-did = did-made (λ v. widens-opening (addName x) (addName-lengthens x)) refl (unfold any in hand-kept (p .others) refl refl) refl refl (λ k. refl) name-good (λ g. name-state)
+    name-did = did-made (λ v. widens-opening (addName x) (addName-lengthens x)) refl (λ g. unfold any in beside-kept (p .others) refl refl refl) refl refl (λ k. refl) name-good (λ g. name-state)
 
   pub openName-full : (x : ℕ) {st : ℕ → List ℕ} → n .full ≡ true → PlainDid l (λ c v. onOpening (openName x)) n st n st
   openName-full x f = plain-full (λ c v. openName-widens _) f

@@ -31,7 +31,7 @@ use Rattle.encoder.specs.Held.{Reading, openingOf, stateOf, Good}
 use Rattle.encoder.specs.Did.{limitsOf, roomOf, beyond, onOpening, withSeveral, filled, PlainDid}
 use Rattle.encoder.proofs.Counted as counted
 use Rattle.encoder.proofs.Frames.{good-kept, list-kept, line-kept}
-use Rattle.encoder.proofs.Did.{plain-full, did-filled, did-made, hand-kept}
+use Rattle.encoder.proofs.Did.{plain-full, did-filled, did-made, beside-kept}
 use Rattle.encoder.proofs.Widening.{withSeveral-widens}
 
 -- ---- is one among them?
@@ -108,7 +108,7 @@ module _ (l : Limits) (n : Counters) where
     several-more =
         record {
           is = λ c. record {
-            is = λ cl wt. did-made (λ v. withSeveral-widens _) refl (unfold any in hand-kept (several-changed) refl refl) refl refl (λ k. refl) (several-good c cl wt) (λ g. several-state c cl wt);
+            is = λ cl wt. did-made (λ v. withSeveral-widens _) refl (λ g. unfold any in beside-kept (several-changed) refl refl refl) refl refl (λ k. refl) (several-good c cl wt) (λ g. several-state c cl wt);
           };
         }
 

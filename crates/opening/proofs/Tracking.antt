@@ -21,7 +21,7 @@ use Rattle.encoder.specs.Held.{Reading, openingOf, stateOf, Good}
 use Rattle.encoder.specs.Did.{onOpening, Did, StateDid}
 use Rattle.encoder.proofs.Counted as counted
 use Rattle.encoder.proofs.Frames.{good-kept, list-kept, line-kept}
-use Rattle.encoder.proofs.Did.{did-full, did-idle, did-made, did-as, hand-kept}
+use Rattle.encoder.proofs.Did.{did-full, did-idle, did-made, did-as, beside-kept}
 use Rattle.encoder.proofs.Widening.{Lengthens, nameForTracking-widens, widens-opening}
 
 pub part-free : (l : Limits) (b : List ℕ) (n p : ℕ) (f : Bool) → Fits l (length b) → Marked 8 9 n (held l b) → p < 1024 → f ≡ isMarked 9 p (held l b)
@@ -49,7 +49,7 @@ module _ (l : Limits) (n : Counters) where
     named-good g = good-kept (p .others) g (search) refl refl refl refl refl (g .entries)
 
     named-did : Did c l (λ v. onOpening (addNamed x)) n st cl wt (counted.withNamed count n) st′ cl wt
-    named-did = did-made (λ v. widens-opening (addNamed x) (addNamed-lengthens x)) refl (unfold any in hand-kept (p .others) refl refl) refl refl (λ k. refl) named-good (λ g. named-state)
+    named-did = did-made (λ v. widens-opening (addNamed x) (addNamed-lengthens x)) refl (λ g. unfold any in beside-kept (p .others) refl refl refl) refl refl (λ k. refl) named-good (λ g. named-state)
 
   module _ (c : Catalogue) (p : ℕ) {st : ℕ → List ℕ} where
     pub tracking-full : n .full ≡ true → StateDid c l (λ v. onOpening (nameForTracking c p)) n st n st

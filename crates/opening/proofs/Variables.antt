@@ -26,7 +26,7 @@ use Rattle.encoder.specs.Held.{Reading, clausesIn, openingOf, stateOf, Good}
 use Rattle.encoder.specs.Did.{limitsOf, roomOf, beyond, filled, Looked, PlainDid}
 use Rattle.encoder.proofs.Counted as counted
 use Rattle.encoder.proofs.Frames.{state-kept, list-kept, line-kept, sound-still, clauses-still, good-within}
-use Rattle.encoder.proofs.Did.{plain-full, did-filled, did-made, hand-kept}
+use Rattle.encoder.proofs.Did.{plain-full, did-filled, did-made, beside-kept}
 use Rattle.encoder.proofs.Widening.{addVariable-widens}
 
 module _ (l : Limits) (n : Counters) where
@@ -66,7 +66,7 @@ module _ (l : Limits) (n : Counters) where
   variable-named {o} m =
       record {
         is = λ c. record {
-          is = λ cl wt. did-made (λ v. addVariable-widens o) refl (unfold any in hand-kept (m .grown .rest) refl refl) refl refl (λ k. refl) (variable-good m c cl wt) (variable-state m c cl wt);
+          is = λ cl wt. did-made (λ v. addVariable-widens o) refl (λ g. unfold any in beside-kept (m .grown .rest) refl refl refl) refl refl (λ k. refl) (variable-good m c cl wt) (variable-state m c cl wt);
         };
       }
 

@@ -19,7 +19,7 @@ use Rattle.encoder.specs.Held.{Reading, openingOf, stateOf, Good}
 use Rattle.encoder.specs.Did.{limitsOf, roomOf, beyond, filled, WaitingDid}
 use Rattle.encoder.proofs.Counted as counted
 use Rattle.encoder.proofs.Frames.{good-kept, waiting-counted, good-within}
-use Rattle.encoder.proofs.Did.{did-full, did-filled, did-made, hand-same}
+use Rattle.encoder.proofs.Did.{did-full, did-filled, did-made, beside-same}
 use Rattle.encoder.proofs.Widening.{addWaiting-widens}
 
 module _ (l : Limits) (n : Counters) where
@@ -39,7 +39,7 @@ module _ (l : Limits) (n : Counters) where
   pub waiting-more : {e : ℕ × ℕ} {count : ℕ} {wt wt′ : List ℕ} → n .drawn ≡ 0 → n .waiting < l .waiting → PushedWaiting l (n .waiting) e wt count wt′
       → WaitingDid l (λ v. addWaiting e) n wt (counted.withWaiting count n) wt′
   waiting-more {e} z h p =
-      record { is = λ c st cl. did-made (λ v. addWaiting-widens e) refl hand-same refl refl (p .drawn) (waiting-good z h p c st cl) (λ g. waiting-state z h p c st cl) }
+      record { is = λ c st cl. did-made (λ v. addWaiting-widens e) refl (λ g. beside-same) refl refl (p .drawn) (waiting-good z h p c st cl) (λ g. waiting-state z h p c st cl) }
 
   waiting-beyond : (e : ℕ × ℕ) (c : Catalogue) (st : ℕ → List ℕ) (cl wt : List ℕ) (v : Reading) → n .drawn ≡ 0 → l .waiting ≤ n .waiting → Good c l n st cl wt
       → beyond l (roomOf l n) (addWaiting e (stateOf c l v n st cl wt)) ≡ true
