@@ -19,10 +19,10 @@ ghost use Rattle.cache.specs.Areas.{catalogue};
 ghost use Rattle.catalogue.specs.Reading.{Kept};
 ghost use Rattle.state.specs.Layout.{held, Fits};
 ghost use Rattle.marked.specs.Marked.{ownerOf};
-ghost use Rattle.encoder.specs.Held.{runOf, LongEnough, GoodState, Good};
+ghost use Rattle.encoder.specs.Held.{runOf, LongEnough, Good};
 ghost use Rattle.encoder.specs.Did.{onOpening, StateDid, ClausesDid};
 ghost use Rattle.owners.specs.declared.Rule.the-variants.{OpenRequirement, OpenConstraint, QueueRequirement, QueueConstraint};
-ghost use Rattle.owners.specs.Owners.{ownerIs, ruleOf, countOf, cardinal, serving};
+ghost use Rattle.owners.specs.Owners.{OwnerNumber, ownerIs, ruleOf, countOf, cardinal, serving, GoodAlone};
 
 // ---- names are opened
 
@@ -31,7 +31,7 @@ fn open_range(marks: &[u8], unions: &[u8], t: &[u8], k: Counts, s: &mut [u8], l:
     requires { ⌜ Kept k (now marks) (now unions) (now t) ⌝ }
     requires { ⌜ WellFormed (catalogue k (now marks) (now unions) (now t)) ⌝ }
     requires { ⌜ Fits l (length (now s)) ⌝ }
-    requires { ⌜ GoodState (catalogue k (now marks) (now unions) (now t)) l n (held l (now s)) ⌝ }
+    requires { ⌜ GoodAlone (catalogue k (now marks) (now unions) (now t)) l n (held l (now s)) ⌝ }
     requires { ⌜ r < k .ranges ⌝ }
     ensures { λ m. ⌜ StateDid (catalogue k (now (marks .entry)) (now (unions .entry)) (now (t .entry))) l (λ v. onOpening (openName (rangeName (catalogue k (now (marks .entry)) (now (unions .entry)) (now (t .entry))) r))) n (held l (now (s .entry))) m (held l (now (s .exit))) ⌝ }
 {
@@ -42,7 +42,7 @@ fn open_union(marks: &[u8], unions: &[u8], t: &[u8], k: Counts, s: &mut [u8], l:
     requires { ⌜ Kept k (now marks) (now unions) (now t) ⌝ }
     requires { ⌜ WellFormed (catalogue k (now marks) (now unions) (now t)) ⌝ }
     requires { ⌜ Fits l (length (now s)) ⌝ }
-    requires { ⌜ GoodState (catalogue k (now marks) (now unions) (now t)) l n (held l (now s)) ⌝ }
+    requires { ⌜ GoodAlone (catalogue k (now marks) (now unions) (now t)) l n (held l (now s)) ⌝ }
     requires { ⌜ u < k .unions ⌝ }
     ensures { λ m. ⌜ StateDid (catalogue k (now (marks .entry)) (now (unions .entry)) (now (t .entry))) l (λ v. onOpening (openNames (catalogue k (now (marks .entry)) (now (unions .entry)) (now (t .entry))) (goalRanges (catalogue k (now (marks .entry)) (now (unions .entry)) (now (t .entry))) (union u)))) n (held l (now (s .entry))) m (held l (now (s .exit))) ⌝ }
 {
@@ -61,7 +61,7 @@ pub fn open_goal(marks: &[u8], unions: &[u8], t: &[u8], k: Counts, s: &mut [u8],
     requires { ⌜ Kept k (now marks) (now unions) (now t) ⌝ }
     requires { ⌜ WellFormed (catalogue k (now marks) (now unions) (now t)) ⌝ }
     requires { ⌜ Fits l (length (now s)) ⌝ }
-    requires { ⌜ GoodState (catalogue k (now marks) (now unions) (now t)) l n (held l (now s)) ⌝ }
+    requires { ⌜ GoodAlone (catalogue k (now marks) (now unions) (now t)) l n (held l (now s)) ⌝ }
     requires { ⌜ GoalGiven (catalogue k (now marks) (now unions) (now t)) (goalOf goal) ⌝ }
     ensures { λ m. ⌜ StateDid (catalogue k (now (marks .entry)) (now (unions .entry)) (now (t .entry))) l (λ v. onOpening (openNames (catalogue k (now (marks .entry)) (now (unions .entry)) (now (t .entry))) (goalRanges (catalogue k (now (marks .entry)) (now (unions .entry)) (now (t .entry))) (goalOf goal)))) n (held l (now (s .entry))) m (held l (now (s .exit))) ⌝ }
 {
@@ -75,6 +75,7 @@ pub fn open_goal(marks: &[u8], unions: &[u8], t: &[u8], k: Counts, s: &mut [u8],
 
 // An owner of the tables, 65,535 for the root, by its number here: 1,024 for the root.
 pub fn owner_number(o: u16) -> u16
+    requires { ⌜ OwnerNumber o ⌝ }
     ensures { λ r. ⌜ ownerOf r ≡ ownerIs o ⌝ }
 {
     if o == 65535 { 1024 } else { o }
@@ -92,7 +93,7 @@ fn open_requirement(marks: &[u8], unions: &[u8], t: &[u8], k: Counts, s: &mut [u
     requires { ⌜ Kept k (now marks) (now unions) (now t) ⌝ }
     requires { ⌜ WellFormed (catalogue k (now marks) (now unions) (now t)) ⌝ }
     requires { ⌜ Fits l (length (now s)) ⌝ }
-    requires { ⌜ GoodState (catalogue k (now marks) (now unions) (now t)) l n (held l (now s)) ⌝ }
+    requires { ⌜ GoodAlone (catalogue k (now marks) (now unions) (now t)) l n (held l (now s)) ⌝ }
     requires { ⌜ (q < k .requirements) × (o < 1025) ⌝ }
     ensures { λ m. ⌜ StateDid (catalogue k (now (marks .entry)) (now (unions .entry)) (now (t .entry))) l (λ v. onOpening (ruleOf (catalogue k (now (marks .entry)) (now (unions .entry)) (now (t .entry))) v OpenRequirement (ownerOf o) q)) n (held l (now (s .entry))) m (held l (now (s .exit))) ⌝ }
 {
@@ -103,14 +104,15 @@ fn open_requirement(marks: &[u8], unions: &[u8], t: &[u8], k: Counts, s: &mut [u
     if it.condition != 65535 {
         return n;
     }
-    open_goal(marks, unions, t, k, s, l, n, it.requirement)
+    let goal = it.requirement;
+    open_goal(marks, unions, t, k, s, l, n, goal)
 }
 
 fn open_constraint(marks: &[u8], unions: &[u8], t: &[u8], k: Counts, s: &mut [u8], l: Limits, n: Counters, o: u16, i: usize) -> Counters
     requires { ⌜ Kept k (now marks) (now unions) (now t) ⌝ }
     requires { ⌜ WellFormed (catalogue k (now marks) (now unions) (now t)) ⌝ }
     requires { ⌜ Fits l (length (now s)) ⌝ }
-    requires { ⌜ GoodState (catalogue k (now marks) (now unions) (now t)) l n (held l (now s)) ⌝ }
+    requires { ⌜ GoodAlone (catalogue k (now marks) (now unions) (now t)) l n (held l (now s)) ⌝ }
     requires { ⌜ (i < k .constraints) × (o < 1025) ⌝ }
     ensures { λ m. ⌜ StateDid (catalogue k (now (marks .entry)) (now (unions .entry)) (now (t .entry))) l (λ v. onOpening (ruleOf (catalogue k (now (marks .entry)) (now (unions .entry)) (now (t .entry))) v OpenConstraint (ownerOf o) i)) n (held l (now (s .entry))) m (held l (now (s .exit))) ⌝ }
 {
@@ -125,7 +127,7 @@ fn queue_requirement(marks: &[u8], unions: &[u8], t: &[u8], k: Counts, s: &mut [
     requires { ⌜ Kept k (now marks) (now unions) (now t) ⌝ }
     requires { ⌜ WellFormed (catalogue k (now marks) (now unions) (now t)) ⌝ }
     requires { ⌜ Fits l (length (now s)) ⌝ }
-    requires { ⌜ GoodState (catalogue k (now marks) (now unions) (now t)) l n (held l (now s)) ⌝ }
+    requires { ⌜ GoodAlone (catalogue k (now marks) (now unions) (now t)) l n (held l (now s)) ⌝ }
     requires { ⌜ (q < k .requirements) × (o < 1025) ⌝ }
     ensures { λ m. ⌜ StateDid (catalogue k (now (marks .entry)) (now (unions .entry)) (now (t .entry))) l (λ v. onOpening (ruleOf (catalogue k (now (marks .entry)) (now (unions .entry)) (now (t .entry))) v QueueRequirement (ownerOf o) q)) n (held l (now (s .entry))) m (held l (now (s .exit))) ⌝ }
 {
@@ -143,7 +145,7 @@ fn queue_constraint(marks: &[u8], unions: &[u8], t: &[u8], k: Counts, s: &mut [u
     requires { ⌜ Kept k (now marks) (now unions) (now t) ⌝ }
     requires { ⌜ WellFormed (catalogue k (now marks) (now unions) (now t)) ⌝ }
     requires { ⌜ Fits l (length (now s)) ⌝ }
-    requires { ⌜ GoodState (catalogue k (now marks) (now unions) (now t)) l n (held l (now s)) ⌝ }
+    requires { ⌜ GoodAlone (catalogue k (now marks) (now unions) (now t)) l n (held l (now s)) ⌝ }
     requires { ⌜ (i < k .constraints) × (o < 1025) ⌝ }
     ensures { λ m. ⌜ StateDid (catalogue k (now (marks .entry)) (now (unions .entry)) (now (t .entry))) l (λ v. onOpening (ruleOf (catalogue k (now (marks .entry)) (now (unions .entry)) (now (t .entry))) v QueueConstraint (ownerOf o) i)) n (held l (now (s .entry))) m (held l (now (s .exit))) ⌝ }
 {
@@ -158,7 +160,7 @@ fn take_rule(marks: &[u8], unions: &[u8], t: &[u8], k: Counts, s: &mut [u8], l: 
     requires { ⌜ Kept k (now marks) (now unions) (now t) ⌝ }
     requires { ⌜ WellFormed (catalogue k (now marks) (now unions) (now t)) ⌝ }
     requires { ⌜ Fits l (length (now s)) ⌝ }
-    requires { ⌜ GoodState (catalogue k (now marks) (now unions) (now t)) l n (held l (now s)) ⌝ }
+    requires { ⌜ GoodAlone (catalogue k (now marks) (now unions) (now t)) l n (held l (now s)) ⌝ }
     requires { ⌜ (i < countOf (catalogue k (now marks) (now unions) (now t)) what) × (o < 1025) ⌝ }
     ensures { λ m. ⌜ StateDid (catalogue k (now (marks .entry)) (now (unions .entry)) (now (t .entry))) l (λ v. onOpening (ruleOf (catalogue k (now (marks .entry)) (now (unions .entry)) (now (t .entry))) v what (ownerOf o) i)) n (held l (now (s .entry))) m (held l (now (s .exit))) ⌝ }
 {
@@ -185,7 +187,7 @@ fn each_rule(marks: &[u8], unions: &[u8], t: &[u8], k: Counts, s: &mut [u8], l: 
     requires { ⌜ Kept k (now marks) (now unions) (now t) ⌝ }
     requires { ⌜ WellFormed (catalogue k (now marks) (now unions) (now t)) ⌝ }
     requires { ⌜ Fits l (length (now s)) ⌝ }
-    requires { ⌜ GoodState (catalogue k (now marks) (now unions) (now t)) l n (held l (now s)) ⌝ }
+    requires { ⌜ GoodAlone (catalogue k (now marks) (now unions) (now t)) l n (held l (now s)) ⌝ }
     requires { ⌜ o < 1025 ⌝ }
     ensures { λ m. ⌜ StateDid (catalogue k (now (marks .entry)) (now (unions .entry)) (now (t .entry))) l (λ v. onOpening (fold (ruleOf (catalogue k (now (marks .entry)) (now (unions .entry)) (now (t .entry))) v what (ownerOf o)) (upTo 0 (countOf (catalogue k (now (marks .entry)) (now (unions .entry)) (now (t .entry))) what)))) n (held l (now (s .entry))) m (held l (now (s .exit))) ⌝ }
 {
@@ -206,7 +208,7 @@ fn serve_known(marks: &[u8], unions: &[u8], t: &[u8], k: Counts, s: &mut [u8], l
     requires { ⌜ Kept k (now marks) (now unions) (now t) ⌝ }
     requires { ⌜ WellFormed (catalogue k (now marks) (now unions) (now t)) ⌝ }
     requires { ⌜ Fits l (length (now s)) ⌝ }
-    requires { ⌜ GoodState (catalogue k (now marks) (now unions) (now t)) l n (held l (now s)) ⌝ }
+    requires { ⌜ GoodAlone (catalogue k (now marks) (now unions) (now t)) l n (held l (now s)) ⌝ }
     requires { ⌜ (o < 1025) × (unknownOwner (catalogue k (now marks) (now unions) (now t)) (ownerOf o) ≡ false) ⌝ }
     ensures { λ m. ⌜ StateDid (catalogue k (now (marks .entry)) (now (unions .entry)) (now (t .entry))) l (λ v. onOpening (serveOwner (catalogue k (now (marks .entry)) (now (unions .entry)) (now (t .entry))) (ownerOf o))) n (held l (now (s .entry))) m (held l (now (s .exit))) ⌝ }
 {
