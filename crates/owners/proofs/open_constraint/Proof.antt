@@ -1,35 +1,26 @@
+-- `owners::open_constraint` opens the name of an owner's constraint.
 use borrow.Author.Needs.{needs}
+use Rattle.owners.proofs.Records.{constrained-owner, constrained-range, open-elsewhere, open-here}
 use Rattle.owners.proofs.open_constraint.Statement.{statement}
 use Rattle.owners.proofs.open_constraint.Tie as tie
-use Rattle.owners.proofs.open_constraint.Reads as reads
-use Rattle.owners.proofs.open_constraint.Lts as lts
-use Rattle.owners.proofs.open_range.Reads as open-range-reads
-use Rattle.owners.proofs.owner_number.Reads as owner-number-reads
-use Rattle.tables.proofs.constraint_at.Reads as constraint-at-reads
 
--- src/lib.rt:119:9
 constraint-at-requires : tie.Need-constraint-at-requires
 constraint-at-requires c κs = search needs
 
--- src/lib.rt:120:8
 owner-number-requires : tie.Need-owner-number-requires
-owner-number-requires c κs = search needs
+owner-number-requires c κs = search (needs, constrained-owner)
 
--- src/lib.rt:121:9
 returns : tie.Need-returns
-returns c = search needs
+returns c = open-elsewhere _ _ _ _ _ _ (c .before .before .constraint-at .ensures) _ _ (c .before .owner-number .ensures) (c .if1 .taken)
 
--- src/lib.rt:123:5
 open-range-requires : tie.Need-open-range-requires
-open-range-requires c κs = search needs
+open-range-requires c κs = ((c .before .before .before .before .before .before .before .before .pre .0), ((c .before .before .before .before .before .before .before .before .pre .1 .0), ((c .before .before .before .before .before .before .before .before .pre .1 .1 .0), ((c .before .before .before .before .before .before .before .before .pre .1 .1 .1 .0), constrained-range _ _ _ _ _ _ (c .before .before .before .constraint-at .ensures) (c .before .before .before .before .before .before .before .before .pre .1 .0) (c .before .before .before .before .before .before .before .before .pre .1 .1 .1 .1 .0)))))
 
--- src/lib.rt:111:1
 same-length : tie.Need-same-length
 same-length c = search needs
 
--- src/lib.rt:111:1
 returns-2 : tie.Need-returns-2
-returns-2 c = search needs
+returns-2 c = open-here _ _ _ _ _ _ (c .before .before .before .before .before .before .constraint-at .ensures) _ _ (c .before .before .before .before .before .owner-number .ensures) (c .before .before .before .before .if1 .left) (c .before .before .open-range .ensures)
 
 pub open-constraint-spec : {M : Type 1} → statement M
 open-constraint-spec =

@@ -1,26 +1,20 @@
+-- `owners::open_range` opens the name of a range.
 use borrow.Author.Needs.{needs}
+use Rattle.owners.proofs.Names.{range-low, range-opened}
 use Rattle.owners.proofs.open_range.Statement.{statement}
 use Rattle.owners.proofs.open_range.Tie as tie
-use Rattle.owners.proofs.open_range.Reads as reads
-use Rattle.owners.proofs.open_range.Lts as lts
-use Rattle.opening.proofs.open_name.Reads as open-name-reads
-use Rattle.tables.proofs.range_name.Reads as range-name-reads
 
--- src/lib.rt:38:33
 range-name-requires : tie.Need-range-name-requires
 range-name-requires c κs = search needs
 
--- src/lib.rt:38:5
 open-name-requires : tie.Need-open-name-requires
-open-name-requires c κs = search needs
+open-name-requires c κs = search (needs, range-low)
 
--- src/lib.rt:30:1
 same-length : tie.Need-same-length
 same-length c = search needs
 
--- src/lib.rt:30:1
 returns : tie.Need-returns
-returns c = search needs
+returns c = range-opened _ _ _ _ _ _ (c .before .before .before .range-name .ensures) (c .before .before .open-name .ensures)
 
 pub open-range-spec : {M : Type 1} → statement M
 open-range-spec = tie.close (tie.spec range-name-requires open-name-requires same-length returns)
