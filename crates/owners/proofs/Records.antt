@@ -142,36 +142,36 @@ module _ (k : Counts) (m us t : List ℕ) (q : ℕ) (it : ConditionalRequirement
       open-conditional ne =
           state-idle (λ v s. unfold onOpening ruleOf when in rw (unconditional-is, ne-eqb (it .condition) 65535 ne, and-false (sameOwner (ownerOf o) (ownerAt (catalogue k m us t) q))))
 
+    open-is : x ≡ o → it .condition ≡ 65535 → (v : Reading) (s : State)
+        → onOpening (openNames (catalogue k m us t) (goalRanges (catalogue k m us t) (goalOf (it .requirement)))) s
+        ≡ onOpening (ruleOf (catalogue k m us t) v OpenRequirement (ownerOf o) q) s
+    unfolding onOpening ruleOf when
+    open-is h u v s = rw (← goal-at) (sym (rw (same-owner, eq-eqb o x (sym h), unconditional-is, eq-eqb (it .condition) 65535 u)))
+
+    queue-is : x ≡ o → (b : Bool) → unconditional (catalogue k m us t) q ≡ b → (v : Reading) (s : State)
+        → onOpening (queue (taskBy (catalogue k m us t) b q)) s ≡ onOpening (ruleOf (catalogue k m us t) v QueueRequirement (ownerOf o) q) s
+    unfolding onOpening ruleOf when
+    queue-is h b u v s = sym (rw (same-owner, eq-eqb o x (sym h), u))
+
     module _ {l : Limits} {n n′ : Counters} {st st′ : ℕ → List ℕ} (h : x ≡ o) where
-      open-is : it .condition ≡ 65535 → (v : Reading) (s : State)
-          → onOpening (openNames (catalogue k m us t) (goalRanges (catalogue k m us t) (goalOf (it .requirement)))) s
-          ≡ onOpening (ruleOf (catalogue k m us t) v OpenRequirement (ownerOf o) q) s
-      unfolding onOpening ruleOf when
-      open-is u v s = rw (← goal-at) (sym (rw (same-owner, eq-eqb o x (sym h), unconditional-is, eq-eqb (it .condition) 65535 u)))
-
-      queue-is : (b : Bool) → unconditional (catalogue k m us t) q ≡ b → (v : Reading) (s : State)
-          → onOpening (queue (taskBy (catalogue k m us t) b q)) s ≡ onOpening (ruleOf (catalogue k m us t) v QueueRequirement (ownerOf o) q) s
-      unfolding onOpening ruleOf when
-      queue-is b u v s = sym (rw (same-owner, eq-eqb o x (sym h), u))
-
       pub open-own : it .condition ≡ 65535
           → StateDid (catalogue k m us t) l (λ v. onOpening (openNames (catalogue k m us t) (goalRanges (catalogue k m us t) (goalOf (it .requirement))))) n st n′ st′
           → StateDid (catalogue k m us t) l (λ v. onOpening (ruleOf (catalogue k m us t) v OpenRequirement (ownerOf o) q)) n st n′ st′
-      open-own u d = state-as (open-is u) d
+      open-own u d = state-as (open-is h u) d
 
       pub queue-direct : Kept k m us t → q < k .requirements → it .condition ≡ 65535 → PlainDid l (λ c v. onOpening (queue (taskIn c v (2113 + q)))) n st n′ st′
           → StateDid (catalogue k m us t) l (λ v. onOpening (ruleOf (catalogue k m us t) v QueueRequirement (ownerOf o) q)) n st n′ st′
       queue-direct a b u d =
           let low : q < 1024 = omega (arith, a .held .laid .requirements) in
           let direct : unconditional (catalogue k m us t) q ≡ true = unconditional-is ∙ eq-eqb (it .condition) 65535 u in
-          state-as (λ v s. rw (requirement-task (catalogue k m us t) v q low direct) (queue-is true direct v s)) (d .is (catalogue k m us t))
+          state-as (λ v s. rw (requirement-task (catalogue k m us t) v q low direct) (queue-is h true direct v s)) (d .is (catalogue k m us t))
 
       pub queue-conditional : Kept k m us t → q < k .requirements → (it .condition ≡ 65535 → ⊥) → PlainDid l (λ c v. onOpening (queue (taskIn c v (1089 + q)))) n st n′ st′
           → StateDid (catalogue k m us t) l (λ v. onOpening (ruleOf (catalogue k m us t) v QueueRequirement (ownerOf o) q)) n st n′ st′
       queue-conditional a b u d =
           let low : q < 1024 = omega (arith, a .held .laid .requirements) in
           let conditional : unconditional (catalogue k m us t) q ≡ false = unconditional-is ∙ ne-eqb (it .condition) 65535 u in
-          state-as (λ v s. rw (condition-task (catalogue k m us t) v q low) (queue-is false conditional v s)) (d .is (catalogue k m us t))
+          state-as (λ v s. rw (condition-task (catalogue k m us t) v q low) (queue-is h false conditional v s)) (d .is (catalogue k m us t))
 
 -- ---- a constraint
 

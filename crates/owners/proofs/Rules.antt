@@ -34,14 +34,14 @@ counted k m us t OpenConstraint = constraints-held k m us t
 counted k m us t QueueRequirement = requirements-held k m us t
 counted k m us t QueueConstraint = constraints-held k m us t
 
-module _ (k : Counts) {w : Rule} where
-  pub cardinal-opens-requirement : w ≡ OpenRequirement → k .requirements ≡ cardinal k w
+module _ (k : Counts) (w : Rule) where
+  pub cardinal-open-requirement : w ≡ OpenRequirement → k .requirements ≡ cardinal k w
   unfolding cardinal
-  cardinal-opens-requirement e = rw e
+  cardinal-open-requirement e = rw e
 
-  pub cardinal-opens-constraint : w ≡ OpenConstraint → k .constraints ≡ cardinal k w
+  pub cardinal-open-constraint : w ≡ OpenConstraint → k .constraints ≡ cardinal k w
   unfolding cardinal
-  cardinal-opens-constraint e = rw e
+  cardinal-open-constraint e = rw e
 
   pub cardinal-queue-requirement : w ≡ QueueRequirement → k .requirements ≡ cardinal k w
   unfolding cardinal
@@ -57,11 +57,11 @@ module _ (k : Counts) {w : Rule} where
     record-counted e h = omega (arith, counted k m us t w)
 
     -- and the record of one rule
-    pub given-opens-requirement : w ≡ OpenRequirement → i < countOf (catalogue k m us t) w → i < k .requirements
-    given-opens-requirement e h = omega (arith, counted k m us t w, cardinal-opens-requirement e)
+    pub given-open-requirement : w ≡ OpenRequirement → i < countOf (catalogue k m us t) w → i < k .requirements
+    given-open-requirement e h = omega (arith, counted k m us t w, cardinal-open-requirement e)
 
-    pub given-opens-constraint : w ≡ OpenConstraint → i < countOf (catalogue k m us t) w → i < k .constraints
-    given-opens-constraint e h = omega (arith, counted k m us t w, cardinal-opens-constraint e)
+    pub given-open-constraint : w ≡ OpenConstraint → i < countOf (catalogue k m us t) w → i < k .constraints
+    given-open-constraint e h = omega (arith, counted k m us t w, cardinal-open-constraint e)
 
     pub given-queue-requirement : w ≡ QueueRequirement → i < countOf (catalogue k m us t) w → i < k .requirements
     given-queue-requirement e h = omega (arith, counted k m us t w, cardinal-queue-requirement e)
@@ -69,9 +69,9 @@ module _ (k : Counts) {w : Rule} where
     pub given-queue-constraint : w ≡ QueueConstraint → i < countOf (catalogue k m us t) w → i < k .constraints
     given-queue-constraint e h = omega (arith, counted k m us t w, cardinal-queue-constraint e)
 
-pub rule-taken : {c : Catalogue} {l : Limits} {w w′ : Rule} {o : Owner} {i : ℕ} {n n′ : Counters} {st st′ : ℕ → List ℕ} → w ≡ w′
+pub rule-taken : {c : Catalogue} {l : Limits} {w w′ : Rule} (o : Owner) (i : ℕ) {n n′ : Counters} {st st′ : ℕ → List ℕ} → w ≡ w′
     → StateDid c l (λ v. onOpening (ruleOf c v w′ o i)) n st n′ st′ → StateDid c l (λ v. onOpening (ruleOf c v w o i)) n st n′ st′
-rule-taken e d = state-as (λ v s. rw e) d
+rule-taken o i e d = state-as (λ v s. rw e) d
 
 -- ---- one record after another
 
@@ -104,10 +104,10 @@ module _ {c : Catalogue} {l : Limits} {w : Rule} {o : Owner} {count : ℕ} where
         did = state-then (r .did) d (λ v s. unfold onOpening in rw (fold-last (ruleOf c v w o) i (s .opening)));
       }
 
-pub ruled-end : {k : Counts} {m us t : List ℕ} {l : Limits} {w : Rule} {o : Owner} {count i : ℕ} {n₀ n : Counters} {st₀ st : ℕ → List ℕ}
+pub ruled-end : (k : Counts) (m us t : List ℕ) {l : Limits} {w : Rule} {o : Owner} {count i : ℕ} {n₀ n : Counters} {st₀ st : ℕ → List ℕ}
     → Ruled (catalogue k m us t) l w o count n₀ st₀ i n st → count ≤ i → count ≡ cardinal k w
     → StateDid (catalogue k m us t) l (λ v. onOpening (fold (ruleOf (catalogue k m us t) v w o) (upTo 0 (countOf (catalogue k m us t) w)))) n₀ st₀ n st
-ruled-end {k} {m} {us} {t} {w = w} {i = i} r h e =
+ruled-end k m us t {w = w} {i = i} r h e =
     let p = r .most in
     let is : countOf (catalogue k m us t) w ≡ i = omega (arith, counted k m us t w) in
     state-as (λ v s. rw is) (r .did)
@@ -118,11 +118,12 @@ module _ {A S : Type 0} where
   fold-filter : (f : A → S → S) (p : A → Bool) (xs : List A) (s : S) → fold f (filter p xs) s ≡ fold (λ x. when (p x) (f x)) xs s
   unfolding fold filter
   fold-filter f p [] s = refl
-  fold-filter f p (x ∷ xs) s = go (p x)
+  fold-filter f p (x ∷ xs) s = go (p x) (fold-filter f p xs)
     where
-      go : (b : Bool) → fold f (elim b [ true ↦ x ∷ filter p xs | false ↦ filter p xs ]) s ≡ fold (λ y. when (p y) (f y)) xs (when b (f x) s)
-      go true = unfold fold when in fold-filter f p xs (f x s)
-      go false = unfold when in fold-filter f p xs s
+      go : (b : Bool) → ((s : S) → fold f (filter p xs) s ≡ fold (λ y. when (p y) (f y)) xs s)
+          → fold f (elim b [ true ↦ x ∷ filter p xs | false ↦ filter p xs ]) s ≡ fold (λ y. when (p y) (f y)) xs (when b (f x) s)
+      go true h = unfold fold when in h (f x s)
+      go false h = unfold when in h s
 
   fold-as : (f g : A → S → S) → ((x : A) (s : S) → f x s ≡ g x s) → (xs : List A) (s : S) → fold f xs s ≡ fold g xs s
   unfolding fold
@@ -194,11 +195,11 @@ module _ (c : Catalogue) (v : Reading) (w : Owner) where
   unfolding serveOwner unless
   serves-known e s = rw (e, opens-first s) (queues-then (openNames c (rangesFirst c w) s))
 
-pub known-served : {c : Catalogue} {l : Limits} {w : Owner} {n n₁ n₂ n₃ n₄ : Counters} {st st₁ st₂ st₃ st₄ : ℕ → List ℕ} → unknownOwner c w ≡ false
+pub known-served : {c : Catalogue} {l : Limits} (w : Owner) {n n₁ n₂ n₃ n₄ : Counters} {st st₁ st₂ st₃ st₄ : ℕ → List ℕ} → unknownOwner c w ≡ false
     → StateDid c l (λ v. onOpening (fold (ruleOf c v OpenRequirement w) (upTo 0 (countOf c OpenRequirement)))) n st n₁ st₁
     → StateDid c l (λ v. onOpening (fold (ruleOf c v OpenConstraint w) (upTo 0 (countOf c OpenConstraint)))) n₁ st₁ n₂ st₂
     → StateDid c l (λ v. onOpening (fold (ruleOf c v QueueRequirement w) (upTo 0 (countOf c QueueRequirement)))) n₂ st₂ n₃ st₃
     → StateDid c l (λ v. onOpening (fold (ruleOf c v QueueConstraint w) (upTo 0 (countOf c QueueConstraint)))) n₃ st₃ n₄ st₄
     → StateDid c l (λ v. onOpening (serveOwner c w)) n st n₄ st₄
-known-served {c} {w = w} e a b d f =
+known-served {c} w e a b d f =
     state-then (state-both (state-both a b) d) f (λ v s. unfold onOpening in rw (serves-known c v w e (s .opening)))

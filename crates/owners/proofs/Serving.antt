@@ -145,6 +145,11 @@ pub part-in-tables : (k : Counts) (m us t : List ℕ) {o : Origin} {p : ℕ} →
 unfolding inTables
 part-in-tables k m us t {p = p} h b e = rw e (lt-ltb p 1024 (omega (arith, h .held .laid .parts)))
 
+variables-after : (c : Catalogue) (l : Limits) (v : Reading) (n n′ : Counters) (st st′ : ℕ → List ℕ) (cl wt : List ℕ) (o : Origin)
+    → stateOf c l v n′ st′ cl wt ≡ addVariable o (stateOf c l v n st cl wt) → variables (n′ .variables) st′ ≡ withVariable o (variables (n .variables) st)
+unfolding stateOf addVariable
+variables-after c l v n n′ st st′ cl wt o e = ap (λ (z : State). z .variables) e
+
 module _ (c : Catalogue) {l : Limits} (r : encoder.Run) (p : ℕ) (o : Origin) {n n′ : Counters} {st st′ : ℕ → List ℕ}
     (e : unknownOwner c (part p) ≡ true) (i : o ≡ partOrigin p) (d : PlainDid l (λ c v. addVariable o) n st n′ st′) where
   named : PlainDid l (λ c v. addVariable (partOrigin p)) n st n′ st′
@@ -169,7 +174,7 @@ module _ (c : Catalogue) {l : Limits} (r : encoder.Run) (p : ℕ) (o : Origin) {
       }
     where
       vars : (wt : List ℕ) → Good c l n st cl wt → n .full ≡ false → (v : Reading) → variables (n′ .variables) st′ ≡ withVariable (partOrigin p) (variables (n .variables) st)
-      vars wt h u v = ap (λ (z : State). z .variables) (unfold stateOf addVariable in named .is c .is cl wt .done h u f v)
+      vars wt h u v = variables-after c l v n n′ st st′ cl wt (partOrigin p) (named .is c .is cl wt .done h u f v)
 
       same : (wt : List ℕ) → Good c l n st cl wt → n .full ≡ false → (v : Reading)
           → addClause (runOf r) (excluded x p (reasonFor true)) (addVariable (partOrigin p) (stateOf c l v n st cl wt))

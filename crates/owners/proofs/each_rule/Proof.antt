@@ -24,7 +24,7 @@ loop-holds : tie.Need-loop-holds Inv-loop μ-loop
 loop-holds c = (search needs, ruled-start (c .before .before .before .before .before .pre .1 .1 .1 .0))
 
 take-rule-requires : tie.Need-take-rule-requires Inv-loop μ-loop
-take-rule-requires c κs = ((c .before .before .before .before .before .before .before .before .pre .0), ((c .before .before .before .before .before .before .before .before .pre .1 .0), (fits-same (c .before .before .loop .inv .0) (c .before .before .before .before .before .before .before .before .pre .1 .1 .0), ((c .before .before .loop .inv .1 .good), (record-counted _ _ _ _ (c .before .before .before .rules-of .ensures) (c .before .loop-test .taken), (c .before .before .before .before .before .before .before .before .pre .1 .1 .1 .1))))))
+take-rule-requires c κs = ((c .before .before .before .before .before .before .before .before .pre .0), ((c .before .before .before .before .before .before .before .before .pre .1 .0), (fits-same (c .before .before .loop .inv .0) (c .before .before .before .before .before .before .before .before .pre .1 .1 .0), ((c .before .before .loop .inv .1 .good), (record-counted _ _ _ _ _ (c .before .before .before .rules-of .ensures) (c .before .loop-test .taken), (c .before .before .before .before .before .before .before .before .pre .1 .1 .1 .1))))))
 
 add-i : tie.Need-add-i Inv-loop μ-loop
 add-i c = search needs
@@ -39,7 +39,7 @@ same-length : tie.Need-same-length Inv-loop μ-loop
 same-length c = search needs
 
 returns : tie.Need-returns Inv-loop μ-loop
-returns c = ruled-end (c .before .loop .inv .1) (c .loop-test .left) (c .before .before .rules-of .ensures)
+returns c = ruled-end _ _ _ _ (c .before .loop .inv .1) (c .loop-test .left) (c .before .before .rules-of .ensures)
 
 pub each-rule-spec : {M : Type 1} → statement M
 each-rule-spec =
