@@ -145,8 +145,13 @@ pub part-in-tables : (k : Counts) (m us t : List ℕ) {o : Origin} {p : ℕ} →
 unfolding inTables
 part-in-tables k m us t {p = p} h b e = rw e (lt-ltb p 1024 (omega (arith, h .held .laid .parts)))
 
+excluded-is : (r : Run) (p x : ℕ) (s : State) → x ≡ partVariable (withVariable (partOrigin p) (s .variables)) p
+    → addClause r (excluded x p (reasonFor true)) (addVariable (partOrigin p) s) ≡ excludeUnknown r p (addVariable (partOrigin p) s)
+unfolding excludeUnknown reasonFor addVariable
+excluded-is r p x s e = rw e
+
 variables-after : (c : Catalogue) (l : Limits) (v : Reading) (n n′ : Counters) (st st′ : ℕ → List ℕ) (cl wt : List ℕ) (o : Origin)
-    → stateOf c l v n′ st′ cl wt ≡ addVariable o (stateOf c l v n st cl wt) → variables (n′ .variables) st′ ≡ withVariable o (variables (n .variables) st)
+    → stateOf c l v n′ st′ cl wt ≡ addVariable o (stateOf c l v n st cl wt) → variables (n′ .variables) st′ ≡ withVariable o (stateOf c l v n st cl wt .variables)
 unfolding stateOf addVariable
 variables-after c l v n n′ st st′ cl wt o e = ap (λ (z : State). z .variables) e
 
@@ -173,7 +178,8 @@ module _ (c : Catalogue) {l : Limits} (r : encoder.Run) (p : ℕ) (o : Origin) {
             (λ h u v. same wt h u v ∙ sym (unknown-is c (runOf r) p e (stateOf c l v n st cl wt) (nothing-kept c l v n st cl wt)));
       }
     where
-      vars : (wt : List ℕ) → Good c l n st cl wt → n .full ≡ false → (v : Reading) → variables (n′ .variables) st′ ≡ withVariable (partOrigin p) (variables (n .variables) st)
+      vars : (wt : List ℕ) → Good c l n st cl wt → n .full ≡ false → (v : Reading)
+          → variables (n′ .variables) st′ ≡ withVariable (partOrigin p) (stateOf c l v n st cl wt .variables)
       vars wt h u v = variables-after c l v n n′ st st′ cl wt (partOrigin p) (named .is c .is cl wt .done h u f v)
 
       same : (wt : List ℕ) → Good c l n st cl wt → n .full ≡ false → (v : Reading)
@@ -181,10 +187,9 @@ module _ (c : Catalogue) {l : Limits} (r : encoder.Run) (p : ℕ) (o : Origin) {
           ≡ excludeUnknown (runOf r) p (addVariable (partOrigin p) (stateOf c l v n st cl wt))
       same wt h u v =
           let now = vars wt h u v in
-          let there : known (variables (n′ .variables) st′) (partOrigin p) ≡ true = rw now (withVariable-known (partOrigin p) (variables (n .variables) st)) in
+          let there : known (variables (n′ .variables) st′) (partOrigin p) ≡ true = rw now (withVariable-known (partOrigin p) (stateOf c l v n st cl wt .variables)) in
           let looked : Looked (variables (n′ .variables) st′) (partOrigin p) x = rw j at k in
-          let is : x ≡ partVariable (withVariable (partOrigin p) (variables (n .variables) st)) p = looked .is there ∙ rw now in
-          unfold excludeUnknown reasonFor addVariable stateOf in rw is
+          excluded-is (runOf r) p x (stateOf c l v n st cl wt) (looked .is there ∙ rw now)
 
 -- what a clause needs
 pub can-add : {c : Catalogue} {l : Limits} {n : Counters} {st : ℕ → List ℕ} {cl wt : List ℕ} {k : ℕ} → Good c l n st cl wt → LongEnough l (length cl) k → CanAdd l n st (length cl)
