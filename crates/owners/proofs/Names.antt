@@ -17,7 +17,7 @@ use Rattle.requirement.specs.Requirements.{goalOf}
 use Rattle.tables.specs.declared.Counts.{Counts}
 use Rattle.tables.specs.Tables.{tables}
 use Rattle.unions.specs.declared.Member.{Member}
-use Rattle.unions.specs.Unions.{Row, noRow, rows, rowOf, rangesOf, left, Next}
+use Rattle.unions.specs.Unions.{noRow, rows, rowOf, left, Next}
 use Rattle.unions.proofs.Laws.{Seen, seen-start, seen-step, seen-end}
 use Rattle.cache.specs.Areas.{catalogue}
 use Rattle.cache.proofs.Laws.{names-held, ranges-held, unions-held, range-name-held, union-held, union-ranges-held}

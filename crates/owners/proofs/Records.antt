@@ -1,6 +1,6 @@
 -- An owner's records: what the tables have of a requirement or a constraint, and the rules that are for one.
 use mathlib.Core.Path.{_≡_, refl, sym, _∙_, ap, subst}
-use mathlib.Core.Bool.{Bool, true, false, _&&_, cond, true≢false, false≢true}
+use mathlib.Core.Bool.{Bool, true, false, _&&_, cond, false≢true}
 use mathlib.Core.List.{List, []}
 use mathlib.Core.Option.{Option, none, some}
 use Prim.Native.Nat.{ℕ, _+_, _-_, _<_, _≤_}
@@ -10,7 +10,7 @@ use lib.ListN.{length, getD}
 use borrow.Author.Tests.{eqb-true, eq-eqb, ne-eqb}
 use Rattle.rules.specs.Lists.{filter, upTo, when}
 use Rattle.rules.specs.Catalogue as rules
-use Rattle.rules.specs.Catalogue.{Owner, root, part, Goal, Catalogue, noRequirement, requirementAt, noConstraint, constraintAt, ownerAt, goalAt, conditionAt, rangeName, sameOwner}
+use Rattle.rules.specs.Catalogue.{Owner, Goal, Catalogue, noRequirement, requirementAt, noConstraint, constraintAt, ownerAt, goalAt, conditionAt, rangeName, sameOwner}
 use Rattle.rules.specs.Candidates.{goalRanges}
 use Rattle.rules.specs.Conditions.{disjunctsIf, disjunctsOf, indices, isNone, unconditional}
 use Rattle.rules.specs.Items as items
@@ -118,13 +118,13 @@ module _ (k : Counts) (m us t : List ℕ) (q : ℕ) (it : ConditionalRequirement
 
   pub required-owner : WellFormed (catalogue k m us t) → Kept k m us t → q < k .requirements → OwnerNumber (it .owner)
   required-owner w h b =
-      let given : q < length ((catalogue k m us t) .requirements) = rw requirements-held b in
+      let given : q < length (catalogue k m us t .requirements) = rw requirements-held b in
       let o = subst (λ (x : Owner). OwnerGiven (catalogue k m us t) x) owner-at (w .requirements q given .owner) in
       owner-number (catalogue k m us t) (it .owner) o (omega (arith, parts-held k m us t, h .held .laid .parts))
 
   pub required-goal : WellFormed (catalogue k m us t) → q < k .requirements → GoalGiven (catalogue k m us t) (goalOf (it .requirement))
   required-goal w b =
-      let given : q < length ((catalogue k m us t) .requirements) = rw requirements-held b in
+      let given : q < length (catalogue k m us t .requirements) = rw requirements-held b in
       subst (λ (x : Goal). GoalGiven (catalogue k m us t) x) goal-at (w .requirements q given .goal)
 
   module _ (x o : ℕ) (f : ownerOf x ≡ ownerIs (it .owner)) where
@@ -189,13 +189,13 @@ module _ (k : Counts) (m us t : List ℕ) (i : ℕ) (it : code.Constraint) (e : 
 
   pub constrained-owner : WellFormed (catalogue k m us t) → Kept k m us t → i < k .constraints → OwnerNumber (it .owner)
   constrained-owner w h b =
-      let given : i < length ((catalogue k m us t) .constraints) = rw constraints-held b in
+      let given : i < length (catalogue k m us t .constraints) = rw constraints-held b in
       let o = subst (λ (x : Owner). OwnerGiven (catalogue k m us t) x) constrained-at (w .constraints i given .owner) in
       owner-number (catalogue k m us t) (it .owner) o (omega (arith, parts-held k m us t, h .held .laid .parts))
 
   pub constrained-range : WellFormed (catalogue k m us t) → i < k .constraints → it .range < k .ranges
   constrained-range w b =
-      let given : i < length ((catalogue k m us t) .constraints) = rw constraints-held b in
+      let given : i < length (catalogue k m us t .constraints) = rw constraints-held b in
       omega (arith, w .constraints i given .range, range-at, ranges-held k m us t)
 
   module _ (x o : ℕ) (f : ownerOf x ≡ ownerIs (it .owner)) where

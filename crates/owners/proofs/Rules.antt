@@ -150,7 +150,7 @@ module _ (c : Catalogue) (v : Reading) (w : Owner) where
       ∙ (fold-filter each (unconditional c) (filter mine us) s
       ∙ (fold-filter (λ q. when (unconditional c q) (each q)) mine us s
       ∙ fold-as (λ q. when (mine q) (when (unconditional c q) (each q))) (ruleOf c v OpenRequirement w)
-        (λ q u. unfold ruleOf openNames in when-both (mine q) (unconditional c q) (each q) u) us s)))
+      (λ q u. unfold ruleOf openNames in when-both (mine q) (unconditional c q) (each q) u) us s)))
 
   open-constraints : (s : Opening) → rules OpenConstraint s ≡ openNames c (map (λ (i : ℕ). (constraintAt c i) .range) (constraintsOf c w)) s
   unfolding openNames constraintsOf countOf

@@ -2,16 +2,16 @@
 use mathlib.Core.Path.{_≡_, refl, sym, _∙_, ap}
 use mathlib.Core.Bool.{Bool, true, false}
 use mathlib.Core.List.{List, [], _∷_}
-use Prim.Native.Nat.{ℕ, _<_, _≤_}
+use Prim.Native.Nat.{ℕ, _<_}
 use native.Mathlib.Omega.{arith}
 use lib.ListN.{length, getD}
 use borrow.Author.Tests.{lt-ltb}
 use Rattle.rules.specs.Lists.{fold, listIf, unless}
 use Rattle.rules.specs.Clause.{excluded, unknownDependencies}
 use Rattle.rules.specs.Catalogue.{Owner, root, part, Part, Catalogue, noPart, partAt, rangeName, unknownOwner}
-use Rattle.rules.specs.Variables.{Origin, known, withVariable, withVariables, partOrigin, partVariable, variableOf}
+use Rattle.rules.specs.Variables.{Origin, known, withVariable, withVariables, partOrigin, partVariable}
 use Rattle.rules.specs.Opening.{Task, owner, Opening, queue, openName, openNames, rangesFirst, tasksOf, serveOwner, serve}
-use Rattle.rules.specs.Encoding.{Event, served, taskOrigins, origins, taskClauses, clauses}
+use Rattle.rules.specs.Encoding.{served, taskOrigins, origins, taskClauses, clauses}
 use Rattle.rules.specs.State.{State, Run, emit}
 use Rattle.rules.specs.Run.{serveTask}
 use Rattle.rules.proofs.WellFormed.{OwnerGiven}

@@ -7,7 +7,7 @@ use tables::Counts;
 ghost use mathlib.Core.Path.{_≡_};
 ghost use mathlib.Core.Bool.{true, false};
 ghost use mathlib.Core.List.{[]};
-ghost use Prim.Native.Nat.{_<_, _≤_};
+ghost use Prim.Native.Nat.{_<_};
 ghost use lib.ListN.{length};
 ghost use Rattle.rules.specs.Lists.{fold, upTo};
 ghost use Rattle.rules.specs.Catalogue.{union, part, rangeName, unknownOwner};
@@ -27,7 +27,16 @@ ghost use Rattle.owners.specs.Owners.{OwnerNumber, ownerIs, ruleOf, coun
 // ---- names are opened
 
 // The name of a range.
-fn open_range(marks: &[u8], unions: &[u8], t: &[u8], k: Counts, s: &mut [u8], l: Limits, n: Counters, r: u16) -> Counters
+fn open_range(
+    marks: &[u8],
+    unions: &[u8],
+    t: &[u8],
+    k: Counts,
+    s: &mut [u8],
+    l: Limits,
+    n: Counters,
+    r: u16,
+) -> Counters
     requires { ⌜ Kept k (now marks) (now unions) (now t) ⌝ }
     requires { ⌜ WellFormed (catalogue k (now marks) (now unions) (now t)) ⌝ }
     requires { ⌜ Fits l (length (now s)) ⌝ }
@@ -38,7 +47,16 @@ fn open_range(marks: &[u8], unions: &[u8], t: &[u8], k: Counts, s: &mut [u8], l:
     opening::open_name(s, l, n, tables::range_name(t, k, r as usize))
 }
 
-fn open_union(marks: &[u8], unions: &[u8], t: &[u8], k: Counts, s: &mut [u8], l: Limits, n: Counters, u: u16) -> Counters
+fn open_union(
+    marks: &[u8],
+    unions: &[u8],
+    t: &[u8],
+    k: Counts,
+    s: &mut [u8],
+    l: Limits,
+    n: Counters,
+    u: u16,
+) -> Counters
     requires { ⌜ Kept k (now marks) (now unions) (now t) ⌝ }
     requires { ⌜ WellFormed (catalogue k (now marks) (now unions) (now t)) ⌝ }
     requires { ⌜ Fits l (length (now s)) ⌝ }
@@ -57,7 +75,16 @@ fn open_union(marks: &[u8], unions: &[u8], t: &[u8], k: Counts, s: &mut [u8], l:
 }
 
 // The names of a goal's ranges.
-pub fn open_goal(marks: &[u8], unions: &[u8], t: &[u8], k: Counts, s: &mut [u8], l: Limits, n: Counters, goal: Requirement) -> Counters
+pub fn open_goal(
+    marks: &[u8],
+    unions: &[u8],
+    t: &[u8],
+    k: Counts,
+    s: &mut [u8],
+    l: Limits,
+    n: Counters,
+    goal: Requirement,
+) -> Counters
     requires { ⌜ Kept k (now marks) (now unions) (now t) ⌝ }
     requires { ⌜ WellFormed (catalogue k (now marks) (now unions) (now t)) ⌝ }
     requires { ⌜ Fits l (length (now s)) ⌝ }
@@ -89,7 +116,17 @@ pub enum Rule {
     QueueConstraint,
 }
 
-fn open_requirement(marks: &[u8], unions: &[u8], t: &[u8], k: Counts, s: &mut [u8], l: Limits, n: Counters, o: u16, q: usize) -> Counters
+fn open_requirement(
+    marks: &[u8],
+    unions: &[u8],
+    t: &[u8],
+    k: Counts,
+    s: &mut [u8],
+    l: Limits,
+    n: Counters,
+    o: u16,
+    q: usize,
+) -> Counters
     requires { ⌜ Kept k (now marks) (now unions) (now t) ⌝ }
     requires { ⌜ WellFormed (catalogue k (now marks) (now unions) (now t)) ⌝ }
     requires { ⌜ Fits l (length (now s)) ⌝ }
@@ -108,7 +145,17 @@ fn open_requirement(marks: &[u8], unions: &[u8], t: &[u8], k: Counts, s: &mut [u
     open_goal(marks, unions, t, k, s, l, n, goal)
 }
 
-fn open_constraint(marks: &[u8], unions: &[u8], t: &[u8], k: Counts, s: &mut [u8], l: Limits, n: Counters, o: u16, i: usize) -> Counters
+fn open_constraint(
+    marks: &[u8],
+    unions: &[u8],
+    t: &[u8],
+    k: Counts,
+    s: &mut [u8],
+    l: Limits,
+    n: Counters,
+    o: u16,
+    i: usize,
+) -> Counters
     requires { ⌜ Kept k (now marks) (now unions) (now t) ⌝ }
     requires { ⌜ WellFormed (catalogue k (now marks) (now unions) (now t)) ⌝ }
     requires { ⌜ Fits l (length (now s)) ⌝ }
@@ -123,7 +170,17 @@ fn open_constraint(marks: &[u8], unions: &[u8], t: &[u8], k: Counts, s: &mut [u8
     open_range(marks, unions, t, k, s, l, n, it.range)
 }
 
-fn queue_requirement(marks: &[u8], unions: &[u8], t: &[u8], k: Counts, s: &mut [u8], l: Limits, n: Counters, o: u16, q: usize) -> Counters
+fn queue_requirement(
+    marks: &[u8],
+    unions: &[u8],
+    t: &[u8],
+    k: Counts,
+    s: &mut [u8],
+    l: Limits,
+    n: Counters,
+    o: u16,
+    q: usize,
+) -> Counters
     requires { ⌜ Kept k (now marks) (now unions) (now t) ⌝ }
     requires { ⌜ WellFormed (catalogue k (now marks) (now unions) (now t)) ⌝ }
     requires { ⌜ Fits l (length (now s)) ⌝ }
@@ -141,7 +198,17 @@ fn queue_requirement(marks: &[u8], unions: &[u8], t: &[u8], k: Counts, s: &mut [
     opening::queue(s, l, n, 1089 + q as u16)
 }
 
-fn queue_constraint(marks: &[u8], unions: &[u8], t: &[u8], k: Counts, s: &mut [u8], l: Limits, n: Counters, o: u16, i: usize) -> Counters
+fn queue_constraint(
+    marks: &[u8],
+    unions: &[u8],
+    t: &[u8],
+    k: Counts,
+    s: &mut [u8],
+    l: Limits,
+    n: Counters,
+    o: u16,
+    i: usize,
+) -> Counters
     requires { ⌜ Kept k (now marks) (now unions) (now t) ⌝ }
     requires { ⌜ WellFormed (catalogue k (now marks) (now unions) (now t)) ⌝ }
     requires { ⌜ Fits l (length (now s)) ⌝ }
@@ -156,7 +223,18 @@ fn queue_constraint(marks: &[u8], unions: &[u8], t: &[u8], k: Counts, s: &mut [u
     opening::queue(s, l, n, 3137 + i as u16)
 }
 
-fn take_rule(marks: &[u8], unions: &[u8], t: &[u8], k: Counts, s: &mut [u8], l: Limits, n: Counters, what: Rule, o: u16, i: usize) -> Counters
+fn take_rule(
+    marks: &[u8],
+    unions: &[u8],
+    t: &[u8],
+    k: Counts,
+    s: &mut [u8],
+    l: Limits,
+    n: Counters,
+    what: Rule,
+    o: u16,
+    i: usize,
+) -> Counters
     requires { ⌜ Kept k (now marks) (now unions) (now t) ⌝ }
     requires { ⌜ WellFormed (catalogue k (now marks) (now unions) (now t)) ⌝ }
     requires { ⌜ Fits l (length (now s)) ⌝ }
@@ -183,7 +261,17 @@ fn rules_of(k: Counts, what: Rule) -> usize
     }
 }
 
-fn each_rule(marks: &[u8], unions: &[u8], t: &[u8], k: Counts, s: &mut [u8], l: Limits, n: Counters, what: Rule, o: u16) -> Counters
+fn each_rule(
+    marks: &[u8],
+    unions: &[u8],
+    t: &[u8],
+    k: Counts,
+    s: &mut [u8],
+    l: Limits,
+    n: Counters,
+    what: Rule,
+    o: u16,
+) -> Counters
     requires { ⌜ Kept k (now marks) (now unions) (now t) ⌝ }
     requires { ⌜ WellFormed (catalogue k (now marks) (now unions) (now t)) ⌝ }
     requires { ⌜ Fits l (length (now s)) ⌝ }
@@ -204,7 +292,16 @@ fn each_rule(marks: &[u8], unions: &[u8], t: &[u8], k: Counts, s: &mut [u8], l: 
 // ---- an owner's task
 
 // A known owner: its unconditional requirements and its constraints open their names first, then its tasks are queued.
-fn serve_known(marks: &[u8], unions: &[u8], t: &[u8], k: Counts, s: &mut [u8], l: Limits, n: Counters, o: u16) -> Counters
+fn serve_known(
+    marks: &[u8],
+    unions: &[u8],
+    t: &[u8],
+    k: Counts,
+    s: &mut [u8],
+    l: Limits,
+    n: Counters,
+    o: u16,
+) -> Counters
     requires { ⌜ Kept k (now marks) (now unions) (now t) ⌝ }
     requires { ⌜ WellFormed (catalogue k (now marks) (now unions) (now t)) ⌝ }
     requires { ⌜ Fits l (length (now s)) ⌝ }
@@ -219,7 +316,18 @@ fn serve_known(marks: &[u8], unions: &[u8], t: &[u8], k: Counts, s: &mut [u8], l
 }
 
 // A part with unknown dependencies is excluded.
-fn serve_unknown(marks: &[u8], unions: &[u8], t: &[u8], k: Counts, s: &mut [u8], clauses: &mut [u8], l: Limits, n: Counters, r: Run, p: u16) -> Counters
+fn serve_unknown(
+    marks: &[u8],
+    unions: &[u8],
+    t: &[u8],
+    k: Counts,
+    s: &mut [u8],
+    clauses: &mut [u8],
+    l: Limits,
+    n: Counters,
+    r: Run,
+    p: u16,
+) -> Counters
     requires { ⌜ Kept k (now marks) (now unions) (now t) ⌝ }
     requires { ⌜ WellFormed (catalogue k (now marks) (now unions) (now t)) ⌝ }
     requires { ⌜ Fits l (length (now s)) ⌝ }
@@ -236,7 +344,18 @@ fn serve_unknown(marks: &[u8], unions: &[u8], t: &[u8], k: Counts, s: &mut [u8],
     clauses::add_excluded(s, clauses, l, m, r, x, p, true)
 }
 
-pub fn serve_owner(marks: &[u8], unions: &[u8], t: &[u8], k: Counts, s: &mut [u8], clauses: &mut [u8], l: Limits, n: Counters, r: Run, o: u16) -> Counters
+pub fn serve_owner(
+    marks: &[u8],
+    unions: &[u8],
+    t: &[u8],
+    k: Counts,
+    s: &mut [u8],
+    clauses: &mut [u8],
+    l: Limits,
+    n: Counters,
+    r: Run,
+    o: u16,
+) -> Counters
     requires { ⌜ Kept k (now marks) (now unions) (now t) ⌝ }
     requires { ⌜ WellFormed (catalogue k (now marks) (now unions) (now t)) ⌝ }
     requires { ⌜ Fits l (length (now s)) ⌝ }
