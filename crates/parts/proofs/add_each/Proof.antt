@@ -1,3 +1,4 @@
+-- `parts::add_each` adds the clause of each of these. The invariant: those below p have theirs, and all have variables.
 use borrow.Author.Needs.{needs}
 use Prim.Native.Nat.{_-_}
 use Rattle.cache.specs.Areas.{catalogue}

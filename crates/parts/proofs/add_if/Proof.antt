@@ -1,3 +1,4 @@
+-- `parts::add_if` adds the clause of a part that is one of these.
 use borrow.Author.Needs.{needs}
 use Rattle.parts.proofs.Clauses.{selected-known, adding-selected, adding-other}
 use Rattle.parts.proofs.add_if.Statement.{statement}

@@ -1,3 +1,4 @@
+-- `parts::is_excluded`: is a part an excluded one of a name?
 use borrow.Author.Needs.{needs}
 use Rattle.parts.proofs.Selecting.{not-named, named}
 use Rattle.parts.proofs.is_excluded.Statement.{statement}

@@ -1,3 +1,4 @@
+-- `parts::is_other`: is a part one of a name, and not the locked one?
 use borrow.Author.Needs.{needs}
 use Rattle.parts.proofs.Selecting.{not-named, named}
 use Rattle.parts.proofs.is_other.Statement.{statement}

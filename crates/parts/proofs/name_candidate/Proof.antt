@@ -1,3 +1,4 @@
+-- `parts::name_candidate`: the same of a candidate, which is also opened if it is ready.
 use borrow.Author.Needs.{needs}
 use Rattle.parts.proofs.Names.{candidate-named}
 use Rattle.parts.proofs.Steps.{alone-after}

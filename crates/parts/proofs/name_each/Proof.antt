@@ -1,3 +1,4 @@
+-- `parts::name_each` names each of these. The invariant: those below p are named.
 use borrow.Author.Needs.{needs}
 use Prim.Native.Nat.{_-_}
 use Rattle.cache.specs.Areas.{catalogue}

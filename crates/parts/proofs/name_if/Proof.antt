@@ -1,3 +1,4 @@
+-- `parts::name_if` names a part that is one of these.
 use borrow.Author.Needs.{needs}
 use Rattle.parts.proofs.Names.{naming-selected, naming-other}
 use Rattle.parts.proofs.name_if.Statement.{statement}

@@ -1,3 +1,4 @@
+-- `parts::name_part` names one part, by what is asked.
 use borrow.Author.Needs.{needs}
 use Rattle.parts.proofs.Names.{part-fits, naming-variable, naming-as}
 use Rattle.parts.proofs.name_part.Statement.{statement}

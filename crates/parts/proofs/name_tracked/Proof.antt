@@ -1,3 +1,4 @@
+-- `parts::name_tracked`: a part gets its variable and is named for tracking.
 use borrow.Author.Needs.{needs}
 use Rattle.parts.proofs.Names.{part-fits, several-after, named-after, tracked-named}
 use Rattle.parts.proofs.name_tracked.Statement.{statement}

@@ -1,3 +1,4 @@
+-- `parts::open_ready` opens a part that is ready.
 use borrow.Author.Needs.{needs}
 use native.Mathlib.Omega.{arith}
 use Rattle.parts.proofs.Names.{ready-opened, ready-not}

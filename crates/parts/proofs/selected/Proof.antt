@@ -1,3 +1,4 @@
+-- `parts::selected`: is a part one of these, by which they are?
 use borrow.Author.Needs.{needs}
 use Rattle.parts.proofs.Selecting.{selected-chosen, selected-others, selected-excluded}
 use Rattle.parts.proofs.selected.Statement.{statement}
