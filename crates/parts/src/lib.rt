@@ -5,24 +5,23 @@ use encoder::Run;
 use state::Limits;
 use tables::Counts;
 ghost use mathlib.Core.Path.{_≡_};
-ghost use mathlib.Core.Bool.{true, not, _&&_};
+ghost use mathlib.Core.Bool.{not, _&&_};
 ghost use mathlib.Core.List.{[], _∷_};
 ghost use Prim.Native.Nat.{_<_, _≤_};
 ghost use lib.Dec.{eqb};
 ghost use lib.ListN.{length, getD};
-ghost use Rattle.rules.specs.Lists.{fold, when, listIf};
+ghost use Rattle.rules.specs.Lists.{fold, when};
 ghost use Rattle.rules.specs.Catalogue.{noPart};
-ghost use Rattle.rules.specs.Variables.{known, partOrigin};
 ghost use Rattle.rules.specs.Opening.{openReady};
 ghost use Rattle.tables.specs.Tables.{tables, Laid};
 ghost use Rattle.cache.specs.Areas.{catalogue};
 ghost use Rattle.catalogue.specs.Reading.{Kept};
 ghost use Rattle.state.specs.Layout.{held, Fits};
 ghost use Rattle.variable_map.specs.Mapping.{variables};
-ghost use Rattle.encoder.specs.Held.{runOf, LongEnough, GoodState, Good};
+ghost use Rattle.encoder.specs.Held.{runOf, LongEnough, Good};
 ghost use Rattle.encoder.specs.Did.{onOpening, StateDid, ClausesDid};
 ghost use Rattle.parts.specs.declared.Naming.the-variants.{Tracked, Candidate};
-ghost use Rattle.parts.specs.Parts.{selectedOf, partsFor, namingOf, addingOf, CanAdd, AllKnown};
+ghost use Rattle.parts.specs.Parts.{selectedOf, partsFor, namingOf, addingOf, CanAdd, AllKnown, GoodAlone};
 
 // Which parts: those chosen of a range, those of a name but the locked one, the excluded ones of a name.
 pub enum Parts {
@@ -83,7 +82,7 @@ pub fn selected(marks: &[u8], unions: &[u8], t: &[u8], k: Counts, which: Parts, 
 fn open_ready(marks: &[u8], unions: &[u8], t: &[u8], k: Counts, s: &mut [u8], l: Limits, n: Counters, p: u16) -> Counters
     requires { ⌜ Kept k (now marks) (now unions) (now t) ⌝ }
     requires { ⌜ Fits l (length (now s)) ⌝ }
-    requires { ⌜ GoodState (catalogue k (now marks) (now unions) (now t)) l n (held l (now s)) ⌝ }
+    requires { ⌜ GoodAlone (catalogue k (now marks) (now unions) (now t)) l n (held l (now s)) ⌝ }
     requires { ⌜ p < 1024 ⌝ }
     ensures { λ m. ⌜ StateDid (catalogue k (now (marks .entry)) (now (unions .entry)) (now (t .entry))) l (λ v. onOpening (openReady (catalogue k (now (marks .entry)) (now (unions .entry)) (now (t .entry))) p)) n (held l (now (s .entry))) m (held l (now (s .exit))) ⌝ }
 {
@@ -96,7 +95,7 @@ fn open_ready(marks: &[u8], unions: &[u8], t: &[u8], k: Counts, s: &mut [u8], l:
 fn name_tracked(marks: &[u8], unions: &[u8], t: &[u8], k: Counts, s: &mut [u8], l: Limits, n: Counters, p: u16) -> Counters
     requires { ⌜ Kept k (now marks) (now unions) (now t) ⌝ }
     requires { ⌜ Fits l (length (now s)) ⌝ }
-    requires { ⌜ GoodState (catalogue k (now marks) (now unions) (now t)) l n (held l (now s)) ⌝ }
+    requires { ⌜ GoodAlone (catalogue k (now marks) (now unions) (now t)) l n (held l (now s)) ⌝ }
     requires { ⌜ p < 1024 ⌝ }
     ensures { λ m. ⌜ StateDid (catalogue k (now (marks .entry)) (now (unions .entry)) (now (t .entry))) l (λ v. namingOf (catalogue k (now (marks .entry)) (now (unions .entry)) (now (t .entry))) Tracked p) n (held l (now (s .entry))) m (held l (now (s .exit))) ⌝ }
 {
@@ -107,7 +106,7 @@ fn name_tracked(marks: &[u8], unions: &[u8], t: &[u8], k: Counts, s: &mut [u8], 
 fn name_candidate(marks: &[u8], unions: &[u8], t: &[u8], k: Counts, s: &mut [u8], l: Limits, n: Counters, p: u16) -> Counters
     requires { ⌜ Kept k (now marks) (now unions) (now t) ⌝ }
     requires { ⌜ Fits l (length (now s)) ⌝ }
-    requires { ⌜ GoodState (catalogue k (now marks) (now unions) (now t)) l n (held l (now s)) ⌝ }
+    requires { ⌜ GoodAlone (catalogue k (now marks) (now unions) (now t)) l n (held l (now s)) ⌝ }
     requires { ⌜ p < 1024 ⌝ }
     ensures { λ m. ⌜ StateDid (catalogue k (now (marks .entry)) (now (unions .entry)) (now (t .entry))) l (λ v. namingOf (catalogue k (now (marks .entry)) (now (unions .entry)) (now (t .entry))) Candidate p) n (held l (now (s .entry))) m (held l (now (s .exit))) ⌝ }
 {
@@ -118,7 +117,7 @@ fn name_candidate(marks: &[u8], unions: &[u8], t: &[u8], k: Counts, s: &mut [u8]
 fn name_part(marks: &[u8], unions: &[u8], t: &[u8], k: Counts, s: &mut [u8], l: Limits, n: Counters, naming: Naming, p: u16) -> Counters
     requires { ⌜ Kept k (now marks) (now unions) (now t) ⌝ }
     requires { ⌜ Fits l (length (now s)) ⌝ }
-    requires { ⌜ GoodState (catalogue k (now marks) (now unions) (now t)) l n (held l (now s)) ⌝ }
+    requires { ⌜ GoodAlone (catalogue k (now marks) (now unions) (now t)) l n (held l (now s)) ⌝ }
     requires { ⌜ p < 1024 ⌝ }
     ensures { λ m. ⌜ StateDid (catalogue k (now (marks .entry)) (now (unions .entry)) (now (t .entry))) l (λ v. namingOf (catalogue k (now (marks .entry)) (now (unions .entry)) (now (t .entry))) naming p) n (held l (now (s .entry))) m (held l (now (s .exit))) ⌝ }
 {
@@ -132,7 +131,7 @@ fn name_part(marks: &[u8], unions: &[u8], t: &[u8], k: Counts, s: &mut [u8], l: 
 fn name_if(marks: &[u8], unions: &[u8], t: &[u8], k: Counts, s: &mut [u8], l: Limits, n: Counters, which: Parts, naming: Naming, p: usize) -> Counters
     requires { ⌜ Kept k (now marks) (now unions) (now t) ⌝ }
     requires { ⌜ Fits l (length (now s)) ⌝ }
-    requires { ⌜ GoodState (catalogue k (now marks) (now unions) (now t)) l n (held l (now s)) ⌝ }
+    requires { ⌜ GoodAlone (catalogue k (now marks) (now unions) (now t)) l n (held l (now s)) ⌝ }
     requires { ⌜ p < 1024 ⌝ }
     ensures { λ m. ⌜ StateDid (catalogue k (now (marks .entry)) (now (unions .entry)) (now (t .entry))) l (λ v. when (selectedOf (catalogue k (now (marks .entry)) (now (unions .entry)) (now (t .entry))) which p) (namingOf (catalogue k (now (marks .entry)) (now (unions .entry)) (now (t .entry))) naming p)) n (held l (now (s .entry))) m (held l (now (s .exit))) ⌝ }
 {
@@ -146,7 +145,7 @@ fn name_if(marks: &[u8], unions: &[u8], t: &[u8], k: Counts, s: &mut [u8], l: Li
 pub fn name_each(marks: &[u8], unions: &[u8], t: &[u8], k: Counts, s: &mut [u8], l: Limits, n: Counters, which: Parts, naming: Naming) -> Counters
     requires { ⌜ Kept k (now marks) (now unions) (now t) ⌝ }
     requires { ⌜ Fits l (length (now s)) ⌝ }
-    requires { ⌜ GoodState (catalogue k (now marks) (now unions) (now t)) l n (held l (now s)) ⌝ }
+    requires { ⌜ GoodAlone (catalogue k (now marks) (now unions) (now t)) l n (held l (now s)) ⌝ }
     ensures { λ m. ⌜ StateDid (catalogue k (now (marks .entry)) (now (unions .entry)) (now (t .entry))) l (λ v. fold (namingOf (catalogue k (now (marks .entry)) (now (unions .entry)) (now (t .entry))) naming) (partsFor (catalogue k (now (marks .entry)) (now (unions .entry)) (now (t .entry))) which)) n (held l (now (s .entry))) m (held l (now (s .exit))) ⌝ }
 {
     let mut m = n;
@@ -166,8 +165,8 @@ fn add_part(marks: &[u8], unions: &[u8], t: &[u8], k: Counts, s: &mut [u8], clau
     requires { ⌜ Good (catalogue k (now marks) (now unions) (now t)) l n (held l (now s)) (now clauses) [] ⌝ }
     requires { ⌜ LongEnough l (length (now clauses)) 16384 ⌝ }
     requires { ⌜ CanAdd l r adding ⌝ }
-    requires { ⌜ (p < 1024) ⌝ }
-    requires { ⌜ known (variables (n .variables) (held l (now s))) (partOrigin p) ≡ true ⌝ }
+    requires { ⌜ p < 1024 ⌝ }
+    requires { ⌜ AllKnown (n .full) (variables (n .variables) (held l (now s))) (p ∷ []) ⌝ }
     ensures { λ m. ⌜ ClausesDid (catalogue k (now (marks .entry)) (now (unions .entry)) (now (t .entry))) l (λ v. addingOf (runOf r) adding p) n (held l (now (s .entry))) (now (clauses .entry)) m (held l (now (s .exit))) (now (clauses .exit)) ⌝ }
 {
     let x = opening::variable_of(s, l, n, variable_map::part(p));
@@ -185,8 +184,8 @@ fn add_if(marks: &[u8], unions: &[u8], t: &[u8], k: Counts, s: &mut [u8], clause
     requires { ⌜ Good (catalogue k (now marks) (now unions) (now t)) l n (held l (now s)) (now clauses) [] ⌝ }
     requires { ⌜ LongEnough l (length (now clauses)) 16384 ⌝ }
     requires { ⌜ CanAdd l r adding ⌝ }
-    requires { ⌜ (p < 1024) ⌝ }
-    requires { ⌜ AllKnown (variables (n .variables) (held l (now s))) (listIf (selectedOf (catalogue k (now marks) (now unions) (now t)) which p) (p ∷ [])) ⌝ }
+    requires { ⌜ p < k .parts ⌝ }
+    requires { ⌜ AllKnown (n .full) (variables (n .variables) (held l (now s))) (partsFor (catalogue k (now marks) (now unions) (now t)) which) ⌝ }
     ensures { λ m. ⌜ ClausesDid (catalogue k (now (marks .entry)) (now (unions .entry)) (now (t .entry))) l (λ v. when (selectedOf (catalogue k (now (marks .entry)) (now (unions .entry)) (now (t .entry))) which p) (addingOf (runOf r) adding p)) n (held l (now (s .entry))) (now (clauses .entry)) m (held l (now (s .exit))) (now (clauses .exit)) ⌝ }
 {
     if selected(marks, unions, t, k, which, p) {
@@ -202,7 +201,7 @@ pub fn add_each(marks: &[u8], unions: &[u8], t: &[u8], k: Counts, s: &mut [u8], 
     requires { ⌜ Good (catalogue k (now marks) (now unions) (now t)) l n (held l (now s)) (now clauses) [] ⌝ }
     requires { ⌜ LongEnough l (length (now clauses)) 16384 ⌝ }
     requires { ⌜ CanAdd l r adding ⌝ }
-    requires { ⌜ AllKnown (variables (n .variables) (held l (now s))) (partsFor (catalogue k (now marks) (now unions) (now t)) which) ⌝ }
+    requires { ⌜ AllKnown (n .full) (variables (n .variables) (held l (now s))) (partsFor (catalogue k (now marks) (now unions) (now t)) which) ⌝ }
     ensures { λ m. ⌜ ClausesDid (catalogue k (now (marks .entry)) (now (unions .entry)) (now (t .entry))) l (λ v. fold (addingOf (runOf r) adding) (partsFor (catalogue k (now (marks .entry)) (now (unions .entry)) (now (t .entry))) which)) n (held l (now (s .entry))) (now (clauses .entry)) m (held l (now (s .exit))) (now (clauses .exit)) ⌝ }
 {
     let mut m = n;

@@ -1,0 +1,5 @@
+pub mod Lists
+pub mod Steps
+pub mod Selecting
+pub mod Names
+pub mod Clauses
