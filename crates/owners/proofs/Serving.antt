@@ -39,7 +39,7 @@ use Rattle.owners.specs.Owners.{serving}
 
 -- ---- what was handled and fired is not kept
 
-forget-widens : {s s′ : State} → Widens s s′ → Widens s (forget s′)
+pub forget-widens : {s s′ : State} → Widens s s′ → Widens s (forget s′)
 forget-widens w =
     record {
       grows = record { variables = w .grows .variables; clauses = w .grows .clauses; waiting = w .grows .waiting };
@@ -47,7 +47,7 @@ forget-widens w =
       several = w .several;
     }
 
-nothing-kept : (c : Catalogue) (l : Limits) (v : Reading) (n : Counters) (st : ℕ → List ℕ) (cl wt : List ℕ) → forget (stateOf c l v n st cl wt) ≡ stateOf c l v n st cl wt
+pub nothing-kept : (c : Catalogue) (l : Limits) (v : Reading) (n : Counters) (st : ℕ → List ℕ) (cl wt : List ℕ) → forget (stateOf c l v n st cl wt) ≡ stateOf c l v n st cl wt
 unfolding stateOf openingOf
 nothing-kept c l v n st cl wt = refl
 
@@ -63,7 +63,7 @@ openNames-erased : (c : Catalogue) (rs : List ℕ) (s : Opening) → openNames c
 unfolding openNames
 openNames-erased c rs s = fold-commutes erased _ (λ r. openName-erased (rangeName c r)) rs s
 
-owner-erased : (c : Catalogue) (w : Owner) (s : Opening) → serveOwner c w (erased s) ≡ erased (serveOwner c w s)
+pub owner-erased : (c : Catalogue) (w : Owner) (s : Opening) → serveOwner c w (erased s) ≡ erased (serveOwner c w s)
 unfolding serveOwner
 owner-erased c w s =
     unless-commutes erased _ _
