@@ -3,3 +3,4 @@ pub mod Names
 pub mod Records
 pub mod Rules
 pub mod Serving
+pub mod Origins

@@ -4,6 +4,7 @@ use encoder::Run;
 use requirement::Requirement;
 use state::Limits;
 use tables::Counts;
+use variable_map::Origin;
 ghost use mathlib.Core.Path.{_≡_};
 ghost use mathlib.Core.Bool.{true, false};
 ghost use mathlib.Core.List.{[]};
@@ -13,11 +14,13 @@ ghost use Rattle.rules.specs.Lists.{fold, upTo};
 ghost use Rattle.rules.specs.Catalogue.{union, part, rangeName, unknownOwner};
 ghost use Rattle.rules.specs.Candidates.{goalRanges};
 ghost use Rattle.rules.specs.Opening.{owner, openName, openNames, serveOwner};
+ghost use Rattle.rules.specs.Variables.{chosen};
 ghost use Rattle.rules.proofs.WellFormed.{OwnerGiven, GoalGiven, WellFormed};
 ghost use Rattle.requirement.specs.Requirements.{goalOf};
 ghost use Rattle.cache.specs.Areas.{catalogue};
 ghost use Rattle.catalogue.specs.Reading.{Kept};
 ghost use Rattle.state.specs.Layout.{held, Fits};
+ghost use Rattle.variable_map.specs.Mapping.{originOf};
 ghost use Rattle.marked.specs.Marked.{ownerOf};
 ghost use Rattle.encoder.specs.Held.{runOf, LongEnough, Good};
 ghost use Rattle.encoder.specs.Did.{onOpening, StateDid, ClausesDid};
@@ -106,6 +109,16 @@ pub fn owner_number(o: u16) -> u16
     ensures { λ r. ⌜ ownerOf r ≡ ownerIs o ⌝ }
 {
     if o == 65535 { 1024 } else { o }
+}
+
+// An owner's origin: the root's, or a part's.
+pub fn owner_origin(o: u16) -> Origin
+    ensures { λ r. ⌜ originOf r ≡ chosen (ownerOf o) ⌝ }
+{
+    if o == 1024 {
+        return variable_map::root();
+    }
+    variable_map::part(o)
 }
 
 // What is done with each record of an owner: an unconditional requirement or a constraint opens its names; a requirement or a constraint is queued.
