@@ -1,0 +1,185 @@
+// The sheet's commands but run: add, draw, decide, undo.
+use clause::Literal;
+use clause::Value;
+use decision_tracker::Decision;
+use encoder::Counters;
+use refusal::Contradiction;
+use refusal::Refusal;
+use refusal::Thing;
+use state::Limits;
+use tables::Counts;
+ghost use mathlib.Core.Path.{_≡_};
+ghost use mathlib.Core.Bool.{_||_};
+ghost use Prim.Native.Nat.{_+_, _<_, _≤_};
+ghost use lib.Dec.{eqb, ltb};
+ghost use lib.ListN.{length, getD};
+ghost use Rattle.rules.specs.Decisions.{lastLevel};
+ghost use Rattle.rules.specs.Opening.{isDrawn};
+ghost use Rattle.rules.specs.Opening as rules;
+ghost use Rattle.rules.specs.Records.{Command};
+ghost use Rattle.rules.proofs.Levels.{Rising};
+ghost use Rattle.cache.specs.Areas.{catalogue};
+ghost use Rattle.clause.specs.Literals.{literalOf};
+ghost use Rattle.state.specs.Layout.{held, Fits};
+ghost use Rattle.variable_map.specs.Mapping.{variables, Mapped};
+ghost use Rattle.decision_tracker.specs.Tracking.{decisions, Kept};
+ghost use Rattle.marked.specs.Marked.{ownerOf, Marked};
+ghost use Rattle.entries.specs.Entries.{noEntry, waitingIn, Long};
+ghost use Rattle.encoder.specs.Did.{onOpening};
+ghost use Rattle.goals.specs.Goals.{Catalogued, trueOf};
+ghost use Rattle.commands.specs.Commands.{AllGiven, Changes, Draws, DecidesLiteral, Outcomes};
+
+// What a command gives.
+pub enum Outcome {
+    Carried(Counters),
+    Refused(Refusal),
+}
+
+// ---- add
+
+// Owner o is added, unless it is already.
+fn push_added(s: &mut [u8], l: Limits, n: Counters, o: u16) -> Counters
+    requires { ⌜ Fits l (length (now s)) ⌝ }
+    requires { ⌜ Marked 6 7 (n .added) (held l (now s)) × (o < 1025) ⌝ }
+    ensures { λ m. ⌜ Changes l (λ c u. onOpening (rules.add (ownerOf o)) u) n (held l (now (s .entry))) m (held l (now (s .exit))) ⌝ }
+{
+    if marked::contains(s, l, state::ADDED_MARKS, o) {
+        return n;
+    }
+    let added = marked::push(s, l, state::ADDED, state::ADDED_MARKS, n.added, o);
+    let mut m = n;
+    m.added = added;
+    m
+}
+
+pub fn add(marks: &[u8], unions: &[u8], t: &[u8], k: Counts, s: &mut [u8], l: Limits, n: Counters, owner: u16) -> Outcome
+    requires { ⌜ Catalogued k (now marks) (now unions) (now t) ⌝ }
+    requires { ⌜ Fits l (length (now s)) ⌝ }
+    requires { ⌜ Marked 6 7 (n .added) (held l (now s)) ⌝ }
+    ensures { λ r. ⌜ Outcomes (catalogue k (now (marks .entry)) (now (unions .entry)) (now (t .entry))) l (Command.add owner) n (held l (now (s .entry))) r (held l (now (s .exit))) ⌝ }
+{
+    if owner == 65535 {
+        return Outcome::Carried(push_added(s, l, n, 1024));
+    }
+    if (owner as usize) < k.parts {
+        return Outcome::Carried(push_added(s, l, n, owner));
+    }
+    Outcome::Refused(Refusal::Missing(Thing::Part, 1))
+}
+
+// ---- draw
+
+// Is entry i one of condition c whose disjunct holds?
+fn is_drawn(marks: &[u8], unions: &[u8], t: &[u8], k: Counts, s: &[u8], w: &[u8], l: Limits, n: Counters, c: u16, i: usize) -> bool
+    requires { ⌜ Catalogued k (now marks) (now unions) (now t) ⌝ }
+    requires { ⌜ Fits l (length (now s)) ⌝ }
+    requires { ⌜ Mapped l (n .variables) (held l (now s)) × Kept l (n .decisions) (held l (now s)) ⌝ }
+    requires { ⌜ Long l (length (now w)) × (n .waiting ≤ l .waiting) × (i < n .waiting) ⌝ }
+    requires { ⌜ AllGiven (catalogue k (now marks) (now unions) (now t)) (waitingIn l (n .waiting) (now w)) ⌝ }
+    ensures { λ b. ⌜ b ≡ isDrawn (catalogue k (now (marks .entry)) (now (unions .entry)) (now (t .entry))) (trueOf (variables (n .variables) (held l (now (s .entry)))) (decisions (n .decisions) (held l (now (s .entry))))) c (getD (waitingIn l (n .waiting) (now (w .entry))) i noEntry) ⌝ }
+{
+    let e = entries::waiting_at(w, l, n.waiting, i);
+    let it = tables::requirement_at(t, k, e.requirement as usize);
+    if it.condition != c {
+        return false;
+    }
+    goals::disjunct_holds(marks, unions, t, k, s, l, n, c as usize, e.disjunct as usize)
+}
+
+// The entries of condition c that hold are drawn, in order.
+pub fn draw(marks: &[u8], unions: &[u8], t: &[u8], k: Counts, s: &[u8], w: &mut [u8], l: Limits, n: Counters, c: u16) -> Counters
+    requires { ⌜ Catalogued k (now marks) (now unions) (now t) ⌝ }
+    requires { ⌜ Fits l (length (now s)) ⌝ }
+    requires { ⌜ Mapped l (n .variables) (held l (now s)) × Kept l (n .decisions) (held l (now s)) ⌝ }
+    requires { ⌜ Long l (length (now w)) × (n .waiting + n .drawn ≤ l .waiting) ⌝ }
+    requires { ⌜ AllGiven (catalogue k (now marks) (now unions) (now t)) (waitingIn l (n .waiting) (now w)) ⌝ }
+    requires { ⌜ c < k .conditions ⌝ }
+    ensures { λ m. ⌜ Draws (catalogue k (now (marks .entry)) (now (unions .entry)) (now (t .entry))) l c n (held l (now (s .entry))) (now (w .entry)) m (now (w .exit)) ⌝ }
+{
+    let mut counts = entries::Counts {
+        kept: 0,
+        drawn: n.drawn,
+    };
+    let mut i = 0;
+    while i < n.waiting {
+        let taken = is_drawn(marks, unions, t, k, s, w, l, n, c, i);
+        counts = entries::sift(w, l, n.waiting, i, counts, taken);
+        i += 1;
+    }
+    let mut m = n;
+    m.waiting = counts.kept;
+    m.drawn = counts.drawn;
+    m
+}
+
+// ---- decide and undo
+
+// A level is 0 or below the last decision's.
+pub fn too_low(s: &[u8], l: Limits, n: Counters, level: u16) -> bool
+    requires { ⌜ Fits l (length (now s)) ⌝ }
+    requires { ⌜ n .decisions ≤ l .variables ⌝ }
+    ensures { λ b. ⌜ b ≡ (eqb level 0 || ltb level (lastLevel (decisions (n .decisions) (held l (now (s .entry)))))) ⌝ }
+{
+    if level == 0 {
+        return true;
+    }
+    level < decision_tracker::last_level(s, l, n.decisions)
+}
+
+// A variable gets a value, unless it has the other.
+fn decide_literal(marks: &[u8], unions: &[u8], t: &[u8], k: Counts, s: &mut [u8], l: Limits, n: Counters, literal: Literal, level: u16) -> Outcome
+    requires { ⌜ Catalogued k (now marks) (now unions) (now t) ⌝ }
+    requires { ⌜ Fits l (length (now s)) ⌝ }
+    requires { ⌜ Kept l (n .decisions) (held l (now s)) × ((literalOf literal) .variable < l .variables) ⌝ }
+    ensures { λ r. ⌜ DecidesLiteral (catalogue k (now (marks .entry)) (now (unions .entry)) (now (t .entry))) l (literalOf literal) level n (held l (now (s .entry))) r (held l (now (s .exit))) ⌝ }
+{
+    match decision_tracker::eval(s, l, n.decisions, literal) {
+        Value::True => Outcome::Carried(n),
+        Value::False => Outcome::Refused(Refusal::DecidedAgainst),
+        Value::Undecided => {
+            let variable = literal.variable();
+            let value = literal.positive();
+            let new = Decision {
+                variable,
+                value,
+                level,
+                clause: 0,
+            };
+            let count = decision_tracker::decide(s, l, n.decisions, new);
+            let mut m = n;
+            m.decisions = count;
+            Outcome::Carried(m)
+        }
+    }
+}
+
+pub fn decide(marks: &[u8], unions: &[u8], t: &[u8], k: Counts, s: &mut [u8], l: Limits, n: Counters, variable: u16, value: u8, level: u16) -> Outcome
+    requires { ⌜ Catalogued k (now marks) (now unions) (now t) ⌝ }
+    requires { ⌜ Fits l (length (now s)) ⌝ }
+    requires { ⌜ Kept l (n .decisions) (held l (now s)) × (n .variables ≤ l .variables) ⌝ }
+    ensures { λ r. ⌜ Outcomes (catalogue k (now (marks .entry)) (now (unions .entry)) (now (t .entry))) l (Command.decide variable value level) n (held l (now (s .entry))) r (held l (now (s .exit))) ⌝ }
+{
+    if variable as usize >= n.variables {
+        return Outcome::Refused(Refusal::MissingVariable(1));
+    }
+    if value > 1 {
+        return Outcome::Refused(Refusal::Contradicts(Contradiction::OtherValue));
+    }
+    if too_low(s, l, n, level) {
+        return Outcome::Refused(Refusal::LevelLow);
+    }
+    decide_literal(marks, unions, t, k, s, l, n, Literal::new(variable, value == 1), level)
+}
+
+// The decisions above this level are removed.
+pub fn undo(marks: &[u8], unions: &[u8], t: &[u8], k: Counts, s: &mut [u8], l: Limits, n: Counters, level: u16) -> Outcome
+    requires { ⌜ Catalogued k (now marks) (now unions) (now t) ⌝ }
+    requires { ⌜ Fits l (length (now s)) ⌝ }
+    requires { ⌜ Kept l (n .decisions) (held l (now s)) × Rising (decisions (n .decisions) (held l (now s))) ⌝ }
+    ensures { λ r. ⌜ Outcomes (catalogue k (now (marks .entry)) (now (unions .entry)) (now (t .entry))) l (Command.undo level) n (held l (now (s .entry))) r (held l (now (s .exit))) ⌝ }
+{
+    let count = decision_tracker::undo(s, l, n.decisions, level);
+    let mut m = n;
+    m.decisions = count;
+    Outcome::Carried(m)
+}
