@@ -28,6 +28,10 @@ pub record Lists (x : Indices) (js : List ℕ) : Type 0 where
   pub room : x .len ≤ 64
   pub is : indicesIn x ≡ js
 
+-- these disjuncts of requirement q wait
+unfoldable pub waits : ℕ → List ℕ → State → State
+waits q is = fold addWaiting (map (λ i. (q, i)) is)
+
 -- requirement q opens its names, and task t is queued
 unfoldable pub queued : Catalogue → ℕ → Task → Opening → Opening
 queued c q t o = queue t (openNames c (rangesOf c q) o)
@@ -41,8 +45,7 @@ queuedIf c q t (i ∷ is) o = queued c q t o
 unfoldable pub conditionServed : Catalogue → Reading → ℕ → State → State
 conditionServed c v q s =
     let f = decidedTrue s in
-    onOpening (queuedIf c q (taskIn c v (2113 + q)) (firedNow c f q))
-    (fold addWaiting (map (λ i. (q, i)) (filter (λ i. not (entryHolds c f q i)) (indices c q))) s)
+    onOpening (queuedIf c q (taskIn c v (2113 + q)) (firedNow c f q)) (waits q (filter (λ i. not (entryHolds c f q i)) (indices c q)) s)
 
 -- a step of the state's and the waiting area, whatever the clauses' area holds
 pub record EntriesDid (c : Catalogue) (l : Limits) (F : Reading → State → State) (n : Counters) (st : ℕ → List ℕ) (wt : List ℕ)

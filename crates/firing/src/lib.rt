@@ -5,22 +5,22 @@ use state::Limits;
 use tables::Counts;
 ghost use mathlib.Core.Path.{_≡_};
 ghost use mathlib.Core.Bool.{false};
-ghost use mathlib.Core.List.{[], _∷_, _++_, map};
+ghost use mathlib.Core.List.{[], _∷_, _++_};
 ghost use Prim.Native.Nat.{_+_, _<_, _≤_};
 ghost use lib.ListN.{length};
-ghost use Rattle.rules.specs.Lists.{filter, fold};
+ghost use Rattle.rules.specs.Lists.{filter};
 ghost use Rattle.rules.specs.Conditions.{indices, unconditional};
-ghost use Rattle.rules.proofs.Capped.{addWaiting};
 ghost use Rattle.cache.specs.Areas.{catalogue};
 ghost use Rattle.state.specs.Layout.{held, Fits};
 ghost use Rattle.variable_map.specs.Mapping.{variables, Mapped};
 ghost use Rattle.decision_tracker.specs.Tracking.{decisions};
 ghost use Rattle.decision_tracker.specs.Tracking as Tracking;
 ghost use Rattle.entries.specs.Entries.{Long};
-ghost use Rattle.encoder.specs.Held.{taskIn, GoodState};
+ghost use Rattle.encoder.specs.Held.{taskIn};
 ghost use Rattle.encoder.specs.Did.{onOpening, StateDid, WaitingDid};
 ghost use Rattle.goals.specs.Goals.{Catalogued, trueOf};
-ghost use Rattle.firing.specs.Firing.{judging, indicesIn, Lists, queued, EntriesDid, conditionServed};
+ghost use Rattle.owners.specs.Owners.{GoodAlone};
+ghost use Rattle.firing.specs.Firing.{judging, indicesIn, Lists, waits, queued, EntriesDid, conditionServed};
 
 // Some disjuncts of one requirement, by index: the first `len`.
 pub struct Indices {
@@ -51,7 +51,17 @@ pub fn pushed(is: Indices, i: u16) -> Indices
 }
 
 // The disjuncts of requirement q that hold now, or those that do not.
-pub fn judged(marks: &[u8], unions: &[u8], t: &[u8], k: Counts, s: &[u8], l: Limits, n: Counters, q: usize, holds: bool) -> Indices
+pub fn judged(
+    marks: &[u8],
+    unions: &[u8],
+    t: &[u8],
+    k: Counts,
+    s: &[u8],
+    l: Limits,
+    n: Counters,
+    q: usize,
+    holds: bool,
+) -> Indices
     requires { ⌜ Catalogued k (now marks) (now unions) (now t) ⌝ }
     requires { ⌜ Fits l (length (now s)) ⌝ }
     requires { ⌜ Mapped l (n .variables) (held l (now s)) × Tracking.Kept l (n .decisions) (held l (now s)) ⌝ }
@@ -76,23 +86,41 @@ pub fn judged(marks: &[u8], unions: &[u8], t: &[u8], k: Counts, s: &[u8], l: Lim
 fn add_waitings(w: &mut [u8], l: Limits, n: Counters, q: u16, is: Indices) -> Counters
     requires { ⌜ Long l (length (now w)) × (is .len ≤ 64) ⌝ }
     requires { ⌜ n .drawn ≡ 0 ⌝ }
-    ensures { λ m. ⌜ WaitingDid l (λ v. fold addWaiting (map (λ i. (q, i)) (indicesIn is))) n (now (w .entry)) m (now (w .exit)) ⌝ }
+    ensures { λ m. ⌜ WaitingDid l (λ v. waits q (indicesIn is)) n (now (w .entry)) m (now (w .exit)) ⌝ }
 {
     let mut m = n;
     let mut j = 0;
     while j < is.len {
         let disjunct = is.at[j];
-        m = opening::add_waiting(w, l, m, Entry { requirement: q, disjunct });
+        m = opening::add_waiting(
+            w,
+            l,
+            m,
+            Entry {
+                requirement: q,
+                disjunct,
+            },
+        );
         j += 1;
     }
     m
 }
 
 // Requirement q opens its names, and its task is queued under this number.
-pub fn fire(marks: &[u8], unions: &[u8], t: &[u8], k: Counts, s: &mut [u8], l: Limits, n: Counters, q: usize, task: u16) -> Counters
+pub fn fire(
+    marks: &[u8],
+    unions: &[u8],
+    t: &[u8],
+    k: Counts,
+    s: &mut [u8],
+    l: Limits,
+    n: Counters,
+    q: usize,
+    task: u16,
+) -> Counters
     requires { ⌜ Catalogued k (now marks) (now unions) (now t) ⌝ }
     requires { ⌜ Fits l (length (now s)) ⌝ }
-    requires { ⌜ GoodState (catalogue k (now marks) (now unions) (now t)) l n (held l (now s)) ⌝ }
+    requires { ⌜ GoodAlone (catalogue k (now marks) (now unions) (now t)) l n (held l (now s)) ⌝ }
     requires { ⌜ q < k .requirements ⌝ }
     ensures { λ m. ⌜ StateDid (catalogue k (now (marks .entry)) (now (unions .entry)) (now (t .entry))) l (λ v. onOpening (queued (catalogue k (now (marks .entry)) (now (unions .entry)) (now (t .entry))) q (taskIn (catalogue k (now (marks .entry)) (now (unions .entry)) (now (t .entry))) v task))) n (held l (now (s .entry))) m (held l (now (s .exit))) ⌝ }
 {
@@ -103,10 +131,20 @@ pub fn fire(marks: &[u8], unions: &[u8], t: &[u8], k: Counts, s: &mut [u8], l: L
 }
 
 // The disjuncts of requirement q that hold fire together; the others wait.
-pub fn serve_condition(marks: &[u8], unions: &[u8], t: &[u8], k: Counts, s: &mut [u8], w: &mut [u8], l: Limits, n: Counters, q: u16) -> Counters
+pub fn serve_condition(
+    marks: &[u8],
+    unions: &[u8],
+    t: &[u8],
+    k: Counts,
+    s: &mut [u8],
+    w: &mut [u8],
+    l: Limits,
+    n: Counters,
+    q: u16,
+) -> Counters
     requires { ⌜ Catalogued k (now marks) (now unions) (now t) ⌝ }
     requires { ⌜ Fits l (length (now s)) ⌝ }
-    requires { ⌜ GoodState (catalogue k (now marks) (now unions) (now t)) l n (held l (now s)) ⌝ }
+    requires { ⌜ GoodAlone (catalogue k (now marks) (now unions) (now t)) l n (held l (now s)) ⌝ }
     requires { ⌜ Long l (length (now w)) ⌝ }
     requires { ⌜ (q < k .requirements) × (unconditional (catalogue k (now marks) (now unions) (now t)) q ≡ false) × (n .drawn ≡ 0) ⌝ }
     ensures { λ m. ⌜ EntriesDid (catalogue k (now (marks .entry)) (now (unions .entry)) (now (t .entry))) l (λ v. conditionServed (catalogue k (now (marks .entry)) (now (unions .entry)) (now (t .entry))) v q) n (held l (now (s .entry))) (now (w .entry)) m (held l (now (s .exit))) (now (w .exit)) ⌝ }
