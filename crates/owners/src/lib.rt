@@ -7,7 +7,7 @@ use tables::Counts;
 ghost use mathlib.Core.Path.{_≡_};
 ghost use mathlib.Core.Bool.{true, false};
 ghost use mathlib.Core.List.{[]};
-ghost use Prim.Native.Nat.{_<_, _≤_};
+ghost use Prim.Native.Nat.{_<_};
 ghost use lib.ListN.{length};
 ghost use Rattle.rules.specs.Lists.{fold, upTo};
 ghost use Rattle.rules.specs.Catalogue.{union, part, rangeName, unknownOwner};
@@ -19,30 +19,48 @@ ghost use Rattle.cache.specs.Areas.{catalogue};
 ghost use Rattle.catalogue.specs.Reading.{Kept};
 ghost use Rattle.state.specs.Layout.{held, Fits};
 ghost use Rattle.marked.specs.Marked.{ownerOf};
-ghost use Rattle.encoder.specs.Held.{runOf, LongEnough, GoodState, Good};
+ghost use Rattle.encoder.specs.Held.{runOf, LongEnough, Good};
 ghost use Rattle.encoder.specs.Did.{onOpening, StateDid, ClausesDid};
 ghost use Rattle.owners.specs.declared.Rule.the-variants.{OpenRequirement, OpenConstraint, QueueRequirement, QueueConstraint};
-ghost use Rattle.owners.specs.Owners.{ownerIs, ruleOf, countOf, cardinal, serving};
+ghost use Rattle.owners.specs.Owners.{OwnerNumber, ownerIs, ruleOf, countOf, cardinal, serving, GoodAlone};
 
 // ---- names are opened
 
 // The name of a range.
-fn open_range(marks: &[u8], unions: &[u8], t: &[u8], k: Counts, s: &mut [u8], l: Limits, n: Counters, r: u16) -> Counters
+fn open_range(
+    marks: &[u8],
+    unions: &[u8],
+    t: &[u8],
+    k: Counts,
+    s: &mut [u8],
+    l: Limits,
+    n: Counters,
+    r: u16,
+) -> Counters
     requires { ⌜ Kept k (now marks) (now unions) (now t) ⌝ }
     requires { ⌜ WellFormed (catalogue k (now marks) (now unions) (now t)) ⌝ }
     requires { ⌜ Fits l (length (now s)) ⌝ }
-    requires { ⌜ GoodState (catalogue k (now marks) (now unions) (now t)) l n (held l (now s)) ⌝ }
+    requires { ⌜ GoodAlone (catalogue k (now marks) (now unions) (now t)) l n (held l (now s)) ⌝ }
     requires { ⌜ r < k .ranges ⌝ }
     ensures { λ m. ⌜ StateDid (catalogue k (now (marks .entry)) (now (unions .entry)) (now (t .entry))) l (λ v. onOpening (openName (rangeName (catalogue k (now (marks .entry)) (now (unions .entry)) (now (t .entry))) r))) n (held l (now (s .entry))) m (held l (now (s .exit))) ⌝ }
 {
     opening::open_name(s, l, n, tables::range_name(t, k, r as usize))
 }
 
-fn open_union(marks: &[u8], unions: &[u8], t: &[u8], k: Counts, s: &mut [u8], l: Limits, n: Counters, u: u16) -> Counters
+fn open_union(
+    marks: &[u8],
+    unions: &[u8],
+    t: &[u8],
+    k: Counts,
+    s: &mut [u8],
+    l: Limits,
+    n: Counters,
+    u: u16,
+) -> Counters
     requires { ⌜ Kept k (now marks) (now unions) (now t) ⌝ }
     requires { ⌜ WellFormed (catalogue k (now marks) (now unions) (now t)) ⌝ }
     requires { ⌜ Fits l (length (now s)) ⌝ }
-    requires { ⌜ GoodState (catalogue k (now marks) (now unions) (now t)) l n (held l (now s)) ⌝ }
+    requires { ⌜ GoodAlone (catalogue k (now marks) (now unions) (now t)) l n (held l (now s)) ⌝ }
     requires { ⌜ u < k .unions ⌝ }
     ensures { λ m. ⌜ StateDid (catalogue k (now (marks .entry)) (now (unions .entry)) (now (t .entry))) l (λ v. onOpening (openNames (catalogue k (now (marks .entry)) (now (unions .entry)) (now (t .entry))) (goalRanges (catalogue k (now (marks .entry)) (now (unions .entry)) (now (t .entry))) (union u)))) n (held l (now (s .entry))) m (held l (now (s .exit))) ⌝ }
 {
@@ -57,11 +75,20 @@ fn open_union(marks: &[u8], unions: &[u8], t: &[u8], k: Counts, s: &mut [u8], l:
 }
 
 // The names of a goal's ranges.
-pub fn open_goal(marks: &[u8], unions: &[u8], t: &[u8], k: Counts, s: &mut [u8], l: Limits, n: Counters, goal: Requirement) -> Counters
+pub fn open_goal(
+    marks: &[u8],
+    unions: &[u8],
+    t: &[u8],
+    k: Counts,
+    s: &mut [u8],
+    l: Limits,
+    n: Counters,
+    goal: Requirement,
+) -> Counters
     requires { ⌜ Kept k (now marks) (now unions) (now t) ⌝ }
     requires { ⌜ WellFormed (catalogue k (now marks) (now unions) (now t)) ⌝ }
     requires { ⌜ Fits l (length (now s)) ⌝ }
-    requires { ⌜ GoodState (catalogue k (now marks) (now unions) (now t)) l n (held l (now s)) ⌝ }
+    requires { ⌜ GoodAlone (catalogue k (now marks) (now unions) (now t)) l n (held l (now s)) ⌝ }
     requires { ⌜ GoalGiven (catalogue k (now marks) (now unions) (now t)) (goalOf goal) ⌝ }
     ensures { λ m. ⌜ StateDid (catalogue k (now (marks .entry)) (now (unions .entry)) (now (t .entry))) l (λ v. onOpening (openNames (catalogue k (now (marks .entry)) (now (unions .entry)) (now (t .entry))) (goalRanges (catalogue k (now (marks .entry)) (now (unions .entry)) (now (t .entry))) (goalOf goal)))) n (held l (now (s .entry))) m (held l (now (s .exit))) ⌝ }
 {
@@ -75,6 +102,7 @@ pub fn open_goal(marks: &[u8], unions: &[u8], t: &[u8], k: Counts, s: &mut [u8],
 
 // An owner of the tables, 65,535 for the root, by its number here: 1,024 for the root.
 pub fn owner_number(o: u16) -> u16
+    requires { ⌜ OwnerNumber o ⌝ }
     ensures { λ r. ⌜ ownerOf r ≡ ownerIs o ⌝ }
 {
     if o == 65535 { 1024 } else { o }
@@ -88,11 +116,21 @@ pub enum Rule {
     QueueConstraint,
 }
 
-fn open_requirement(marks: &[u8], unions: &[u8], t: &[u8], k: Counts, s: &mut [u8], l: Limits, n: Counters, o: u16, q: usize) -> Counters
+fn open_requirement(
+    marks: &[u8],
+    unions: &[u8],
+    t: &[u8],
+    k: Counts,
+    s: &mut [u8],
+    l: Limits,
+    n: Counters,
+    o: u16,
+    q: usize,
+) -> Counters
     requires { ⌜ Kept k (now marks) (now unions) (now t) ⌝ }
     requires { ⌜ WellFormed (catalogue k (now marks) (now unions) (now t)) ⌝ }
     requires { ⌜ Fits l (length (now s)) ⌝ }
-    requires { ⌜ GoodState (catalogue k (now marks) (now unions) (now t)) l n (held l (now s)) ⌝ }
+    requires { ⌜ GoodAlone (catalogue k (now marks) (now unions) (now t)) l n (held l (now s)) ⌝ }
     requires { ⌜ (q < k .requirements) × (o < 1025) ⌝ }
     ensures { λ m. ⌜ StateDid (catalogue k (now (marks .entry)) (now (unions .entry)) (now (t .entry))) l (λ v. onOpening (ruleOf (catalogue k (now (marks .entry)) (now (unions .entry)) (now (t .entry))) v OpenRequirement (ownerOf o) q)) n (held l (now (s .entry))) m (held l (now (s .exit))) ⌝ }
 {
@@ -103,14 +141,25 @@ fn open_requirement(marks: &[u8], unions: &[u8], t: &[u8], k: Counts, s: &mut [u
     if it.condition != 65535 {
         return n;
     }
-    open_goal(marks, unions, t, k, s, l, n, it.requirement)
+    let goal = it.requirement;
+    open_goal(marks, unions, t, k, s, l, n, goal)
 }
 
-fn open_constraint(marks: &[u8], unions: &[u8], t: &[u8], k: Counts, s: &mut [u8], l: Limits, n: Counters, o: u16, i: usize) -> Counters
+fn open_constraint(
+    marks: &[u8],
+    unions: &[u8],
+    t: &[u8],
+    k: Counts,
+    s: &mut [u8],
+    l: Limits,
+    n: Counters,
+    o: u16,
+    i: usize,
+) -> Counters
     requires { ⌜ Kept k (now marks) (now unions) (now t) ⌝ }
     requires { ⌜ WellFormed (catalogue k (now marks) (now unions) (now t)) ⌝ }
     requires { ⌜ Fits l (length (now s)) ⌝ }
-    requires { ⌜ GoodState (catalogue k (now marks) (now unions) (now t)) l n (held l (now s)) ⌝ }
+    requires { ⌜ GoodAlone (catalogue k (now marks) (now unions) (now t)) l n (held l (now s)) ⌝ }
     requires { ⌜ (i < k .constraints) × (o < 1025) ⌝ }
     ensures { λ m. ⌜ StateDid (catalogue k (now (marks .entry)) (now (unions .entry)) (now (t .entry))) l (λ v. onOpening (ruleOf (catalogue k (now (marks .entry)) (now (unions .entry)) (now (t .entry))) v OpenConstraint (ownerOf o) i)) n (held l (now (s .entry))) m (held l (now (s .exit))) ⌝ }
 {
@@ -121,11 +170,21 @@ fn open_constraint(marks: &[u8], unions: &[u8], t: &[u8], k: Counts, s: &mut [u8
     open_range(marks, unions, t, k, s, l, n, it.range)
 }
 
-fn queue_requirement(marks: &[u8], unions: &[u8], t: &[u8], k: Counts, s: &mut [u8], l: Limits, n: Counters, o: u16, q: usize) -> Counters
+fn queue_requirement(
+    marks: &[u8],
+    unions: &[u8],
+    t: &[u8],
+    k: Counts,
+    s: &mut [u8],
+    l: Limits,
+    n: Counters,
+    o: u16,
+    q: usize,
+) -> Counters
     requires { ⌜ Kept k (now marks) (now unions) (now t) ⌝ }
     requires { ⌜ WellFormed (catalogue k (now marks) (now unions) (now t)) ⌝ }
     requires { ⌜ Fits l (length (now s)) ⌝ }
-    requires { ⌜ GoodState (catalogue k (now marks) (now unions) (now t)) l n (held l (now s)) ⌝ }
+    requires { ⌜ GoodAlone (catalogue k (now marks) (now unions) (now t)) l n (held l (now s)) ⌝ }
     requires { ⌜ (q < k .requirements) × (o < 1025) ⌝ }
     ensures { λ m. ⌜ StateDid (catalogue k (now (marks .entry)) (now (unions .entry)) (now (t .entry))) l (λ v. onOpening (ruleOf (catalogue k (now (marks .entry)) (now (unions .entry)) (now (t .entry))) v QueueRequirement (ownerOf o) q)) n (held l (now (s .entry))) m (held l (now (s .exit))) ⌝ }
 {
@@ -139,11 +198,21 @@ fn queue_requirement(marks: &[u8], unions: &[u8], t: &[u8], k: Counts, s: &mut [
     opening::queue(s, l, n, 1089 + q as u16)
 }
 
-fn queue_constraint(marks: &[u8], unions: &[u8], t: &[u8], k: Counts, s: &mut [u8], l: Limits, n: Counters, o: u16, i: usize) -> Counters
+fn queue_constraint(
+    marks: &[u8],
+    unions: &[u8],
+    t: &[u8],
+    k: Counts,
+    s: &mut [u8],
+    l: Limits,
+    n: Counters,
+    o: u16,
+    i: usize,
+) -> Counters
     requires { ⌜ Kept k (now marks) (now unions) (now t) ⌝ }
     requires { ⌜ WellFormed (catalogue k (now marks) (now unions) (now t)) ⌝ }
     requires { ⌜ Fits l (length (now s)) ⌝ }
-    requires { ⌜ GoodState (catalogue k (now marks) (now unions) (now t)) l n (held l (now s)) ⌝ }
+    requires { ⌜ GoodAlone (catalogue k (now marks) (now unions) (now t)) l n (held l (now s)) ⌝ }
     requires { ⌜ (i < k .constraints) × (o < 1025) ⌝ }
     ensures { λ m. ⌜ StateDid (catalogue k (now (marks .entry)) (now (unions .entry)) (now (t .entry))) l (λ v. onOpening (ruleOf (catalogue k (now (marks .entry)) (now (unions .entry)) (now (t .entry))) v QueueConstraint (ownerOf o) i)) n (held l (now (s .entry))) m (held l (now (s .exit))) ⌝ }
 {
@@ -154,11 +223,22 @@ fn queue_constraint(marks: &[u8], unions: &[u8], t: &[u8], k: Counts, s: &mut [u
     opening::queue(s, l, n, 3137 + i as u16)
 }
 
-fn take_rule(marks: &[u8], unions: &[u8], t: &[u8], k: Counts, s: &mut [u8], l: Limits, n: Counters, what: Rule, o: u16, i: usize) -> Counters
+fn take_rule(
+    marks: &[u8],
+    unions: &[u8],
+    t: &[u8],
+    k: Counts,
+    s: &mut [u8],
+    l: Limits,
+    n: Counters,
+    what: Rule,
+    o: u16,
+    i: usize,
+) -> Counters
     requires { ⌜ Kept k (now marks) (now unions) (now t) ⌝ }
     requires { ⌜ WellFormed (catalogue k (now marks) (now unions) (now t)) ⌝ }
     requires { ⌜ Fits l (length (now s)) ⌝ }
-    requires { ⌜ GoodState (catalogue k (now marks) (now unions) (now t)) l n (held l (now s)) ⌝ }
+    requires { ⌜ GoodAlone (catalogue k (now marks) (now unions) (now t)) l n (held l (now s)) ⌝ }
     requires { ⌜ (i < countOf (catalogue k (now marks) (now unions) (now t)) what) × (o < 1025) ⌝ }
     ensures { λ m. ⌜ StateDid (catalogue k (now (marks .entry)) (now (unions .entry)) (now (t .entry))) l (λ v. onOpening (ruleOf (catalogue k (now (marks .entry)) (now (unions .entry)) (now (t .entry))) v what (ownerOf o) i)) n (held l (now (s .entry))) m (held l (now (s .exit))) ⌝ }
 {
@@ -181,11 +261,21 @@ fn rules_of(k: Counts, what: Rule) -> usize
     }
 }
 
-fn each_rule(marks: &[u8], unions: &[u8], t: &[u8], k: Counts, s: &mut [u8], l: Limits, n: Counters, what: Rule, o: u16) -> Counters
+fn each_rule(
+    marks: &[u8],
+    unions: &[u8],
+    t: &[u8],
+    k: Counts,
+    s: &mut [u8],
+    l: Limits,
+    n: Counters,
+    what: Rule,
+    o: u16,
+) -> Counters
     requires { ⌜ Kept k (now marks) (now unions) (now t) ⌝ }
     requires { ⌜ WellFormed (catalogue k (now marks) (now unions) (now t)) ⌝ }
     requires { ⌜ Fits l (length (now s)) ⌝ }
-    requires { ⌜ GoodState (catalogue k (now marks) (now unions) (now t)) l n (held l (now s)) ⌝ }
+    requires { ⌜ GoodAlone (catalogue k (now marks) (now unions) (now t)) l n (held l (now s)) ⌝ }
     requires { ⌜ o < 1025 ⌝ }
     ensures { λ m. ⌜ StateDid (catalogue k (now (marks .entry)) (now (unions .entry)) (now (t .entry))) l (λ v. onOpening (fold (ruleOf (catalogue k (now (marks .entry)) (now (unions .entry)) (now (t .entry))) v what (ownerOf o)) (upTo 0 (countOf (catalogue k (now (marks .entry)) (now (unions .entry)) (now (t .entry))) what)))) n (held l (now (s .entry))) m (held l (now (s .exit))) ⌝ }
 {
@@ -202,11 +292,20 @@ fn each_rule(marks: &[u8], unions: &[u8], t: &[u8], k: Counts, s: &mut [u8], l: 
 // ---- an owner's task
 
 // A known owner: its unconditional requirements and its constraints open their names first, then its tasks are queued.
-fn serve_known(marks: &[u8], unions: &[u8], t: &[u8], k: Counts, s: &mut [u8], l: Limits, n: Counters, o: u16) -> Counters
+fn serve_known(
+    marks: &[u8],
+    unions: &[u8],
+    t: &[u8],
+    k: Counts,
+    s: &mut [u8],
+    l: Limits,
+    n: Counters,
+    o: u16,
+) -> Counters
     requires { ⌜ Kept k (now marks) (now unions) (now t) ⌝ }
     requires { ⌜ WellFormed (catalogue k (now marks) (now unions) (now t)) ⌝ }
     requires { ⌜ Fits l (length (now s)) ⌝ }
-    requires { ⌜ GoodState (catalogue k (now marks) (now unions) (now t)) l n (held l (now s)) ⌝ }
+    requires { ⌜ GoodAlone (catalogue k (now marks) (now unions) (now t)) l n (held l (now s)) ⌝ }
     requires { ⌜ (o < 1025) × (unknownOwner (catalogue k (now marks) (now unions) (now t)) (ownerOf o) ≡ false) ⌝ }
     ensures { λ m. ⌜ StateDid (catalogue k (now (marks .entry)) (now (unions .entry)) (now (t .entry))) l (λ v. onOpening (serveOwner (catalogue k (now (marks .entry)) (now (unions .entry)) (now (t .entry))) (ownerOf o))) n (held l (now (s .entry))) m (held l (now (s .exit))) ⌝ }
 {
@@ -217,7 +316,18 @@ fn serve_known(marks: &[u8], unions: &[u8], t: &[u8], k: Counts, s: &mut [u8], l
 }
 
 // A part with unknown dependencies is excluded.
-fn serve_unknown(marks: &[u8], unions: &[u8], t: &[u8], k: Counts, s: &mut [u8], clauses: &mut [u8], l: Limits, n: Counters, r: Run, p: u16) -> Counters
+fn serve_unknown(
+    marks: &[u8],
+    unions: &[u8],
+    t: &[u8],
+    k: Counts,
+    s: &mut [u8],
+    clauses: &mut [u8],
+    l: Limits,
+    n: Counters,
+    r: Run,
+    p: u16,
+) -> Counters
     requires { ⌜ Kept k (now marks) (now unions) (now t) ⌝ }
     requires { ⌜ WellFormed (catalogue k (now marks) (now unions) (now t)) ⌝ }
     requires { ⌜ Fits l (length (now s)) ⌝ }
@@ -234,7 +344,18 @@ fn serve_unknown(marks: &[u8], unions: &[u8], t: &[u8], k: Counts, s: &mut [u8],
     clauses::add_excluded(s, clauses, l, m, r, x, p, true)
 }
 
-pub fn serve_owner(marks: &[u8], unions: &[u8], t: &[u8], k: Counts, s: &mut [u8], clauses: &mut [u8], l: Limits, n: Counters, r: Run, o: u16) -> Counters
+pub fn serve_owner(
+    marks: &[u8],
+    unions: &[u8],
+    t: &[u8],
+    k: Counts,
+    s: &mut [u8],
+    clauses: &mut [u8],
+    l: Limits,
+    n: Counters,
+    r: Run,
+    o: u16,
+) -> Counters
     requires { ⌜ Kept k (now marks) (now unions) (now t) ⌝ }
     requires { ⌜ WellFormed (catalogue k (now marks) (now unions) (now t)) ⌝ }
     requires { ⌜ Fits l (length (now s)) ⌝ }

@@ -1,0 +1,119 @@
+-- Names are opened: of a range, of a union's ranges one after another, of a goal.
+use mathlib.Core.Path.{_≡_, refl, sym, _∙_}
+use mathlib.Core.List.{List, [], _∷_, _++_}
+use Prim.Native.Nat.{ℕ, _+_, _<_, _≤_}
+use native.Mathlib.Omega.{arith}
+use lib.ListN.{length, getD}
+use Rattle.rules.specs.Lists.{snoc, fold}
+use Rattle.rules.specs.Catalogue.{union, Catalogue, rangeName}
+use Rattle.rules.specs.Candidates.{goalRanges}
+use Rattle.rules.specs.Opening.{Opening, openName, openNames}
+use Rattle.rules.proofs.ListLaws.{All}
+use Rattle.rules.proofs.DistinctEnough.{fold-append}
+use Rattle.rules.proofs.WellFormed.{GoalGiven, WellFormed}
+use Rattle.requirement.specs.declared.Requirement.{Requirement}
+use Rattle.requirement.specs.declared.Requirement.the-variants.{Single, Union}
+use Rattle.requirement.specs.Requirements.{goalOf}
+use Rattle.tables.specs.declared.Counts.{Counts}
+use Rattle.tables.specs.Tables.{tables}
+use Rattle.unions.specs.declared.Member.{Member}
+use Rattle.unions.specs.Unions.{noRow, rows, rowOf, left, Next}
+use Rattle.unions.proofs.Laws.{Seen, seen-start, seen-step, seen-end}
+use Rattle.cache.specs.Areas.{catalogue}
+use Rattle.cache.proofs.Laws.{names-held, ranges-held, unions-held, range-name-held, union-held, union-ranges-held}
+use Rattle.catalogue.specs.Reading.{Kept}
+use Rattle.state.specs.declared.Limits.{Limits}
+use Rattle.encoder.specs.declared.Counters.{Counters}
+use Rattle.encoder.specs.Did.{onOpening, StateDid, PlainDid}
+use Rattle.owners.specs.Owners.{GoodAlone}
+use Rattle.owners.proofs.Steps.{alone-after, state-idle, state-as, state-then}
+
+-- ---- a range
+
+module _ (k : Counts) (m us t : List ℕ) where
+  pub range-low : {r x : ℕ} → WellFormed (catalogue k m us t) → Kept k m us t → r < k .ranges → x ≡ getD (tables k t .ranges) r 0 → x < 64
+  range-low {r} {x} w h b e =
+      let given : r < length (catalogue k m us t .ranges) = rw ranges-held b in
+      let low = w .ranges r given .name in
+      let is : x ≡ rangeName (catalogue k m us t) r = e ∙ sym (range-name-held k m us t r) in
+      omega (arith, names-held k m us t, h .held .laid .names)
+
+  pub range-opened : {l : Limits} {n n′ : Counters} {st st′ : ℕ → List ℕ} (r x : ℕ) → x ≡ getD (tables k t .ranges) r 0
+      → PlainDid l (λ c v. onOpening (openName x)) n st n′ st′
+      → StateDid (catalogue k m us t) l (λ v. onOpening (openName (rangeName (catalogue k m us t) r))) n st n′ st′
+  range-opened r x e d = state-as (λ v s. rw (range-name-held k m us t r, ← e)) (d .is (catalogue k m us t))
+
+-- ---- a union
+
+names-none : (c : Catalogue) (o : Opening) → openNames c [] o ≡ o
+unfolding openNames fold
+names-none c o = refl
+
+names-more : (c : Catalogue) (rs : List ℕ) (r : ℕ) (o : Opening) → openName (rangeName c r) (openNames c rs o) ≡ openNames c (snoc rs r) o
+unfolding openNames snoc fold
+names-more c rs r o = sym (fold-append (λ (x : ℕ). openName (rangeName c x)) rs (r ∷ []) o)
+
+all-middle : {A : Type 0} (P : A → Type 0) (xs : List A) (y : A) (ys : List A) → All P (xs ++ (y ∷ ys)) → P y
+all-middle P [] y ys a = a .0
+all-middle P (x ∷ xs) y ys a = all-middle P xs y ys (a .1)
+
+-- the loop at place i: the names of the ranges passed are opened
+pub record Opened (k : Counts) (m us t : List ℕ) (l : Limits) (u : ℕ) (n₀ : Counters) (st₀ : ℕ → List ℕ) (i : ℕ) (n : Counters) (st : ℕ → List ℕ) : Type 0 where
+  pub seen : List ℕ
+  pub walk : Seen (k .members) (rows (k .members) us) u i seen
+  pub good : GoodAlone (catalogue k m us t) l n st
+  pub did : StateDid (catalogue k m us t) l (λ v. onOpening (openNames (catalogue k m us t) seen)) n₀ st₀ n st
+
+module _ {k : Counts} {m us t : List ℕ} {l : Limits} {u : ℕ} where
+  pub opened-start : {n : Counters} {st : ℕ → List ℕ} {i : ℕ} → GoodAlone (catalogue k m us t) l n st → Next (k .members) (rows (k .members) us) u 0 i
+      → Opened k m us t l u n st i n st
+  opened-start g x =
+      record { seen = []; walk = seen-start x; good = g; did = state-idle (λ v s. unfold onOpening in rw (names-none (catalogue k m us t) (s .opening))) }
+
+  module _ {n₀ n : Counters} {st₀ st : ℕ → List ℕ} {i : ℕ} (o : Opened k m us t l u n₀ st₀ i n st) where
+    pub union-range : (x : Member) → WellFormed (catalogue k m us t) → u < k .unions → i < k .members
+        → rowOf x ≡ getD (rows (k .members) us) i noRow → x .range < k .ranges
+    union-range x w h b e =
+        let rs = rows (k .members) us in
+        let given : u < length (catalogue k m us t .unions) = rw unions-held h in
+        let all = rw (union-held k m us t u h, ← o .walk .is, o .walk .at .here b) at (w .unions u given) in
+        let low : (getD rs i noRow) .range < length (catalogue k m us t .ranges) = all-middle _ (o .seen) ((getD rs i noRow) .range) (left u (i + 1) rs) all in
+        let is : x .range ≡ (getD rs i noRow) .range = rw (← e) (unfold rowOf in refl) in
+        omega (arith, ranges-held k m us t)
+
+    pub opened-step : {n′ : Counters} {st′ : ℕ → List ℕ} {j : ℕ} (x : Member) → i < k .members → rowOf x ≡ getD (rows (k .members) us) i noRow
+        → StateDid (catalogue k m us t) l (λ v. onOpening (openName (rangeName (catalogue k m us t) (x .range)))) n st n′ st′
+        → Next (k .members) (rows (k .members) us) u (i + 1) j → Opened k m us t l u n₀ st₀ j n′ st′
+    opened-step x h e d y =
+        record {
+          seen = snoc (o .seen) (x .range);
+          walk = seen-step x (o .walk) h e y;
+          good = alone-after (o .good) d;
+          did = state-then (o .did) d (λ v s. unfold onOpening in rw (names-more (catalogue k m us t) (o .seen) (x .range) (s .opening)));
+        }
+
+    pub opened-end : k .members ≤ i → u < k .unions
+        → StateDid (catalogue k m us t) l (λ v. onOpening (openNames (catalogue k m us t) (goalRanges (catalogue k m us t) (union u)))) n₀ st₀ n st
+    opened-end h b = state-as (λ v s. rw (union-ranges-held k m us t u b, ← seen-end (o .walk) h)) (o .did)
+
+-- ---- a goal
+
+module _ (k : Counts) (m us t : List ℕ) {g : Requirement} {x : ℕ} where
+  pub single-given : g ≡ Single x → GoalGiven (catalogue k m us t) (goalOf g) → x < k .ranges
+  single-given e h =
+      let low : x < length (catalogue k m us t .ranges) = unfold goalOf in rw e at h in
+      omega (arith, ranges-held k m us t)
+
+  pub union-given : g ≡ Union x → GoalGiven (catalogue k m us t) (goalOf g) → x < k .unions
+  union-given e h =
+      let low : x < length (catalogue k m us t .unions) = unfold goalOf in rw e at h in
+      omega (arith, unions-held k m us t)
+
+module _ {g : Requirement} {x : ℕ} {c : Catalogue} {l : Limits} {n n′ : Counters} {st st′ : ℕ → List ℕ} where
+  pub single-opened : g ≡ Single x → StateDid c l (λ v. onOpening (openName (rangeName c x))) n st n′ st′
+      → StateDid c l (λ v. onOpening (openNames c (goalRanges c (goalOf g)))) n st n′ st′
+  single-opened e d = state-as (λ v s. rw e (unfold goalOf goalRanges openNames fold in refl)) d
+
+  pub union-opened : g ≡ Union x → StateDid c l (λ v. onOpening (openNames c (goalRanges c (union x)))) n st n′ st′
+      → StateDid c l (λ v. onOpening (openNames c (goalRanges c (goalOf g)))) n st n′ st′
+  union-opened e d = state-as (λ v s. rw e (unfold goalOf in refl)) d
