@@ -35,7 +35,8 @@ use Rattle.parts.proofs.Steps.{state-same, state-none, state-then, clauses-same
 use Rattle.parts.proofs.Names.{named-known}
 use Rattle.parts.proofs.Clauses.{adds-are, adds-leave}
 use Rattle.parts.proofs.Serving.{names-are, task-served}
-use Rattle.names.specs.Names.{nameParts, NamesParts, addClauses, serving}
+use Rattle.owners.specs.Owners.{serving}
+use Rattle.names.specs.Names.{nameParts, NamesParts, addClauses}
 
 -- ---- several allowed
 

@@ -4,10 +4,8 @@ use Prim.Native.Nat.{ℕ}
 use Rattle.rules.specs.Lists.{fold}
 use Rattle.rules.specs.Catalogue.{Catalogue}
 use Rattle.rules.specs.Candidates.{lockedPart, lockedOut, excludedParts}
-use Rattle.rules.specs.Opening.{Task, serveName}
+use Rattle.rules.specs.Opening.{serveName}
 use Rattle.rules.specs.State.{State, Run}
-use Rattle.rules.specs.Run.{serveTask}
-use Rattle.rules.proofs.Forgotten.{forget}
 use Rattle.state.specs.declared.Limits.{Limits}
 use Rattle.variable_map.specs.Mapping.{variables}
 use Rattle.encoder.specs.declared.Counters.{Counters}
@@ -33,6 +31,3 @@ pub record NamesParts (c : Catalogue) (l : Limits) (n : ℕ) (a : Counters) (st 
 
 unfoldable pub addClauses : Catalogue → Run → ℕ → State → State
 addClauses c r n s = fold (addingOf r Excluded) (excludedParts c n) (fold (addingOf r Lock) (lockedOut c n) s)
-
-unfoldable pub serving : Catalogue → Run → Task → State → State
-serving c r t s = forget (serveTask c r t s)

@@ -24,7 +24,8 @@ ghost use Rattle.encoder.specs.Did.{onOpening, StateDid, ClausesDid};
 ghost use Rattle.parts.specs.declared.Naming.the-variants.{Variable};
 ghost use Rattle.parts.specs.declared.Adding.the-variants as Adding;
 ghost use Rattle.parts.specs.Parts.{namingOf, addingOf, AllKnown, GoodAlone};
-ghost use Rattle.names.specs.Names.{firstOf, NamesParts, addClauses, serving};
+ghost use Rattle.owners.specs.Owners.{serving};
+ghost use Rattle.names.specs.Names.{firstOf, NamesParts, addClauses};
 
 // The locked part of a name, or the number of parts if it has none.
 fn locked_part(marks: &[u8], unions: &[u8], t: &[u8], k: Counts, name: u16) -> usize

@@ -1,3 +1,4 @@
+-- `names::add_clauses` adds the clauses of a name whose parts have their variables.
 use borrow.Author.Needs.{needs}
 use Rattle.parts.proofs.Steps.{fits-same, long-same, good-later, known-later}
 use Rattle.names.proofs.Serving.{excluded-known, clauses-added}

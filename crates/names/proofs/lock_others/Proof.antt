@@ -1,3 +1,4 @@
+-- `names::lock_others`: where a part is locked, the others are locked out.
 use borrow.Author.Needs.{needs}
 use Rattle.names.proofs.Locked.{others-known, locks-added, locks-none}
 use Rattle.names.proofs.lock_others.Statement.{statement}

@@ -1,3 +1,4 @@
+-- `names::locked_part` finds the locked part of a name. The invariant: it is the first of those from p on.
 use borrow.Author.Needs.{needs}
 use Prim.Native.Nat.{_-_}
 use Rattle.cache.specs.Areas.{catalogue}

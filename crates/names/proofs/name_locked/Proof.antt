@@ -1,3 +1,4 @@
+-- `names::name_locked`: where a part is locked, it and the others get their variables.
 use borrow.Author.Needs.{needs}
 use Rattle.parts.proofs.Steps.{alone-after}
 use Rattle.names.proofs.Locked.{locked-named, locked-none}

@@ -1,3 +1,4 @@
+-- `names::name_parts`: the parts that a name's clauses are for get their variables.
 use borrow.Author.Needs.{needs}
 use Rattle.parts.proofs.Steps.{fits-same, alone-after}
 use Rattle.names.proofs.Serving.{parts-named}

@@ -1,3 +1,4 @@
+-- `names::serve_name` serves a name's task.
 use borrow.Author.Needs.{needs}
 use Rattle.parts.proofs.Steps.{fits-same, long-same, good-alone, good-after}
 use Rattle.names.proofs.Serving.{name-served}

@@ -1,3 +1,4 @@
+-- `names::serve_several` lists a name with several allowed.
 use borrow.Author.Needs.{needs}
 use Rattle.names.proofs.Serving.{several-served, several-not}
 use Rattle.names.proofs.serve_several.Statement.{statement}
