@@ -14,19 +14,18 @@ ghost use Rattle.rules.specs.Lists.{fold};
 ghost use Rattle.rules.specs.Candidates.{lockedPart, lockedOut, excludedParts};
 ghost use Rattle.rules.specs.Opening.{serveName};
 ghost use Rattle.rules.specs.Opening as rules;
-ghost use Rattle.rules.specs.Variables.{partOrigin};
 ghost use Rattle.rules.proofs.WellFormed.{WellFormed};
-ghost use Rattle.rules.proofs.Capped.{addVariable};
 ghost use Rattle.cache.specs.Areas.{catalogue};
 ghost use Rattle.catalogue.specs.Reading.{Kept};
 ghost use Rattle.state.specs.Layout.{held, Fits};
 ghost use Rattle.variable_map.specs.Mapping.{variables};
-ghost use Rattle.encoder.specs.Held.{runOf, LongEnough, GoodState, Good};
+ghost use Rattle.encoder.specs.Held.{runOf, LongEnough, Good};
 ghost use Rattle.encoder.specs.Did.{onOpening, StateDid, ClausesDid};
+ghost use Rattle.parts.specs.declared.Naming.the-variants.{Variable};
 ghost use Rattle.parts.specs.declared.Adding.the-variants as Adding;
-ghost use Rattle.parts.specs.Parts.{addingOf, AllKnown};
+ghost use Rattle.parts.specs.Parts.{namingOf, addingOf, AllKnown, GoodAlone};
 ghost use Rattle.owners.specs.Owners.{serving};
-ghost use Rattle.names.specs.Names.{firstOf};
+ghost use Rattle.names.specs.Names.{firstOf, NamesParts, addClauses};
 
 // The locked part of a name, or the number of parts if it has none.
 fn locked_part(marks: &[u8], unions: &[u8], t: &[u8], k: Counts, name: u16) -> usize
@@ -35,10 +34,8 @@ fn locked_part(marks: &[u8], unions: &[u8], t: &[u8], k: Counts, name: u16) -> u
 {
     let mut p = 0;
     while p < k.parts {
-        if tables::part_name(t, k, p) == name {
-            if tables::locked(t, k, p) {
-                return p;
-            }
+        if parts::selected(marks, unions, t, k, Parts::Locked(name), p) {
+            return p;
         }
         p += 1;
     }
@@ -48,7 +45,7 @@ fn locked_part(marks: &[u8], unions: &[u8], t: &[u8], k: Counts, name: u16) -> u
 fn serve_several(marks: &[u8], unions: &[u8], t: &[u8], k: Counts, s: &mut [u8], l: Limits, n: Counters, name: u16) -> Counters
     requires { ⌜ Kept k (now marks) (now unions) (now t) ⌝ }
     requires { ⌜ Fits l (length (now s)) ⌝ }
-    requires { ⌜ GoodState (catalogue k (now marks) (now unions) (now t)) l n (held l (now s)) ⌝ }
+    requires { ⌜ GoodAlone (catalogue k (now marks) (now unions) (now t)) l n (held l (now s)) ⌝ }
     ensures { λ m. ⌜ StateDid (catalogue k (now (marks .entry)) (now (unions .entry)) (now (t .entry))) l (λ v. onOpening (serveName (catalogue k (now (marks .entry)) (now (unions .entry)) (now (t .entry))) name)) n (held l (now (s .entry))) m (held l (now (s .exit))) ⌝ }
 {
     if tables::several_allowed(t, k, name as usize) {
@@ -57,19 +54,32 @@ fn serve_several(marks: &[u8], unions: &[u8], t: &[u8], k: Counts, s: &mut [u8],
     n
 }
 
-// If there is a locked part, it and the others get their variables.
+// If there is a locked part, it and then the others get their variables.
 fn name_locked(marks: &[u8], unions: &[u8], t: &[u8], k: Counts, s: &mut [u8], l: Limits, n: Counters, name: u16, locked: usize) -> Counters
     requires { ⌜ Kept k (now marks) (now unions) (now t) ⌝ }
     requires { ⌜ Fits l (length (now s)) ⌝ }
-    requires { ⌜ GoodState (catalogue k (now marks) (now unions) (now t)) l n (held l (now s)) ⌝ }
+    requires { ⌜ GoodAlone (catalogue k (now marks) (now unions) (now t)) l n (held l (now s)) ⌝ }
     requires { ⌜ locked ≡ firstOf (length ((catalogue k (now marks) (now unions) (now t)) .parts)) (lockedPart (catalogue k (now marks) (now unions) (now t)) name) ⌝ }
-    ensures { λ m. ⌜ StateDid (catalogue k (now (marks .entry)) (now (unions .entry)) (now (t .entry))) l (λ v. fold (λ p. addVariable (partOrigin p)) (lockedPart (catalogue k (now (marks .entry)) (now (unions .entry)) (now (t .entry))) name ++ lockedOut (catalogue k (now (marks .entry)) (now (unions .entry)) (now (t .entry))) name)) n (held l (now (s .entry))) m (held l (now (s .exit))) ⌝ }
+    ensures { λ m. ⌜ StateDid (catalogue k (now (marks .entry)) (now (unions .entry)) (now (t .entry))) l (λ v. fold (namingOf (catalogue k (now (marks .entry)) (now (unions .entry)) (now (t .entry))) Variable) (lockedPart (catalogue k (now (marks .entry)) (now (unions .entry)) (now (t .entry))) name ++ lockedOut (catalogue k (now (marks .entry)) (now (unions .entry)) (now (t .entry))) name)) n (held l (now (s .entry))) m (held l (now (s .exit))) ⌝ }
 {
     if locked < k.parts {
-        let m = opening::name_variable(s, l, n, variable_map::part(locked as u16));
+        let m = parts::name_each(marks, unions, t, k, s, l, n, Parts::Locked(name), Naming::Variable);
         return parts::name_each(marks, unions, t, k, s, l, m, Parts::Others { name, locked }, Naming::Variable);
     }
     n
+}
+
+// The locked part, the others and the excluded parts get their variables.
+fn name_parts(marks: &[u8], unions: &[u8], t: &[u8], k: Counts, s: &mut [u8], l: Limits, n: Counters, name: u16, locked: usize) -> Counters
+    requires { ⌜ Kept k (now marks) (now unions) (now t) ⌝ }
+    requires { ⌜ Fits l (length (now s)) ⌝ }
+    requires { ⌜ GoodAlone (catalogue k (now marks) (now unions) (now t)) l n (held l (now s)) ⌝ }
+    requires { ⌜ locked ≡ firstOf (length ((catalogue k (now marks) (now unions) (now t)) .parts)) (lockedPart (catalogue k (now marks) (now unions) (now t)) name) ⌝ }
+    ensures { λ m. ⌜ NamesParts (catalogue k (now (marks .entry)) (now (unions .entry)) (now (t .entry))) l name n (held l (now (s .entry))) m (held l (now (s .exit))) ⌝ }
+{
+    let a = serve_several(marks, unions, t, k, s, l, n, name);
+    let b = name_locked(marks, unions, t, k, s, l, a, name, locked);
+    parts::name_each(marks, unions, t, k, s, l, b, Parts::Excluded(name), Naming::Variable)
 }
 
 // If there is a locked part, the others are locked out.
@@ -80,7 +90,7 @@ fn lock_others(marks: &[u8], unions: &[u8], t: &[u8], k: Counts, s: &mut [u8], c
     requires { ⌜ LongEnough l (length (now clauses)) 16384 ⌝ }
     requires { ⌜ 0 < r .number ⌝ }
     requires { ⌜ locked ≡ firstOf (length ((catalogue k (now marks) (now unions) (now t)) .parts)) (lockedPart (catalogue k (now marks) (now unions) (now t)) name) ⌝ }
-    requires { ⌜ AllKnown (variables (n .variables) (held l (now s))) (lockedOut (catalogue k (now marks) (now unions) (now t)) name) ⌝ }
+    requires { ⌜ AllKnown (n .full) (variables (n .variables) (held l (now s))) (lockedOut (catalogue k (now marks) (now unions) (now t)) name) ⌝ }
     ensures { λ m. ⌜ ClausesDid (catalogue k (now (marks .entry)) (now (unions .entry)) (now (t .entry))) l (λ v. fold (addingOf (runOf r) Adding.Lock) (lockedOut (catalogue k (now (marks .entry)) (now (unions .entry)) (now (t .entry))) name)) n (held l (now (s .entry))) (now (clauses .entry)) m (held l (now (s .exit))) (now (clauses .exit)) ⌝ }
 {
     if locked < k.parts {
@@ -97,9 +107,9 @@ fn add_clauses(marks: &[u8], unions: &[u8], t: &[u8], k: Counts, s: &mut [u8], c
     requires { ⌜ LongEnough l (length (now clauses)) 16384 ⌝ }
     requires { ⌜ 0 < r .number ⌝ }
     requires { ⌜ locked ≡ firstOf (length ((catalogue k (now marks) (now unions) (now t)) .parts)) (lockedPart (catalogue k (now marks) (now unions) (now t)) name) ⌝ }
-    requires { ⌜ AllKnown (variables (n .variables) (held l (now s))) (lockedOut (catalogue k (now marks) (now unions) (now t)) name) ⌝ }
-    requires { ⌜ AllKnown (variables (n .variables) (held l (now s))) (excludedParts (catalogue k (now marks) (now unions) (now t)) name) ⌝ }
-    ensures { λ m. ⌜ ClausesDid (catalogue k (now (marks .entry)) (now (unions .entry)) (now (t .entry))) l (λ v. λ s. fold (addingOf (runOf r) Adding.Excluded) (excludedParts (catalogue k (now (marks .entry)) (now (unions .entry)) (now (t .entry))) name) (fold (addingOf (runOf r) Adding.Lock) (lockedOut (catalogue k (now (marks .entry)) (now (unions .entry)) (now (t .entry))) name) s)) n (held l (now (s .entry))) (now (clauses .entry)) m (held l (now (s .exit))) (now (clauses .exit)) ⌝ }
+    requires { ⌜ AllKnown (n .full) (variables (n .variables) (held l (now s))) (lockedOut (catalogue k (now marks) (now unions) (now t)) name) ⌝ }
+    requires { ⌜ AllKnown (n .full) (variables (n .variables) (held l (now s))) (excludedParts (catalogue k (now marks) (now unions) (now t)) name) ⌝ }
+    ensures { λ m. ⌜ ClausesDid (catalogue k (now (marks .entry)) (now (unions .entry)) (now (t .entry))) l (λ v. addClauses (catalogue k (now (marks .entry)) (now (unions .entry)) (now (t .entry))) (runOf r) name) n (held l (now (s .entry))) (now (clauses .entry)) m (held l (now (s .exit))) (now (clauses .exit)) ⌝ }
 {
     let m = lock_others(marks, unions, t, k, s, clauses, l, n, r, name, locked);
     parts::add_each(marks, unions, t, k, s, clauses, l, m, r, Parts::Excluded(name), Adding::Excluded)
@@ -114,12 +124,7 @@ pub fn serve_name(marks: &[u8], unions: &[u8], t: &[u8], k: Counts, s: &mut [u8]
     requires { ⌜ 0 < r .number ⌝ }
     ensures { λ m. ⌜ ClausesDid (catalogue k (now (marks .entry)) (now (unions .entry)) (now (t .entry))) l (λ v. serving (catalogue k (now (marks .entry)) (now (unions .entry)) (now (t .entry))) (runOf r) (rules.name name)) n (held l (now (s .entry))) (now (clauses .entry)) m (held l (now (s .exit))) (now (clauses .exit)) ⌝ }
 {
-    let a = serve_several(marks, unions, t, k, s, l, n, name);
     let locked = locked_part(marks, unions, t, k, name);
-    let b = name_locked(marks, unions, t, k, s, l, a, name, locked);
-    let c = parts::name_each(marks, unions, t, k, s, l, b, Parts::Excluded(name), Naming::Variable);
-    if c.full {
-        return c;
-    }
-    add_clauses(marks, unions, t, k, s, clauses, l, c, r, name, locked)
+    let m = name_parts(marks, unions, t, k, s, l, n, name, locked);
+    add_clauses(marks, unions, t, k, s, clauses, l, m, r, name, locked)
 }

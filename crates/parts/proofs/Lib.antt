@@ -3,3 +3,4 @@ pub mod Steps
 pub mod Selecting
 pub mod Names
 pub mod Clauses
+pub mod Serving

@@ -11,9 +11,10 @@ use Rattle.rules.proofs.Each.{Each, each-imp}
 use Rattle.rules.proofs.Grows.{Prefix}
 use Rattle.rules.proofs.Places.{keeps-variable}
 use Rattle.state.specs.declared.Limits.{Limits}
+use Rattle.state.specs.Layout.{Fits}
 use Rattle.variable_map.specs.Mapping.{variables}
 use Rattle.encoder.specs.declared.Counters.{Counters}
-use Rattle.encoder.specs.Held.{Reading, stateOf, Good}
+use Rattle.encoder.specs.Held.{Reading, stateOf, Good, LongEnough}
 use Rattle.encoder.specs.Did.{Widens, Did, StateDid, ClausesDid, PlainDid}
 use Rattle.encoder.proofs.Did.{did-as, did-then, did-idle, widens-same}
 use Rattle.parts.specs.Parts.{AllKnown, GoodAlone}
@@ -24,6 +25,13 @@ good-any wt′ g = record { state = g .state; clauses = g .clauses; entries = g 
 
 pub good-alone : {c : Catalogue} {l : Limits} {n : Counters} {st : ℕ → List ℕ} {cl wt : List ℕ} → Good c l n st cl wt → GoodAlone c l n st
 good-alone {cl = cl} g = record { clauses = cl; good = good-any [] g }
+
+-- an area keeps its length
+pub fits-same : {l : Limits} {a b : ℕ} → b ≡ a → Fits l a → Fits l b
+fits-same e f = rw e f
+
+pub long-same : {l : Limits} {a b k : ℕ} → b ≡ a → LongEnough l a k → LongEnough l b k
+long-same e f = rw e f
 
 -- ---- the same by another name
 

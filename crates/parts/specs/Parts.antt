@@ -7,7 +7,7 @@ use lib.Dec.{eqb}
 use lib.ListN.{length}
 use Rattle.rules.specs.Lists.{filter, upTo}
 use Rattle.rules.specs.Clause.{Clause, excluded, constrains, auxOut, lock, exclusion}
-use Rattle.rules.specs.Catalogue.{Catalogue, nameOf, excludedPart}
+use Rattle.rules.specs.Catalogue.{Catalogue, partAt, nameOf, excludedPart}
 use Rattle.rules.specs.Variables.{Origin, known, partOrigin, partVariable}
 use Rattle.rules.specs.Opening.{nameForTracking, openReady}
 use Rattle.rules.specs.State.{State}
@@ -22,7 +22,7 @@ use Rattle.encoder.specs.declared.Run.{Run}
 use Rattle.encoder.specs.Held.{Good}
 use Rattle.encoder.specs.Did.{onOpening}
 use Rattle.parts.specs.declared.Parts.{Parts}
-use Rattle.parts.specs.declared.Parts.the-variants.{Chosen, Others, Excluded}
+use Rattle.parts.specs.declared.Parts.the-variants.{Chosen, Locked, Others, Excluded}
 use Rattle.parts.specs.declared.Naming.{Naming}
 use Rattle.parts.specs.declared.Naming.the-variants.{Variable, Tracked, Candidate}
 use Rattle.parts.specs.declared.Adding.{Adding}
@@ -30,6 +30,7 @@ use Rattle.parts.specs.declared.Adding.the-variants as Adding
 
 unfoldable pub selectedOf : Catalogue → Parts → ℕ → Bool
 selectedOf c (Chosen r w) p = chosen c r w p
+selectedOf c (Locked n) p = eqb (nameOf c p) n && (partAt c p) .locked
 selectedOf c (Others n locked) p = eqb (nameOf c p) n && not (eqb p locked)
 selectedOf c (Excluded n) p = eqb (nameOf c p) n && excludedPart c p
 

@@ -23,9 +23,10 @@ ghost use Rattle.encoder.specs.Did.{onOpening, StateDid, ClausesDid};
 ghost use Rattle.parts.specs.declared.Naming.the-variants.{Tracked, Candidate};
 ghost use Rattle.parts.specs.Parts.{selectedOf, partsFor, namingOf, addingOf, CanAdd, AllKnown, GoodAlone};
 
-// Which parts: those chosen of a range, those of a name but the locked one, the excluded ones of a name.
+// Which parts: those chosen of a range; of a name the locked one, all but the locked one, or the excluded ones.
 pub enum Parts {
     Chosen { range: usize, choice: Choice },
+    Locked(u16),
     Others { name: u16, locked: usize },
     Excluded(u16),
 }
@@ -43,6 +44,16 @@ pub enum Adding {
     Excluded,
     Constrains(u16),
     AuxOut(u16),
+}
+
+fn is_locked(t: &[u8], k: Counts, name: u16, p: usize) -> bool
+    requires { ⌜ Laid k (length (now t)) ⌝ }
+    ensures { λ b. ⌜ b ≡ (eqb ((getD (tables k (now (t .entry)) .parts) p noPart) .name) name && (getD (tables k (now (t .entry)) .parts) p noPart) .locked) ⌝ }
+{
+    if tables::part_name(t, k, p) != name {
+        return false;
+    }
+    tables::locked(t, k, p)
 }
 
 fn is_other(t: &[u8], k: Counts, name: u16, locked: usize, p: usize) -> bool
@@ -72,6 +83,7 @@ pub fn selected(marks: &[u8], unions: &[u8], t: &[u8], k: Counts, which: Parts, 
 {
     match which {
         Parts::Chosen { range, choice } => cache::chosen(marks, unions, t, k, range, choice, p),
+        Parts::Locked(name) => is_locked(t, k, name, p),
         Parts::Others { name, locked } => is_other(t, k, name, locked, p),
         Parts::Excluded(name) => is_excluded(t, k, name, p),
     }
