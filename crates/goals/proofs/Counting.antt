@@ -4,6 +4,7 @@ use mathlib.Core.List.{List, append-nil}
 use Prim.Native.Nat.{ℕ, _+_, _<_, _≤_, min}
 use native.Mathlib.Nat.{min-eq-left, min-eq-right}
 use native.Mathlib.Omega.{arith}
+use native.Mathlib.Decide.{decLt}
 use lib.ListN.{length, getD, length-append}
 use Rattle.rules.specs.Lists.{filter, concatMap}
 use Rattle.rules.specs.Catalogue.{Catalogue, partAt, union}
@@ -18,7 +19,9 @@ use Rattle.unions.specs.Unions.{Row, noRow, rows, rowOf, rangesOf, left, At, Ne
 use Rattle.unions.proofs.Laws.{walk-start}
 use Rattle.cache.specs.Areas.{catalogue}
 use Rattle.cache.specs.Lists.{Counted}
-use Rattle.cache.proofs.Laws.{union-ranges-held}
+use Rattle.cache.proofs.Laws.{union-missing, union-ranges-held}
+use Rattle.catalogue.specs.Reading.{Kept}
+use Rattle.goals.specs.Goals.{Catalogued}
 
 -- the favoured first, and as many
 pub length-sorted : (c : Catalogue) (r : ℕ) → length (sorted c r) ≡ length (matching c r)
@@ -45,10 +48,18 @@ module _ {c : Catalogue} {n : ℕ} {rs : List Row} {u most total i : ℕ} (x : T
   pub total-step : {i′ : ℕ} → total + m < most → Next n rs u (i + 1) i′ → Totalling c n rs u most (total + m) i′
   total-step g y = record { at = y .at; few = omega arith; is = rw (← y .same) total-more }
 
-module _ (k : Counts) (ms us t : List ℕ) (u : ℕ) (h : u < k .unions) where
+-- a union that is not given has no rows
+pub union-ranges : (k : Counts) (ms us t : List ℕ) (u : ℕ) → Kept k ms us t → goalRanges (catalogue k ms us t) (union u) ≡ rangesOf u (rows (k .members) us)
+unfolding goalRanges
+union-ranges k ms us t u f = elim (decLt u (k .unions)) [
+  | yes h ↦ union-ranges-held k ms us t u h
+  | no h ↦ let g : k .unions ≤ u = omega arith in union-missing k ms us t u g ∙ sym (f .given .none-yet u g)
+]
+
+module _ (k : Counts) (ms us t : List ℕ) (u : ℕ) (h : Catalogued k ms us t) where
   union-candidates : candidates (catalogue k ms us t) (union u) ≡ concatMap (sorted (catalogue k ms us t)) (rangesOf u (rows (k .members) us))
   unfolding candidates
-  union-candidates = rw (union-ranges-held k ms us t u h)
+  union-candidates = rw (union-ranges k ms us t u (h .kept))
 
   module _ {most total i : ℕ} (x : Totalling (catalogue k ms us t) (k .members) (rows (k .members) us) u most total i) where
     pub total-full : (a : Member) {m : ℕ} → i < k .members → rowOf a ≡ getD (rows (k .members) us) i noRow → Counted m (matching (catalogue k ms us t) (a .range))

@@ -104,7 +104,7 @@ pub fn release(s: &mut [u8], l: Limits, m: usize)
 // How many a union has, or `most` if it has more.
 fn count_union(marks: &[u8], unions: &[u8], t: &[u8], k: Counts, u: u16, most: usize) -> usize
     requires { ⌜ Catalogued k (now marks) (now unions) (now t) ⌝ }
-    requires { ⌜ (u < k .unions) × (most ≤ 4) ⌝ }
+    requires { ⌜ most ≤ 4 ⌝ }
     ensures { λ n. ⌜ n ≡ min (length (candidates (catalogue k (now (marks .entry)) (now (unions .entry)) (now (t .entry))) (union u))) most ⌝ }
 {
     let mut total = 0;
@@ -130,7 +130,6 @@ pub fn count(
     most: usize,
 ) -> usize
     requires { ⌜ Catalogued k (now marks) (now unions) (now t) ⌝ }
-    requires { ⌜ GoalGiven (catalogue k (now marks) (now unions) (now t)) (goalOf goal) ⌝ }
     requires { ⌜ most ≤ 4 ⌝ }
     ensures { λ n. ⌜ n ≡ min (length (candidates (catalogue k (now (marks .entry)) (now (unions .entry)) (now (t .entry))) (goalOf goal))) most ⌝ }
 {

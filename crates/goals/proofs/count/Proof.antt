@@ -1,7 +1,6 @@
 -- `goals::count` gives how many candidates a goal has, or `most` if it has more.
 use borrow.Author.Needs.{needs}
 use Rattle.goals.proofs.Counting.{count-few, count-enough, count-union}
-use Rattle.goals.proofs.Hand.{union-given}
 use Rattle.goals.proofs.count.Statement.{statement}
 use Rattle.goals.proofs.count.Tie as tie
 
@@ -18,7 +17,7 @@ enum-known-goal-2 : tie.Need-enum-known-goal-2
 enum-known-goal-2 c = search needs
 
 count-union-requires : tie.Need-count-union-requires
-count-union-requires c κs = search (needs, union-given)
+count-union-requires c κs = search needs
 
 returns : tie.Need-returns
 returns c = search (needs, count-few)
