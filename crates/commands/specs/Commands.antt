@@ -1,14 +1,14 @@
 -- What a command does to the state that the areas hold, or its refusal.
 use mathlib.Core.Path.{_≡_}
 use mathlib.Core.Bool.{true, false}
-use mathlib.Core.List.{List, []}
+use mathlib.Core.List.{List}
 use mathlib.Core.Option.{none}
 use Prim.Native.Nat.{ℕ}
+use lib.ListN.{length}
 use Rattle.rules.specs.Lists.{snoc, when}
 use Rattle.rules.specs.Literal.{Literal}
 use Rattle.rules.specs.Catalogue.{Catalogue}
-use Rattle.rules.specs.Refusals as rules
-use Rattle.rules.specs.Refusals.{Result, ok, refuse}
+use Rattle.rules.specs.Refusals.{ok, refuse}
 use Rattle.rules.specs.Records.{Command}
 use Rattle.rules.specs.Decisions.{evaluate, isFalsified, isUndecided}
 use Rattle.rules.specs.Opening as opening
@@ -16,20 +16,17 @@ use Rattle.rules.specs.State.{State, setDecisions, decidedTrue}
 use Rattle.rules.specs.Sheet.{carryOut}
 use Rattle.rules.proofs.Each.{Each}
 use Rattle.rules.proofs.Valid.{Entry}
-use Rattle.refusal.specs.declared.Refusal as refusal
+use Rattle.refusal.specs.declared.Refusal.{Refusal}
 use Rattle.refusal.specs.declared.Refusal.the-variants.{DecidedAgainst}
 use Rattle.refusal.specs.Refusing.{refusalOf}
 use Rattle.state.specs.declared.Limits.{Limits}
+use Rattle.decision_tracker.specs.Tracking.{decisions}
 use Rattle.marked.specs.Marked.{Marked}
 use Rattle.encoder.specs.declared.Counters.{Counters}
 use Rattle.encoder.specs.Held.{Reading, stateOf, Good}
 use Rattle.encoder.specs.Did.{limitsOf, onOpening}
 use Rattle.commands.specs.declared.Outcome.{Outcome}
 use Rattle.commands.specs.declared.Outcome.the-variants.{Carried, Refused}
-
--- any
-abbrev pub noReading : Reading
-noReading = record { truth = λ _. false; drawn = [] }
 
 -- each of these entries is a disjunct of a requirement
 pub record AllGiven (c : Catalogue) (es : List (ℕ × ℕ)) : Type 0 where
@@ -41,31 +38,31 @@ pub record ChangesOf (c : Catalogue) (l : Limits) (F : State → State) (n : Cou
   pub hand : Marked 14 15 0 st → Marked 14 15 0 st′
   pub full : n′ .full ≡ n .full
   pub runs : n′ .runs ≡ n .runs
-  pub is : Good c l n st cl wt → (v : Reading) → stateOf c l v n′ st′ cl wt ≡ F (stateOf c l v n st cl wt)
+  pub is : (v : Reading) → stateOf c l v n′ st′ cl wt ≡ F (stateOf c l v n st cl wt)
 
 -- whatever the catalogue and the other areas
-pub record Changes (l : Limits) (F : Catalogue → State → State) (n : Counters) (st : ℕ → List ℕ) (n′ : Counters) (st′ : ℕ → List ℕ) : Type 0 where
-  pub is : (c : Catalogue) (cl wt : List ℕ) → ChangesOf c l (F c) n st cl wt n′ st′
+pub record Changes (l : Limits) (F : State → State) (n : Counters) (st : ℕ → List ℕ) (n′ : Counters) (st′ : ℕ → List ℕ) : Type 0 where
+  pub is : (c : Catalogue) (cl wt : List ℕ) → ChangesOf c l F n st cl wt n′ st′
 
 -- the entries of condition k that hold were drawn
 pub record Draws (c : Catalogue) (l : Limits) (k : ℕ) (n : Counters) (st : ℕ → List ℕ) (wt : List ℕ) (n′ : Counters) (wt′ : List ℕ) : Type 0 where
   pub good : (cl : List ℕ) → Good c l n st cl wt → Good c l n′ st cl wt′
   pub full : n′ .full ≡ n .full
   pub runs : n′ .runs ≡ n .runs
-  pub is : (cl : List ℕ) → Good c l n st cl wt → (v : Reading)
+  pub is : (cl : List ℕ) (v : Reading)
       → stateOf c l v n′ st cl wt′ ≡ onOpening (opening.draw c (decidedTrue (stateOf c l v n st cl wt)) k) (stateOf c l v n st cl wt)
 
--- a literal is decided true at this level, or was decided false
+-- a literal is decided true at this level, unless it is decided
 unfoldable pub decidedTo : Literal → ℕ → State → State
 decidedTo x level s =
     when (isUndecided (evaluate (s .decisions) x))
     (λ (u : State). setDecisions (snoc (u .decisions) (record { variable = x .variable; value = x .positive; level = level; clause = none })) u) s
 
-pub record DecidesLiteral (c : Catalogue) (l : Limits) (x : Literal) (level : ℕ) (n : Counters) (st : ℕ → List ℕ) (r : Outcome) (st′ : ℕ → List ℕ) : Type 0 where
-  pub carried : (m : Counters) → r ≡ Carried m → (cl wt : List ℕ)
-      → ChangesOf c l (decidedTo x level) n st cl wt m st′ × (isFalsified (evaluate ((stateOf c l noReading n st cl wt) .decisions) x) ≡ false)
-  pub refused : (f : refusal.Refusal) → r ≡ Refused f → (cl wt : List ℕ)
-      → (f ≡ DecidedAgainst) × (isFalsified (evaluate ((stateOf c l noReading n st cl wt) .decisions) x) ≡ true)
+-- the same, or refused where it is decided false
+pub record DecidesLiteral (l : Limits) (x : Literal) (level : ℕ) (n : Counters) (st : ℕ → List ℕ) (r : Outcome) (st′ : ℕ → List ℕ) : Type 0 where
+  pub carried : (m : Counters) → r ≡ Carried m
+      → Changes l (decidedTo x level) n st m st′ × (isFalsified (evaluate (decisions (n .decisions) st) x) ≡ false)
+  pub refused : (f : Refusal) → r ≡ Refused f → (f ≡ DecidedAgainst) × (isFalsified (evaluate (decisions (n .decisions) st) x) ≡ true)
 
 -- carried out
 pub record CarriedOut (c : Catalogue) (l : Limits) (o : Command) (n : Counters) (st : ℕ → List ℕ) (cl wt : List ℕ) (m : Counters) (st′ : ℕ → List ℕ) : Type 0 where
@@ -73,10 +70,18 @@ pub record CarriedOut (c : Catalogue) (l : Limits) (o : Command) (n : Counters) 
   pub hand : Marked 14 15 0 st → Marked 14 15 0 st′
   pub full : m .full ≡ n .full
   pub runs : m .runs ≡ n .runs
-  pub is : Good c l n st cl wt → (v : Reading) → carryOut (limitsOf l) c o (stateOf c l v n st cl wt) ≡ ok (stateOf c l v m st′ cl wt)
+  pub is : (v : Reading) → carryOut (limitsOf l) c o (stateOf c l v n st cl wt) ≡ ok (stateOf c l v m st′ cl wt)
 
 -- the command, of the state area alone: carried out as the definition says, or refused with its refusal
 pub record Outcomes (c : Catalogue) (l : Limits) (o : Command) (n : Counters) (st : ℕ → List ℕ) (r : Outcome) (st′ : ℕ → List ℕ) : Type 0 where
   pub carried : (m : Counters) → r ≡ Carried m → (cl wt : List ℕ) → CarriedOut c l o n st cl wt m st′
-  pub refused : (f : refusal.Refusal) → r ≡ Refused f → (cl wt : List ℕ) → Good c l n st cl wt → (v : Reading)
+  pub refused : (f : Refusal) → r ≡ Refused f → (cl wt : List ℕ) (v : Reading)
       → carryOut (limitsOf l) c o (stateOf c l v n st cl wt) ≡ refuse (refusalOf f)
+
+-- the same of one that does not read the catalogue
+pub record PlainOutcomes (l : Limits) (o : Command) (n : Counters) (st : ℕ → List ℕ) (r : Outcome) (st′ : ℕ → List ℕ) : Type 0 where
+  pub is : (c : Catalogue) → Outcomes c l o n st r st′
+
+-- of one that reads only how many parts it has
+pub record PartOutcomes (parts : ℕ) (l : Limits) (o : Command) (n : Counters) (st : ℕ → List ℕ) (r : Outcome) (st′ : ℕ → List ℕ) : Type 0 where
+  pub is : (c : Catalogue) → length (c .parts) ≡ parts → Outcomes c l o n st r st′

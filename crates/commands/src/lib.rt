@@ -18,6 +18,7 @@ ghost use Rattle.rules.specs.Opening.{isDrawn};
 ghost use Rattle.rules.specs.Opening as rules;
 ghost use Rattle.rules.specs.Records.{Command};
 ghost use Rattle.rules.proofs.Levels.{Rising};
+ghost use Rattle.rules.proofs.Valid.{Entry};
 ghost use Rattle.cache.specs.Areas.{catalogue};
 ghost use Rattle.clause.specs.Literals.{literalOf};
 ghost use Rattle.state.specs.Layout.{held, Fits};
@@ -27,7 +28,7 @@ ghost use Rattle.marked.specs.Marked.{ownerOf, Marked};
 ghost use Rattle.entries.specs.Entries.{noEntry, waitingIn, Long};
 ghost use Rattle.encoder.specs.Did.{onOpening};
 ghost use Rattle.goals.specs.Goals.{Catalogued, trueOf};
-ghost use Rattle.commands.specs.Commands.{AllGiven, Changes, Draws, DecidesLiteral, Outcomes};
+ghost use Rattle.commands.specs.Commands.{AllGiven, Changes, Draws, DecidesLiteral, PlainOutcomes, PartOutcomes};
 
 // What a command gives.
 pub enum Outcome {
@@ -41,7 +42,7 @@ pub enum Outcome {
 fn push_added(s: &mut [u8], l: Limits, n: Counters, o: u16) -> Counters
     requires { ⌜ Fits l (length (now s)) ⌝ }
     requires { ⌜ Marked 6 7 (n .added) (held l (now s)) × (o < 1025) ⌝ }
-    ensures { λ m. ⌜ Changes l (λ c u. onOpening (rules.add (ownerOf o)) u) n (held l (now (s .entry))) m (held l (now (s .exit))) ⌝ }
+    ensures { λ m. ⌜ Changes l (onOpening (rules.add (ownerOf o))) n (held l (now (s .entry))) m (held l (now (s .exit))) ⌝ }
 {
     if marked::contains(s, l, state::ADDED_MARKS, o) {
         return n;
@@ -52,11 +53,11 @@ fn push_added(s: &mut [u8], l: Limits, n: Counters, o: u16) -> Counters
     m
 }
 
-pub fn add(marks: &[u8], unions: &[u8], t: &[u8], k: Counts, s: &mut [u8], l: Limits, n: Counters, owner: u16) -> Outcome
-    requires { ⌜ Catalogued k (now marks) (now unions) (now t) ⌝ }
+pub fn add(k: Counts, s: &mut [u8], l: Limits, n: Counters, owner: u16) -> Outcome
+    requires { ⌜ k .parts ≤ 1024 ⌝ }
     requires { ⌜ Fits l (length (now s)) ⌝ }
     requires { ⌜ Marked 6 7 (n .added) (held l (now s)) ⌝ }
-    ensures { λ r. ⌜ Outcomes (catalogue k (now (marks .entry)) (now (unions .entry)) (now (t .entry))) l (Command.add owner) n (held l (now (s .entry))) r (held l (now (s .exit))) ⌝ }
+    ensures { λ r. ⌜ PartOutcomes (k .parts) l (Command.add owner) n (held l (now (s .entry))) r (held l (now (s .exit))) ⌝ }
 {
     if owner == 65535 {
         return Outcome::Carried(push_added(s, l, n, 1024));
@@ -70,12 +71,23 @@ pub fn add(marks: &[u8], unions: &[u8], t: &[u8], k: Counts, s: &mut [u8], l: Li
 // ---- draw
 
 // Is entry i one of condition c whose disjunct holds?
-fn is_drawn(marks: &[u8], unions: &[u8], t: &[u8], k: Counts, s: &[u8], w: &[u8], l: Limits, n: Counters, c: u16, i: usize) -> bool
+fn is_drawn(
+    marks: &[u8],
+    unions: &[u8],
+    t: &[u8],
+    k: Counts,
+    s: &[u8],
+    w: &[u8],
+    l: Limits,
+    n: Counters,
+    c: u16,
+    i: usize,
+) -> bool
     requires { ⌜ Catalogued k (now marks) (now unions) (now t) ⌝ }
     requires { ⌜ Fits l (length (now s)) ⌝ }
     requires { ⌜ Mapped l (n .variables) (held l (now s)) × Kept l (n .decisions) (held l (now s)) ⌝ }
     requires { ⌜ Long l (length (now w)) × (n .waiting ≤ l .waiting) × (i < n .waiting) ⌝ }
-    requires { ⌜ AllGiven (catalogue k (now marks) (now unions) (now t)) (waitingIn l (n .waiting) (now w)) ⌝ }
+    requires { ⌜ Entry (catalogue k (now marks) (now unions) (now t)) (getD (waitingIn l (n .waiting) (now w)) i noEntry) ⌝ }
     ensures { λ b. ⌜ b ≡ isDrawn (catalogue k (now (marks .entry)) (now (unions .entry)) (now (t .entry))) (trueOf (variables (n .variables) (held l (now (s .entry)))) (decisions (n .decisions) (held l (now (s .entry))))) c (getD (waitingIn l (n .waiting) (now (w .entry))) i noEntry) ⌝ }
 {
     let e = entries::waiting_at(w, l, n.waiting, i);
@@ -83,17 +95,36 @@ fn is_drawn(marks: &[u8], unions: &[u8], t: &[u8], k: Counts, s: &[u8], w: &[u8]
     if it.condition != c {
         return false;
     }
-    goals::disjunct_holds(marks, unions, t, k, s, l, n, c as usize, e.disjunct as usize)
+    goals::disjunct_holds(
+        marks,
+        unions,
+        t,
+        k,
+        s,
+        l,
+        n,
+        c as usize,
+        e.disjunct as usize,
+    )
 }
 
 // The entries of condition c that hold are drawn, in order.
-pub fn draw(marks: &[u8], unions: &[u8], t: &[u8], k: Counts, s: &[u8], w: &mut [u8], l: Limits, n: Counters, c: u16) -> Counters
+pub fn draw(
+    marks: &[u8],
+    unions: &[u8],
+    t: &[u8],
+    k: Counts,
+    s: &[u8],
+    w: &mut [u8],
+    l: Limits,
+    n: Counters,
+    c: u16,
+) -> Counters
     requires { ⌜ Catalogued k (now marks) (now unions) (now t) ⌝ }
     requires { ⌜ Fits l (length (now s)) ⌝ }
     requires { ⌜ Mapped l (n .variables) (held l (now s)) × Kept l (n .decisions) (held l (now s)) ⌝ }
     requires { ⌜ Long l (length (now w)) × (n .waiting + n .drawn ≤ l .waiting) ⌝ }
     requires { ⌜ AllGiven (catalogue k (now marks) (now unions) (now t)) (waitingIn l (n .waiting) (now w)) ⌝ }
-    requires { ⌜ c < k .conditions ⌝ }
     ensures { λ m. ⌜ Draws (catalogue k (now (marks .entry)) (now (unions .entry)) (now (t .entry))) l c n (held l (now (s .entry))) (now (w .entry)) m (now (w .exit)) ⌝ }
 {
     let mut counts = entries::Counts {
@@ -127,11 +158,10 @@ pub fn too_low(s: &[u8], l: Limits, n: Counters, level: u16) -> bool
 }
 
 // A variable gets a value, unless it has the other.
-fn decide_literal(marks: &[u8], unions: &[u8], t: &[u8], k: Counts, s: &mut [u8], l: Limits, n: Counters, literal: Literal, level: u16) -> Outcome
-    requires { ⌜ Catalogued k (now marks) (now unions) (now t) ⌝ }
+fn decide_literal(s: &mut [u8], l: Limits, n: Counters, literal: Literal, level: u16) -> Outcome
     requires { ⌜ Fits l (length (now s)) ⌝ }
     requires { ⌜ Kept l (n .decisions) (held l (now s)) × ((literalOf literal) .variable < l .variables) ⌝ }
-    ensures { λ r. ⌜ DecidesLiteral (catalogue k (now (marks .entry)) (now (unions .entry)) (now (t .entry))) l (literalOf literal) level n (held l (now (s .entry))) r (held l (now (s .exit))) ⌝ }
+    ensures { λ r. ⌜ DecidesLiteral l (literalOf literal) level n (held l (now (s .entry))) r (held l (now (s .exit))) ⌝ }
 {
     match decision_tracker::eval(s, l, n.decisions, literal) {
         Value::True => Outcome::Carried(n),
@@ -153,11 +183,10 @@ fn decide_literal(marks: &[u8], unions: &[u8], t: &[u8], k: Counts, s: &mut [u8]
     }
 }
 
-pub fn decide(marks: &[u8], unions: &[u8], t: &[u8], k: Counts, s: &mut [u8], l: Limits, n: Counters, variable: u16, value: u8, level: u16) -> Outcome
-    requires { ⌜ Catalogued k (now marks) (now unions) (now t) ⌝ }
+pub fn decide(s: &mut [u8], l: Limits, n: Counters, variable: u16, value: u8, level: u16) -> Outcome
     requires { ⌜ Fits l (length (now s)) ⌝ }
     requires { ⌜ Kept l (n .decisions) (held l (now s)) × (n .variables ≤ l .variables) ⌝ }
-    ensures { λ r. ⌜ Outcomes (catalogue k (now (marks .entry)) (now (unions .entry)) (now (t .entry))) l (Command.decide variable value level) n (held l (now (s .entry))) r (held l (now (s .exit))) ⌝ }
+    ensures { λ r. ⌜ PlainOutcomes l (Command.decide variable value level) n (held l (now (s .entry))) r (held l (now (s .exit))) ⌝ }
 {
     if variable as usize >= n.variables {
         return Outcome::Refused(Refusal::MissingVariable(1));
@@ -168,15 +197,14 @@ pub fn decide(marks: &[u8], unions: &[u8], t: &[u8], k: Counts, s: &mut [u8], l:
     if too_low(s, l, n, level) {
         return Outcome::Refused(Refusal::LevelLow);
     }
-    decide_literal(marks, unions, t, k, s, l, n, Literal::new(variable, value == 1), level)
+    decide_literal(s, l, n, Literal::new(variable, value == 1), level)
 }
 
 // The decisions above this level are removed.
-pub fn undo(marks: &[u8], unions: &[u8], t: &[u8], k: Counts, s: &mut [u8], l: Limits, n: Counters, level: u16) -> Outcome
-    requires { ⌜ Catalogued k (now marks) (now unions) (now t) ⌝ }
+pub fn undo(s: &mut [u8], l: Limits, n: Counters, level: u16) -> Outcome
     requires { ⌜ Fits l (length (now s)) ⌝ }
     requires { ⌜ Kept l (n .decisions) (held l (now s)) × Rising (decisions (n .decisions) (held l (now s))) ⌝ }
-    ensures { λ r. ⌜ Outcomes (catalogue k (now (marks .entry)) (now (unions .entry)) (now (t .entry))) l (Command.undo level) n (held l (now (s .entry))) r (held l (now (s .exit))) ⌝ }
+    ensures { λ r. ⌜ PlainOutcomes l (Command.undo level) n (held l (now (s .entry))) r (held l (now (s .exit))) ⌝ }
 {
     let count = decision_tracker::undo(s, l, n.decisions, level);
     let mut m = n;

@@ -1,0 +1,231 @@
+-- A literal is decided, or decisions are undone.
+use mathlib.Core.Path.{_≡_, refl, sym, _∙_}
+use mathlib.Core.Bool.{Bool, true, false, _||_}
+use mathlib.Core.List.{List}
+use Prim.Native.Nat.{ℕ, _<_, _≤_}
+use native.Mathlib.Omega.{arith}
+use lib.Dec.{eqb, ltb, leb}
+use lib.ListN.{length}
+use borrow.Author.Tests.{eq-eqb, ne-eqb, le-leb, lt-leb, lt-ltb, le-ltb}
+use Rattle.rules.specs.Lists.{any, snoc, when}
+use Rattle.rules.specs.Literal.{Literal}
+use Rattle.rules.specs.Catalogue.{Catalogue}
+use Rattle.rules.specs.Records.{Command}
+use Rattle.rules.specs.Refusals.{ok, refuse, unlessAny}
+use Rattle.rules.specs.Limits as rules
+use Rattle.rules.specs.Decisions.{Decision, evaluate, isFalsified, lastLevel, upToLevel}
+use Rattle.rules.specs.State.{State, setDecisions}
+use Rattle.rules.specs.Sheet.{tooLow, decide, commandRefusals, carriedOut, carryOut}
+use Rattle.rules.proofs.Member.{not-one}
+use Rattle.refusal.specs.declared.Refusal.{Refusal}
+use Rattle.refusal.specs.declared.Refusal.the-variants.{MissingVariable, Contradicts, LevelLow, DecidedAgainst}
+use Rattle.refusal.specs.declared.Contradiction.the-variants.{OtherValue}
+use Rattle.refusal.specs.Refusing.{contradictionOf, refusalOf}
+use Rattle.clause.specs.declared.Literal as code
+use Rattle.clause.specs.declared.Value.{Value}
+use Rattle.clause.specs.declared.Value.the-variants as values
+use Rattle.clause.specs.Literals.{signed, literalOf}
+use Rattle.state.specs.declared.Limits.{Limits}
+use Rattle.variable_map.specs.Mapping.{variables}
+use Rattle.variable_map.proofs.Laws as variables
+use Rattle.variable_map.proofs.Laws.{variables-kept}
+use Rattle.decision_tracker.specs.declared.Decision as tracker
+use Rattle.decision_tracker.specs.Tracking.{clauseBy, decisionBy, decisionOf, decisions, seen, Kept, Free, Told}
+use Rattle.decision_tracker.proofs.Laws.{literal-free}
+use Rattle.decision_tracker.proofs.Values.{undecided-seen, reads-undecided, falsified-undecided, falsified-false, falsified-true}
+use Rattle.marked.proofs.Laws.{marked-same}
+use Rattle.encoder.specs.declared.Counters.{Counters}
+use Rattle.encoder.specs.Held.{Reading, openingOf, stateOf, Good}
+use Rattle.encoder.specs.Did.{limitsOf}
+use Rattle.encoder.proofs.Frames.{good-kept, list-kept, line-kept}
+use Rattle.commands.specs.declared.Outcome.{Outcome}
+use Rattle.commands.specs.declared.Outcome.the-variants.{Carried, Refused}
+use Rattle.commands.specs.Commands.{ChangesOf, Changes, decidedTo, DecidesLiteral, CarriedOut, PlainOutcomes}
+use Rattle.commands.proofs.Outcomes.{unchanged, changes-as, carried-out, outcome-carried, outcome-refused}
+
+-- ---- a level is too low
+
+pub low-zero : (level d : ℕ) (st : ℕ → List ℕ) → level ≡ 0 → true ≡ (eqb level 0 || ltb level (lastLevel (decisions d st)))
+low-zero level d st e = rw (eq-eqb level 0 e)
+
+pub low-last : (level d r : ℕ) (st : ℕ → List ℕ) → (level ≡ 0 → ⊥) → r ≡ lastLevel (decisions d st)
+    → ltb level r ≡ (eqb level 0 || ltb level (lastLevel (decisions d st)))
+low-last level d r st n e = rw (ne-eqb level 0 n, e)
+
+-- for callers: of the state that the areas hold
+pub low-is : (c : Catalogue) (l : Limits) (v : Reading) (n : Counters) (st : ℕ → List ℕ) (cl wt : List ℕ) (level : ℕ) {low : Bool}
+    → low ≡ (eqb level 0 || ltb level (lastLevel (decisions (n .decisions) st))) → tooLow level (stateOf c l v n st cl wt) ≡ low
+unfolding tooLow stateOf
+low-is c l v n st cl wt level e = sym e
+
+-- ---- other decisions
+
+-- counters with another number of decisions
+abbrev pub deciding : ℕ → Counters → Counters
+deciding x n =
+    record {
+      variables = n .variables;
+      clauses = n .clauses;
+      literals = n .literals;
+      decisions = x;
+      owners = n .owners;
+      names = n .names;
+      several = n .several;
+      added = n .added;
+      named = n .named;
+      tracked = n .tracked;
+      waiting = n .waiting;
+      drawn = n .drawn;
+      first = n .first;
+      tail = n .tail;
+      runs = n .runs;
+      full = n .full;
+    }
+
+module _ {l : Limits} (n : Counters) {count : ℕ} {ds : List Decision} {st st′ : ℕ → List ℕ} (t : Told l count ds st st′) (c : Catalogue) (cl wt : List ℕ) where
+  told-state : (v : Reading) → stateOf c l v (deciding count n) st′ cl wt ≡ setDecisions ds (stateOf c l v n st cl wt)
+  unfolding stateOf openingOf any
+  told-state v =
+      let ch = t .rest in
+      simp (t .is, list-kept ch, line-kept ch, variables-kept ch, ch .same)
+
+  told-good : Good c l n st cl wt → Good c l (deciding count n) st′ cl wt
+  unfolding any
+  told-good g = good-kept (t .rest) g (search) refl refl refl refl refl (g .entries)
+
+  told-changes : ChangesOf c l (setDecisions ds) n st cl wt (deciding count n) st′
+  unfolding any
+  told-changes = record { good = told-good; hand = λ h. marked-same h (t .rest) refl refl; full = refl; runs = refl; is = told-state }
+
+-- ---- a literal is decided
+
+pub decide-free : {l : Limits} {d y : ℕ} {st : ℕ → List ℕ} {v : Value} (x : code.Literal) → Kept l d st → y ≡ (literalOf x) .variable
+    → (literalOf x) .variable < l .variables → v ≡ seen (evaluate (decisions d st) (literalOf x)) → v ≡ values.Undecided → Free l d y st
+decide-free x k e h f q = literal-free (literalOf x) k e (rw e h) f q
+
+abbrev pub newDecision : (x : ℕ) (b : Bool) (level : ℕ) → tracker.Decision
+newDecision x b level = record { variable = x; value = b; level = level; clause = 0 }
+
+module _ {l : Limits} {n : Counters} {x : Literal} {level : ℕ} {st st′ : ℕ → List ℕ} where
+  literal-carried : {m : Counters} → Changes l (decidedTo x level) n st m st′ → isFalsified (evaluate (decisions (n .decisions) st) x) ≡ false
+      → DecidesLiteral l x level n st (Carried m) st′
+  literal-carried {m} h e =
+      record {
+        carried = λ m′ q. let p : m′ ≡ m = cc in rw p (h, e);
+        refused = λ f q. absurd (not-one (cc));
+      }
+
+module _ {l : Limits} {n : Counters} (x : code.Literal) {level : ℕ} {st : ℕ → List ℕ} {v : Value}
+    (e : v ≡ seen (evaluate (decisions (n .decisions) st) (literalOf x))) where
+  pub decided-again : v ≡ values.True → DecidesLiteral l (literalOf x) level n st (Carried n) st
+  decided-again q =
+      literal-carried (record { is = λ c cl wt. changes-as unchanged (idle c cl wt) }) (sym (falsified-true (decisions (n .decisions) st) (literalOf x) e q))
+    where
+      idle : (c : Catalogue) (cl wt : List ℕ) (w : Reading) → stateOf c l w n st cl wt ≡ decidedTo (literalOf x) level (stateOf c l w n st cl wt)
+      idle c cl wt w = unfold decidedTo when stateOf in rw (undecided-seen, ← e, q)
+
+  pub decided-against : v ≡ values.False → DecidesLiteral l (literalOf x) level n st (Refused DecidedAgainst) st
+  decided-against q =
+      record {
+        carried = λ m p. absurd (not-one (cc));
+        refused = λ f p. let z : f ≡ DecidedAgainst = cc in (z, sym (falsified-false (decisions (n .decisions) st) (literalOf x) e q));
+      }
+
+  pub decided-new : v ≡ values.Undecided → {y : ℕ} {b : Bool} → y ≡ (literalOf x) .variable → b ≡ (literalOf x) .positive
+      → {count : ℕ} {st′ : ℕ → List ℕ} → Told l count (snoc (decisions (n .decisions) st) (decisionOf (newDecision y b level))) st st′
+      → DecidesLiteral l (literalOf x) level n st (Carried (deciding count n)) st′
+  decided-new q {y} {b} ey eb t =
+      literal-carried (record { is = λ c cl wt. changes-as (told-changes n t c cl wt) (new c cl wt) })
+      (sym (falsified-undecided (decisions (n .decisions) st) (literalOf x) e q))
+    where
+      new : (c : Catalogue) (cl wt : List ℕ) (w : Reading)
+          → setDecisions (snoc (decisions (n .decisions) st) (decisionOf (newDecision y b level))) (stateOf c l w n st cl wt)
+          ≡ decidedTo (literalOf x) level (stateOf c l w n st cl wt)
+      new c cl wt w =
+          unfold decidedTo when stateOf decisionOf decisionBy clauseBy in
+          rw (reads-undecided (decisions (n .decisions) st) (literalOf x) v e q, ey, eb)
+
+-- ---- the command decide: its refusals in the order 4, 5, 9, 8
+
+pub literal-below : (y : code.Literal) (b : Bool) {x v k : ℕ} → literalOf y ≡ signed x b → x < v → v ≤ k → (literalOf y) .variable < k
+unfolding signed
+literal-below y b e h i = rw e (omega arith)
+
+-- of any state
+module _ (k : rules.Limits) (c : Catalogue) (x value level : ℕ) (s : State) where
+  no-variable : leb (length (s .variables)) x ≡ true → carryOut k c (Command.decide x value level) s ≡ refuse (refusalOf (MissingVariable 1))
+  unfolding carryOut commandRefusals unlessAny refusalOf
+  no-variable e = rw e
+
+  module _ (e : leb (length (s .variables)) x ≡ false) where
+    no-value : ltb 1 value ≡ true → carryOut k c (Command.decide x value level) s ≡ refuse (refusalOf (Contradicts OtherValue))
+    unfolding carryOut commandRefusals unlessAny refusalOf contradictionOf
+    no-value f = rw (e, f)
+
+    module _ (f : ltb 1 value ≡ false) where
+      is-low : tooLow level s ≡ true → carryOut k c (Command.decide x value level) s ≡ refuse (refusalOf LevelLow)
+      unfolding carryOut commandRefusals unlessAny refusalOf
+      is-low g = rw (e, f, g)
+
+      is-false : tooLow level s ≡ false → isFalsified (evaluate (s .decisions) (signed x (eqb value 1))) ≡ true
+          → carryOut k c (Command.decide x value level) s ≡ refuse (refusalOf DecidedAgainst)
+      unfolding carryOut commandRefusals unlessAny refusalOf signed
+      is-false g h = rw (e, f, g, h)
+
+      passes : tooLow level s ≡ false → isFalsified (evaluate (s .decisions) (signed x (eqb value 1))) ≡ false
+          → carryOut k c (Command.decide x value level) s ≡ ok (decidedTo (signed x (eqb value 1)) level s)
+      unfolding carryOut commandRefusals carriedOut unlessAny decide decidedTo signed
+      passes g h = rw (e, f, g, h)
+
+-- of the state that the areas hold
+module _ (l : Limits) (n : Counters) (st : ℕ → List ℕ) (x value level : ℕ) where
+  module _ (c : Catalogue) (cl wt : List ℕ) (v : Reading) where
+    counted : leb (length (stateOf c l v n st cl wt .variables)) x ≡ leb (n .variables) x
+    unfolding stateOf
+    counted = rw (variables.count (n .variables) st)
+
+    decisions-are : decisions (n .decisions) st ≡ stateOf c l v n st cl wt .decisions
+    unfolding stateOf
+    decisions-are = refl
+
+  pub decide-missing : n .variables ≤ x → PlainOutcomes l (Command.decide x value level) n st (Refused (MissingVariable 1)) st
+  decide-missing h = record { is = λ c. outcome-refused (λ cl wt v. no-variable (limitsOf l) c x value level _ (counted c cl wt v ∙ le-leb (n .variables) x h)) }
+
+  module _ (h : x < n .variables) where
+    there : (c : Catalogue) (cl wt : List ℕ) (v : Reading) → leb (length (stateOf c l v n st cl wt .variables)) x ≡ false
+    there c cl wt v = counted c cl wt v ∙ lt-leb (n .variables) x h
+
+    pub decide-other : 1 < value → PlainOutcomes l (Command.decide x value level) n st (Refused (Contradicts OtherValue)) st
+    decide-other a = record { is = λ c. outcome-refused (λ cl wt v. no-value (limitsOf l) c x value level _ (there c cl wt v) (lt-ltb 1 value a)) }
+
+    module _ (a : value ≤ 1) {low : Bool} (e : low ≡ (eqb level 0 || ltb level (lastLevel (decisions (n .decisions) st)))) where
+      pub decide-low : low ≡ true → PlainOutcomes l (Command.decide x value level) n st (Refused LevelLow) st
+      decide-low q =
+          record { is = λ c. outcome-refused (λ cl wt v. is-low (limitsOf l) c x value level _ (there c cl wt v) (le-ltb 1 value a) (low-is c l v n st cl wt level e ∙ q)) }
+
+      pub decide-literal : low ≡ false → (y : code.Literal) → literalOf y ≡ signed x (eqb value 1) → {r : Outcome} {st′ : ℕ → List ℕ}
+          → DecidesLiteral l (literalOf y) level n st r st′ → PlainOutcomes l (Command.decide x value level) n st r st′
+      decide-literal q y p {r} {st′} d = record { is = λ c. record { carried = λ m z cl wt. done c m z cl wt; refused = λ f z cl wt v. not-done c f z cl wt v } }
+        where
+          d′ : DecidesLiteral l (signed x (eqb value 1)) level n st r st′
+          d′ = rw p at d
+
+          done : (c : Catalogue) (m : Counters) → r ≡ Carried m → (cl wt : List ℕ) → CarriedOut c l (Command.decide x value level) n st cl wt m st′
+          done c m z cl wt =
+              let k = d′ .carried m z in
+              carried-out (k .0 .is c cl wt)
+              (λ v. passes (limitsOf l) c x value level _ (there c cl wt v) (le-ltb 1 value a) (low-is c l v n st cl wt level e ∙ q) (rw (decisions-are c cl wt v) at (k .1)))
+
+          not-done : (c : Catalogue) (f : Refusal) → r ≡ Refused f → (cl wt : List ℕ) (v : Reading)
+              → carryOut (limitsOf l) c (Command.decide x value level) (stateOf c l v n st cl wt) ≡ refuse (refusalOf f)
+          not-done c f z cl wt v =
+              let k = d′ .refused f z in
+              rw (k .0)
+              (is-false (limitsOf l) c x value level _ (there c cl wt v) (le-ltb 1 value a) (low-is c l v n st cl wt level e ∙ q) (rw (decisions-are c cl wt v) at (k .1)))
+
+-- ---- the command undo: it has no refusals
+
+pub undone : {l : Limits} {n : Counters} {level count : ℕ} {st st′ : ℕ → List ℕ} → Told l count (upToLevel level (decisions (n .decisions) st)) st st′
+    → PlainOutcomes l (Command.undo level) n st (Carried (deciding count n)) st′
+undone {l} {n} {level} {count} {st} {st′} t =
+    record { is = λ c. outcome-carried (record { is = λ c cl wt. told-changes n t c cl wt }) (λ cl wt v. unfold carryOut commandRefusals carriedOut unlessAny stateOf in refl) }

@@ -1,0 +1,4 @@
+pub mod Outcomes
+pub mod Adding
+pub mod Drawing
+pub mod Deciding
