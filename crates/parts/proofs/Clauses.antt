@@ -100,7 +100,11 @@ module _ {c : Catalogue} {l : Limits} {r : rules.Run} {which : Parts} {a : Addin
       → AddedSoFar c l r which a count n₀ s₀ cl₀ n₀ s₀ cl₀ 0
   adding-start g h =
       record {
-        within = omega arith; same = refl; same-clauses = refl; good = g; known = h;
+        within = omega arith;
+        same = refl;
+        same-clauses = refl;
+        good = g;
+        known = h;
         did = clauses-none (λ v s. fold-none (selectedOf c which) (addingOf r a) s);
       }
 

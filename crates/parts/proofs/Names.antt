@@ -84,7 +84,6 @@ module _ {c : Catalogue} {l : Limits} {n n′ : Counters} {st st′ : ℕ → Li
           → StateDid c l (λ v. when (selectedOf c which p) (namingOf c naming p)) n st n′ st′
       naming-selected i d = state-same d (λ v s. unfold when in rw (← e, i))
 
-
 pub naming-other : {c : Catalogue} {l : Limits} {n : Counters} {st : ℕ → List ℕ} (which : Parts) (naming : Naming) (p : ℕ) {b : Bool} → b ≡ selectedOf c which p → b ≡ false
     → StateDid c l (λ v. when (selectedOf c which p) (namingOf c naming p)) n st n st
 naming-other which naming p e i = state-none (λ v s. unfold when in rw (← e, i))
