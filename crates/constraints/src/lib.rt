@@ -39,7 +39,19 @@ pub fn owner_origin(o: u16) -> Origin
 }
 
 // Under 4 non-matching parts: one clause each. The owner, by its number o, has its variable.
-fn constrain_few(marks: &[u8], unions: &[u8], t: &[u8], k: Counts, s: &mut [u8], clauses: &mut [u8], l: Limits, n: Counters, run: Run, r: usize, o: u16) -> Counters
+fn constrain_few(
+    marks: &[u8],
+    unions: &[u8],
+    t: &[u8],
+    k: Counts,
+    s: &mut [u8],
+    clauses: &mut [u8],
+    l: Limits,
+    n: Counters,
+    run: Run,
+    r: usize,
+    o: u16,
+) -> Counters
     requires { ⌜ Kept k (now marks) (now unions) (now t) ⌝ }
     requires { ⌜ Fits l (length (now s)) ⌝ }
     requires { ⌜ Good (catalogue k (now marks) (now unions) (now t)) l n (held l (now s)) (now clauses) [] ⌝ }
@@ -48,13 +60,54 @@ fn constrain_few(marks: &[u8], unions: &[u8], t: &[u8], k: Counts, s: &mut [u8],
     requires { ⌜ Knows (n .full) (variables (n .variables) (held l (now s))) (chosen (ownerOf o)) ⌝ }
     ensures { λ m. ⌜ ClausesDid (catalogue k (now (marks .entry)) (now (unions .entry)) (now (t .entry))) l (λ v. constrainFew (catalogue k (now (marks .entry)) (now (unions .entry)) (now (t .entry))) (runOf run) (ownerOf o) r) n (held l (now (s .entry))) (now (clauses .entry)) m (held l (now (s .exit))) (now (clauses .exit)) ⌝ }
 {
-    let m = parts::name_each(marks, unions, t, k, s, l, n, Parts::Chosen { range: r, choice: Choice::NonMatching }, Naming::Variable);
+    let m = parts::name_each(
+        marks,
+        unions,
+        t,
+        k,
+        s,
+        l,
+        n,
+        Parts::Chosen {
+            range: r,
+            choice: Choice::NonMatching,
+        },
+        Naming::Variable,
+    );
     let x = opening::variable_of(s, l, m, owner_origin(o));
-    parts::add_each(marks, unions, t, k, s, clauses, l, m, run, Parts::Chosen { range: r, choice: Choice::NonMatching }, Adding::Constrains(x))
+    parts::add_each(
+        marks,
+        unions,
+        t,
+        k,
+        s,
+        clauses,
+        l,
+        m,
+        run,
+        Parts::Chosen {
+            range: r,
+            choice: Choice::NonMatching,
+        },
+        Adding::Constrains(x),
+    )
 }
 
 // From 4 on: a violation that is new has a clause for each part, and the owner one.
-fn add_violation(marks: &[u8], unions: &[u8], t: &[u8], k: Counts, s: &mut [u8], clauses: &mut [u8], l: Limits, n: Counters, run: Run, r: usize, o: u16, new: bool) -> Counters
+fn add_violation(
+    marks: &[u8],
+    unions: &[u8],
+    t: &[u8],
+    k: Counts,
+    s: &mut [u8],
+    clauses: &mut [u8],
+    l: Limits,
+    n: Counters,
+    run: Run,
+    r: usize,
+    o: u16,
+    new: bool,
+) -> Counters
     requires { ⌜ Kept k (now marks) (now unions) (now t) ⌝ }
     requires { ⌜ Fits l (length (now s)) ⌝ }
     requires { ⌜ Good (catalogue k (now marks) (now unions) (now t)) l n (held l (now s)) (now clauses) [] ⌝ }
@@ -67,13 +120,40 @@ fn add_violation(marks: &[u8], unions: &[u8], t: &[u8], k: Counts, s: &mut [u8],
     let y = opening::variable_of(s, l, n, variable_map::violation(r as u16));
     let x = opening::variable_of(s, l, n, owner_origin(o));
     if new {
-        let m = parts::add_each(marks, unions, t, k, s, clauses, l, n, run, Parts::Chosen { range: r, choice: Choice::NonMatching }, Adding::AuxOut(y));
+        let m = parts::add_each(
+            marks,
+            unions,
+            t,
+            k,
+            s,
+            clauses,
+            l,
+            n,
+            run,
+            Parts::Chosen {
+                range: r,
+                choice: Choice::NonMatching,
+            },
+            Adding::AuxOut(y),
+        );
         return clauses::add_aux_owner(s, clauses, l, m, run, x, y);
     }
     clauses::add_aux_owner(s, clauses, l, n, run, x, y)
 }
 
-fn constrain_many(marks: &[u8], unions: &[u8], t: &[u8], k: Counts, s: &mut [u8], clauses: &mut [u8], l: Limits, n: Counters, run: Run, r: usize, o: u16) -> Counters
+fn constrain_many(
+    marks: &[u8],
+    unions: &[u8],
+    t: &[u8],
+    k: Counts,
+    s: &mut [u8],
+    clauses: &mut [u8],
+    l: Limits,
+    n: Counters,
+    run: Run,
+    r: usize,
+    o: u16,
+) -> Counters
     requires { ⌜ Kept k (now marks) (now unions) (now t) ⌝ }
     requires { ⌜ Fits l (length (now s)) ⌝ }
     requires { ⌜ Good (catalogue k (now marks) (now unions) (now t)) l n (held l (now s)) (now clauses) [] ⌝ }
@@ -84,14 +164,38 @@ fn constrain_many(marks: &[u8], unions: &[u8], t: &[u8], k: Counts, s: &mut [u8]
 {
     let new = variable_map::variable(s, l, n.variables, variable_map::violation(r as u16)) == 0;
     let a = opening::name_variable(s, l, n, variable_map::violation(r as u16));
-    let b = parts::name_each(marks, unions, t, k, s, l, a, Parts::Chosen { range: r, choice: Choice::NonMatching }, Naming::Variable);
+    let b = parts::name_each(
+        marks,
+        unions,
+        t,
+        k,
+        s,
+        l,
+        a,
+        Parts::Chosen {
+            range: r,
+            choice: Choice::NonMatching,
+        },
+        Naming::Variable,
+    );
     if b.full {
         return b;
     }
     add_violation(marks, unions, t, k, s, clauses, l, b, run, r, o, new)
 }
 
-pub fn serve_constraint(marks: &[u8], unions: &[u8], t: &[u8], k: Counts, s: &mut [u8], clauses: &mut [u8], l: Limits, n: Counters, run: Run, i: usize) -> Counters
+pub fn serve_constraint(
+    marks: &[u8],
+    unions: &[u8],
+    t: &[u8],
+    k: Counts,
+    s: &mut [u8],
+    clauses: &mut [u8],
+    l: Limits,
+    n: Counters,
+    run: Run,
+    i: usize,
+) -> Counters
     requires { ⌜ Kept k (now marks) (now unions) (now t) ⌝ }
     requires { ⌜ WellFormed (catalogue k (now marks) (now unions) (now t)) ⌝ }
     requires { ⌜ Fits l (length (now s)) ⌝ }
