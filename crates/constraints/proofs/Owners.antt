@@ -1,14 +1,14 @@
 -- A constraint's owner and range, by the tables, and the owner's origin.
 use mathlib.Core.Path.{_≡_, refl, sym, _∙_, ap, subst}
 use mathlib.Core.Bool.{Bool, true, false}
-use mathlib.Core.List.{List, []}
-use Prim.Native.Nat.{ℕ, _<_, _≤_}
+use mathlib.Core.List.{List}
+use Prim.Native.Nat.{ℕ, _<_}
 use native.Mathlib.Omega.{arith}
 use lib.Dec.{eqb}
 use lib.ListN.{length, getD}
 use borrow.Author.Tests.{lt-ltb, eqb-false, ne-eqb}
 use Rattle.rules.specs.Catalogue as rules
-use Rattle.rules.specs.Catalogue.{Owner, root, part, Catalogue, noConstraint, constraintAt}
+use Rattle.rules.specs.Catalogue.{Owner, root, noConstraint, constraintAt}
 use Rattle.rules.specs.Variables.{Origin, chosen, violation, partOrigin}
 use Rattle.rules.proofs.WellFormed.{OwnerGiven, WellFormed}
 use Rattle.tables.specs.declared.Counts.{Counts}

@@ -4,15 +4,14 @@ use mathlib.Core.Bool.{Bool, true, false, not, _||_}
 use mathlib.Core.List.{List, [], _∷_, _++_, map}
 use Prim.Native.Nat.{ℕ, _<_, _≤_}
 use native.Mathlib.Omega.{arith}
-use lib.Dec.{ltb}
 use lib.ListN.{length, getD}
 use borrow.Author.Tests.{lt-ltb, le-ltb}
-use Rattle.rules.specs.Lists.{fold, when, listIf, snoc, unless}
+use Rattle.rules.specs.Lists.{fold, when, listIf}
 use Rattle.rules.specs.Clause.{Clause, constrains, auxOut, auxOwner}
 use Rattle.rules.specs.Catalogue.{Owner, root, part, Catalogue, noConstraint, constraintAt}
 use Rattle.rules.specs.Candidates.{nonMatching}
 use Rattle.rules.specs.Variables.{Origin, chosen, violation, key, sameKey, sameOrigin, known, variableOf, withVariable, withVariables, partOrigin, partVariable}
-use Rattle.rules.specs.Opening.{constraint, Opening, serve}
+use Rattle.rules.specs.Opening.{constraint, serve}
 use Rattle.rules.specs.Encoding.{few, served, constraintOrigins, taskOrigins, origins, constraintClauses, taskClauses, clauses}
 use Rattle.rules.specs.State.{State, Run, setVariables, emit}
 use Rattle.rules.specs.Run.{serveTask}
@@ -20,7 +19,6 @@ use Rattle.rules.proofs.Each.{unless-cases}
 use Rattle.rules.proofs.DistinctEnough.{fold-append}
 use Rattle.rules.proofs.ClauseByClause.{addClause, emit-one-by-one}
 use Rattle.rules.proofs.Capped.{addVariable}
-use Rattle.rules.proofs.Forgotten.{erased}
 use Rattle.tables.specs.declared.Counts.{Counts}
 use Rattle.tables.specs.declared.Constraint as code
 use Rattle.tables.specs.Tables.{tables, constraintIs}
@@ -32,8 +30,7 @@ use Rattle.variable_map.specs.Mapping.{originOf}
 use Rattle.variable_map.proofs.Places.{known-after}
 use Rattle.marked.specs.Marked.{ownerOf}
 use Rattle.encoder.specs.declared.Counters.{Counters}
-use Rattle.encoder.specs.Held.{Reading}
-use Rattle.encoder.specs.Did.{StateDid, ClausesDid, PlainDid}
+use Rattle.encoder.specs.Did.{ClausesDid, PlainDid}
 use Rattle.parts.specs.declared.Naming.the-variants.{Variable}
 use Rattle.parts.specs.declared.Adding.the-variants.{Constrains, AuxOut}
 use Rattle.parts.specs.Parts.{namingOf, clauseFor, addingOf}

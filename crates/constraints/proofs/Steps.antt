@@ -1,22 +1,20 @@
 -- A constraint's clauses, few or through a violation: a law for each way out.
-use mathlib.Core.Path.{_≡_, refl, sym, _∙_, ap}
+use mathlib.Core.Path.{_≡_, _∙_, ap}
 use mathlib.Core.Bool.{Bool, true, false, not}
-use mathlib.Core.List.{List, [], _∷_}
-use Prim.Native.Nat.{ℕ, _+_, _<_, _≤_}
+use mathlib.Core.List.{List, []}
+use Prim.Native.Nat.{ℕ, _+_, _<_}
 use native.Mathlib.Omega.{arith}
 use lib.Dec.{eqb}
-use lib.ListN.{length}
 use borrow.Author.Tests.{eq-eqb, ne-eqb}
 use Rattle.rules.specs.Lists.{fold, when}
 use Rattle.rules.specs.Clause.{auxOwner}
 use Rattle.rules.specs.Catalogue.{Owner, Catalogue}
 use Rattle.rules.specs.Candidates.{nonMatching}
-use Rattle.rules.specs.Variables.{Origin, chosen, violation, known, variableOf, withVariable}
+use Rattle.rules.specs.Variables.{Origin, chosen, violation, known, variableOf}
 use Rattle.rules.specs.State.{State}
 use Rattle.rules.specs.State as rules
 use Rattle.rules.proofs.Bools.{by-cases}
 use Rattle.rules.proofs.Places.{withVariable-known}
-use Rattle.rules.proofs.ClauseByClause.{addClause}
 use Rattle.rules.proofs.Capped.{addVariable}
 use Rattle.state.specs.declared.Limits.{Limits}
 use Rattle.variable_map.specs.declared.Origin as code
@@ -25,8 +23,8 @@ use Rattle.variable_map.proofs.Laws.{count}
 use Rattle.variable_map.proofs.Places.{place-known, place-unknown}
 use Rattle.encoder.specs.declared.Counters.{Counters}
 use Rattle.encoder.specs.declared.Run.{Run}
-use Rattle.encoder.specs.Held.{runOf, Reading, stateOf, Good}
-use Rattle.encoder.specs.Did.{Widens, Looked, Did, StateDid, ClausesDid, PlainDid}
+use Rattle.encoder.specs.Held.{runOf, Reading, stateOf}
+use Rattle.encoder.specs.Did.{Widens, Looked, StateDid, ClausesDid, PlainDid}
 use Rattle.encoder.proofs.Did.{widens-then, widens-fold, did-as, did-then, did-stop}
 use Rattle.encoder.proofs.Widening.{widens-when, addVariable-widens, addClause-widens}
 use Rattle.cache.specs.declared.Choice.the-variants.{NonMatching}
