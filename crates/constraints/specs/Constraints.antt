@@ -1,11 +1,13 @@
 -- A constraint's clauses, in the code's steps; the owner has its variable.
-use mathlib.Core.Bool.{Bool, not}
+use mathlib.Core.Path.{_≡_}
+use mathlib.Core.Bool.{Bool, true, false, not}
+use mathlib.Core.List.{List}
 use Prim.Native.Nat.{ℕ}
 use Rattle.rules.specs.Lists.{fold, when}
 use Rattle.rules.specs.Clause.{auxOwner}
 use Rattle.rules.specs.Catalogue.{Owner, Catalogue}
 use Rattle.rules.specs.Candidates.{nonMatching}
-use Rattle.rules.specs.Variables.{chosen, violation, known, variableOf}
+use Rattle.rules.specs.Variables.{Origin, chosen, violation, known, variableOf}
 use Rattle.rules.specs.State.{State, Run}
 use Rattle.rules.proofs.Capped.{addVariable}
 use Rattle.rules.proofs.ClauseByClause.{addClause}
@@ -27,3 +29,7 @@ module _ (c : Catalogue) (run : Run) (o : Owner) (r : ℕ) where
 
   unfoldable pub constrainMany : State → State
   constrainMany s = addViolation (not (known (s .variables) (violation r))) (fold (namingOf c Variable) (nonMatching c r) (addVariable (violation r) s))
+
+-- o has its variable, if it is not full
+pub record Knows (full : Bool) (vs : List Origin) (o : Origin) : Type 0 where
+  pub known : full ≡ false → known vs o ≡ true

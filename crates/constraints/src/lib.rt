@@ -16,7 +16,7 @@ ghost use lib.ListN.{length};
 ghost use Rattle.rules.specs.Candidates.{nonMatching};
 ghost use Rattle.rules.specs.Opening.{constraint};
 ghost use Rattle.rules.specs.Variables.{chosen, violation, known};
-ghost use Rattle.rules.proofs.WellFormed.{WellFormed, OwnerGiven};
+ghost use Rattle.rules.proofs.WellFormed.{WellFormed};
 ghost use Rattle.cache.specs.Areas.{catalogue};
 ghost use Rattle.catalogue.specs.Reading.{Kept};
 ghost use Rattle.state.specs.Layout.{held, Fits};
@@ -26,7 +26,7 @@ ghost use Rattle.encoder.specs.Held.{runOf, LongEnough, Good};
 ghost use Rattle.encoder.specs.Did.{ClausesDid};
 ghost use Rattle.parts.specs.Parts.{AllKnown};
 ghost use Rattle.owners.specs.Owners.{serving};
-ghost use Rattle.constraints.specs.Constraints.{constrainFew, addViolation, constrainMany};
+ghost use Rattle.constraints.specs.Constraints.{Knows, constrainFew, addViolation, constrainMany};
 
 // The variable of an owner: the root, or a part.
 pub fn owner_origin(o: u16) -> Origin
@@ -39,65 +39,163 @@ pub fn owner_origin(o: u16) -> Origin
 }
 
 // Under 4 non-matching parts: one clause each. The owner, by its number o, has its variable.
-fn constrain_few(marks: &[u8], unions: &[u8], t: &[u8], k: Counts, s: &mut [u8], clauses: &mut [u8], l: Limits, n: Counters, run: Run, r: usize, o: u16) -> Counters
+fn constrain_few(
+    marks: &[u8],
+    unions: &[u8],
+    t: &[u8],
+    k: Counts,
+    s: &mut [u8],
+    clauses: &mut [u8],
+    l: Limits,
+    n: Counters,
+    run: Run,
+    r: usize,
+    o: u16,
+) -> Counters
     requires { ⌜ Kept k (now marks) (now unions) (now t) ⌝ }
-    requires { ⌜ WellFormed (catalogue k (now marks) (now unions) (now t)) ⌝ }
     requires { ⌜ Fits l (length (now s)) ⌝ }
     requires { ⌜ Good (catalogue k (now marks) (now unions) (now t)) l n (held l (now s)) (now clauses) [] ⌝ }
     requires { ⌜ LongEnough l (length (now clauses)) 16384 ⌝ }
-    requires { ⌜ (0 < run .number) × (r < k .ranges) × (o < 1025) × OwnerGiven (catalogue k (now marks) (now unions) (now t)) (ownerOf o) ⌝ }
-    requires { ⌜ known (variables (n .variables) (held l (now s))) (chosen (ownerOf o)) ≡ true ⌝ }
+    requires { ⌜ (0 < run .number) × (r < k .ranges) × (o < 1025) ⌝ }
+    requires { ⌜ Knows (n .full) (variables (n .variables) (held l (now s))) (chosen (ownerOf o)) ⌝ }
     ensures { λ m. ⌜ ClausesDid (catalogue k (now (marks .entry)) (now (unions .entry)) (now (t .entry))) l (λ v. constrainFew (catalogue k (now (marks .entry)) (now (unions .entry)) (now (t .entry))) (runOf run) (ownerOf o) r) n (held l (now (s .entry))) (now (clauses .entry)) m (held l (now (s .exit))) (now (clauses .exit)) ⌝ }
 {
-    let m = parts::name_each(marks, unions, t, k, s, l, n, Parts::Chosen { range: r, choice: Choice::NonMatching }, Naming::Variable);
-    if m.full {
-        return m;
-    }
+    let m = parts::name_each(
+        marks,
+        unions,
+        t,
+        k,
+        s,
+        l,
+        n,
+        Parts::Chosen {
+            range: r,
+            choice: Choice::NonMatching,
+        },
+        Naming::Variable,
+    );
     let x = opening::variable_of(s, l, m, owner_origin(o));
-    parts::add_each(marks, unions, t, k, s, clauses, l, m, run, Parts::Chosen { range: r, choice: Choice::NonMatching }, Adding::Constrains(x))
+    parts::add_each(
+        marks,
+        unions,
+        t,
+        k,
+        s,
+        clauses,
+        l,
+        m,
+        run,
+        Parts::Chosen {
+            range: r,
+            choice: Choice::NonMatching,
+        },
+        Adding::Constrains(x),
+    )
 }
 
 // From 4 on: a violation that is new has a clause for each part, and the owner one.
-fn add_violation(marks: &[u8], unions: &[u8], t: &[u8], k: Counts, s: &mut [u8], clauses: &mut [u8], l: Limits, n: Counters, run: Run, r: usize, o: u16, new: bool) -> Counters
+fn add_violation(
+    marks: &[u8],
+    unions: &[u8],
+    t: &[u8],
+    k: Counts,
+    s: &mut [u8],
+    clauses: &mut [u8],
+    l: Limits,
+    n: Counters,
+    run: Run,
+    r: usize,
+    o: u16,
+    new: bool,
+) -> Counters
     requires { ⌜ Kept k (now marks) (now unions) (now t) ⌝ }
-    requires { ⌜ WellFormed (catalogue k (now marks) (now unions) (now t)) ⌝ }
     requires { ⌜ Fits l (length (now s)) ⌝ }
     requires { ⌜ Good (catalogue k (now marks) (now unions) (now t)) l n (held l (now s)) (now clauses) [] ⌝ }
     requires { ⌜ LongEnough l (length (now clauses)) 16384 ⌝ }
-    requires { ⌜ (0 < run .number) × (r < k .ranges) × (o < 1025) × OwnerGiven (catalogue k (now marks) (now unions) (now t)) (ownerOf o) ⌝ }
+    requires { ⌜ (0 < run .number) × (r < k .ranges) × (o < 1025) ⌝ }
     requires { ⌜ (known (variables (n .variables) (held l (now s))) (chosen (ownerOf o)) ≡ true) × (known (variables (n .variables) (held l (now s))) (violation r) ≡ true) ⌝ }
-    requires { ⌜ AllKnown (variables (n .variables) (held l (now s))) (nonMatching (catalogue k (now marks) (now unions) (now t)) r) ⌝ }
+    requires { ⌜ AllKnown (n .full) (variables (n .variables) (held l (now s))) (nonMatching (catalogue k (now marks) (now unions) (now t)) r) ⌝ }
     ensures { λ m. ⌜ ClausesDid (catalogue k (now (marks .entry)) (now (unions .entry)) (now (t .entry))) l (λ v. addViolation (catalogue k (now (marks .entry)) (now (unions .entry)) (now (t .entry))) (runOf run) (ownerOf o) r new) n (held l (now (s .entry))) (now (clauses .entry)) m (held l (now (s .exit))) (now (clauses .exit)) ⌝ }
 {
     let y = opening::variable_of(s, l, n, variable_map::violation(r as u16));
     let x = opening::variable_of(s, l, n, owner_origin(o));
     if new {
-        let m = parts::add_each(marks, unions, t, k, s, clauses, l, n, run, Parts::Chosen { range: r, choice: Choice::NonMatching }, Adding::AuxOut(y));
+        let m = parts::add_each(
+            marks,
+            unions,
+            t,
+            k,
+            s,
+            clauses,
+            l,
+            n,
+            run,
+            Parts::Chosen {
+                range: r,
+                choice: Choice::NonMatching,
+            },
+            Adding::AuxOut(y),
+        );
         return clauses::add_aux_owner(s, clauses, l, m, run, x, y);
     }
     clauses::add_aux_owner(s, clauses, l, n, run, x, y)
 }
 
-fn constrain_many(marks: &[u8], unions: &[u8], t: &[u8], k: Counts, s: &mut [u8], clauses: &mut [u8], l: Limits, n: Counters, run: Run, r: usize, o: u16) -> Counters
+fn constrain_many(
+    marks: &[u8],
+    unions: &[u8],
+    t: &[u8],
+    k: Counts,
+    s: &mut [u8],
+    clauses: &mut [u8],
+    l: Limits,
+    n: Counters,
+    run: Run,
+    r: usize,
+    o: u16,
+) -> Counters
     requires { ⌜ Kept k (now marks) (now unions) (now t) ⌝ }
-    requires { ⌜ WellFormed (catalogue k (now marks) (now unions) (now t)) ⌝ }
     requires { ⌜ Fits l (length (now s)) ⌝ }
     requires { ⌜ Good (catalogue k (now marks) (now unions) (now t)) l n (held l (now s)) (now clauses) [] ⌝ }
     requires { ⌜ LongEnough l (length (now clauses)) 16384 ⌝ }
-    requires { ⌜ (0 < run .number) × (r < k .ranges) × (o < 1025) × OwnerGiven (catalogue k (now marks) (now unions) (now t)) (ownerOf o) ⌝ }
-    requires { ⌜ known (variables (n .variables) (held l (now s))) (chosen (ownerOf o)) ≡ true ⌝ }
+    requires { ⌜ (0 < run .number) × (r < k .ranges) × (o < 1025) ⌝ }
+    requires { ⌜ Knows (n .full) (variables (n .variables) (held l (now s))) (chosen (ownerOf o)) ⌝ }
     ensures { λ m. ⌜ ClausesDid (catalogue k (now (marks .entry)) (now (unions .entry)) (now (t .entry))) l (λ v. constrainMany (catalogue k (now (marks .entry)) (now (unions .entry)) (now (t .entry))) (runOf run) (ownerOf o) r) n (held l (now (s .entry))) (now (clauses .entry)) m (held l (now (s .exit))) (now (clauses .exit)) ⌝ }
 {
     let new = variable_map::variable(s, l, n.variables, variable_map::violation(r as u16)) == 0;
     let a = opening::name_variable(s, l, n, variable_map::violation(r as u16));
-    let b = parts::name_each(marks, unions, t, k, s, l, a, Parts::Chosen { range: r, choice: Choice::NonMatching }, Naming::Variable);
+    let b = parts::name_each(
+        marks,
+        unions,
+        t,
+        k,
+        s,
+        l,
+        a,
+        Parts::Chosen {
+            range: r,
+            choice: Choice::NonMatching,
+        },
+        Naming::Variable,
+    );
     if b.full {
         return b;
     }
     add_violation(marks, unions, t, k, s, clauses, l, b, run, r, o, new)
 }
 
-pub fn serve_constraint(marks: &[u8], unions: &[u8], t: &[u8], k: Counts, s: &mut [u8], clauses: &mut [u8], l: Limits, n: Counters, run: Run, i: usize) -> Counters
+pub fn serve_constraint(
+    marks: &[u8],
+    unions: &[u8],
+    t: &[u8],
+    k: Counts,
+    s: &mut [u8],
+    clauses: &mut [u8],
+    l: Limits,
+    n: Counters,
+    run: Run,
+    i: usize,
+) -> Counters
     requires { ⌜ Kept k (now marks) (now unions) (now t) ⌝ }
     requires { ⌜ WellFormed (catalogue k (now marks) (now unions) (now t)) ⌝ }
     requires { ⌜ Fits l (length (now s)) ⌝ }
@@ -111,9 +209,6 @@ pub fn serve_constraint(marks: &[u8], unions: &[u8], t: &[u8], k: Counts, s: &mu
     let o = owners::owner_number(it.owner);
     let r = it.range as usize;
     let m = opening::name_variable(s, l, n, owner_origin(o));
-    if m.full {
-        return m;
-    }
     if cache::non_matching_count(marks, unions, t, k, r) < 4 {
         return constrain_few(marks, unions, t, k, s, clauses, l, m, run, r, o);
     }

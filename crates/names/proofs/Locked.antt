@@ -1,5 +1,5 @@
 -- The locked part of a name: it is looked for; with it there are the others.
-use mathlib.Core.Path.{_≡_, refl, sym, _∙_, ap}
+use mathlib.Core.Path.{_≡_, refl, sym, _∙_}
 use mathlib.Core.Bool.{Bool, true, false}
 use mathlib.Core.List.{List, [], _∷_, _++_}
 use Prim.Native.Nat.{ℕ, suc, _+_, _-_, _<_, _≤_}
@@ -7,7 +7,7 @@ use native.Mathlib.Numerals.{add-one}
 use native.Mathlib.Omega.{arith}
 use lib.ListN.{length}
 use Rattle.rules.specs.Lists.{filter, fold, upTo}
-use Rattle.rules.specs.Catalogue.{Catalogue, partAt}
+use Rattle.rules.specs.Catalogue.{Catalogue}
 use Rattle.rules.specs.Candidates.{partsOf, lockedPart, others, lockedOut}
 use Rattle.rules.specs.State as rules
 use Rattle.rules.proofs.ListLaws.{All, filter-all, upTo-below}
@@ -17,7 +17,6 @@ use Rattle.cache.specs.Areas.{catalogue}
 use Rattle.cache.proofs.Laws.{parts-held}
 use Rattle.state.specs.declared.Limits.{Limits}
 use Rattle.encoder.specs.declared.Counters.{Counters}
-use Rattle.encoder.specs.Held.{Reading}
 use Rattle.encoder.specs.Did.{StateDid, ClausesDid}
 use Rattle.parts.specs.declared.Parts.the-variants.{Locked, Others}
 use Rattle.parts.specs.declared.Naming.the-variants.{Variable}

@@ -1,19 +1,19 @@
 -- A name's task: what its steps do together.
 use mathlib.Core.Path.{_≡_, refl, sym, _∙_, ap}
 use mathlib.Core.Bool.{Bool, true, false}
-use mathlib.Core.List.{List, [], _∷_, _++_, map, append-assoc}
-use Prim.Native.Nat.{ℕ, _<_}
+use mathlib.Core.List.{List, _++_, map, append-assoc}
+use Prim.Native.Nat.{ℕ}
 use lib.ListN.{getD}
 use Rattle.rules.specs.Lists.{fold, when}
 use Rattle.rules.specs.Clause.{lock, excluded, exclusion}
 use Rattle.rules.specs.Catalogue.{Catalogue}
 use Rattle.rules.specs.Candidates.{lockedPart, lockedOut, excludedParts}
 use Rattle.rules.specs.Variables.{Origin, partOrigin, partVariable, withVariables}
-use Rattle.rules.specs.Opening.{name, Opening, setSeveral, serveName, serve}
+use Rattle.rules.specs.Opening.{name, Opening, serveName, serve}
 use Rattle.rules.specs.Encoding.{served, taskOrigins, origins, taskClauses, clauses}
-use Rattle.rules.specs.State.{State, Run, setVariables, setOpening, emit}
+use Rattle.rules.specs.State.{State, Run, setVariables, setOpening}
 use Rattle.rules.specs.Run.{serveTask}
-use Rattle.rules.proofs.Each.{Each, each-right}
+use Rattle.rules.proofs.Each.{each-right}
 use Rattle.rules.proofs.DistinctEnough.{fold-append}
 use Rattle.rules.proofs.ClauseByClause.{addClause, emit-one-by-one}
 use Rattle.rules.proofs.Forgotten.{when-commutes, erased}
@@ -24,14 +24,13 @@ use Rattle.cache.proofs.Laws.{several-held}
 use Rattle.state.specs.declared.Limits.{Limits}
 use Rattle.variable_map.specs.Mapping.{variables}
 use Rattle.encoder.specs.declared.Counters.{Counters}
-use Rattle.encoder.specs.Held.{Reading, Good}
 use Rattle.encoder.specs.Did.{onOpening, withSeveral, StateDid, ClausesDid, PlainDid}
 use Rattle.parts.specs.declared.Parts.the-variants.{Excluded}
 use Rattle.parts.specs.declared.Naming.the-variants.{Variable}
 use Rattle.parts.specs.declared.Adding.the-variants as Adding
 use Rattle.parts.specs.Parts.{partsFor, namingOf, clauseFor, addingOf, AllKnown, GoodAlone}
 use Rattle.parts.proofs.Selecting.{excluded-parts}
-use Rattle.parts.proofs.Steps.{state-same, state-none, state-then, clauses-same, clauses-then, state-then-clauses, good-alone, alone-after, known-after}
+use Rattle.parts.proofs.Steps.{state-same, state-none, state-then, clauses-same, clauses-then, state-then-clauses, alone-after, known-after}
 use Rattle.parts.proofs.Names.{named-known}
 use Rattle.parts.proofs.Clauses.{adds-are, adds-leave}
 use Rattle.parts.proofs.Serving.{names-are, task-served}

@@ -42,7 +42,16 @@ fn locked_part(marks: &[u8], unions: &[u8], t: &[u8], k: Counts, name: u16) -> u
     k.parts
 }
 
-fn serve_several(marks: &[u8], unions: &[u8], t: &[u8], k: Counts, s: &mut [u8], l: Limits, n: Counters, name: u16) -> Counters
+fn serve_several(
+    marks: &[u8],
+    unions: &[u8],
+    t: &[u8],
+    k: Counts,
+    s: &mut [u8],
+    l: Limits,
+    n: Counters,
+    name: u16,
+) -> Counters
     requires { ⌜ Kept k (now marks) (now unions) (now t) ⌝ }
     requires { ⌜ Fits l (length (now s)) ⌝ }
     requires { ⌜ GoodAlone (catalogue k (now marks) (now unions) (now t)) l n (held l (now s)) ⌝ }
@@ -55,7 +64,17 @@ fn serve_several(marks: &[u8], unions: &[u8], t: &[u8], k: Counts, s: &mut [u8],
 }
 
 // If there is a locked part, it and then the others get their variables.
-fn name_locked(marks: &[u8], unions: &[u8], t: &[u8], k: Counts, s: &mut [u8], l: Limits, n: Counters, name: u16, locked: usize) -> Counters
+fn name_locked(
+    marks: &[u8],
+    unions: &[u8],
+    t: &[u8],
+    k: Counts,
+    s: &mut [u8],
+    l: Limits,
+    n: Counters,
+    name: u16,
+    locked: usize,
+) -> Counters
     requires { ⌜ Kept k (now marks) (now unions) (now t) ⌝ }
     requires { ⌜ Fits l (length (now s)) ⌝ }
     requires { ⌜ GoodAlone (catalogue k (now marks) (now unions) (now t)) l n (held l (now s)) ⌝ }
@@ -63,14 +82,44 @@ fn name_locked(marks: &[u8], unions: &[u8], t: &[u8], k: Counts, s: &mut [u8], l
     ensures { λ m. ⌜ StateDid (catalogue k (now (marks .entry)) (now (unions .entry)) (now (t .entry))) l (λ v. fold (namingOf (catalogue k (now (marks .entry)) (now (unions .entry)) (now (t .entry))) Variable) (lockedPart (catalogue k (now (marks .entry)) (now (unions .entry)) (now (t .entry))) name ++ lockedOut (catalogue k (now (marks .entry)) (now (unions .entry)) (now (t .entry))) name)) n (held l (now (s .entry))) m (held l (now (s .exit))) ⌝ }
 {
     if locked < k.parts {
-        let m = parts::name_each(marks, unions, t, k, s, l, n, Parts::Locked(name), Naming::Variable);
-        return parts::name_each(marks, unions, t, k, s, l, m, Parts::Others { name, locked }, Naming::Variable);
+        let m = parts::name_each(
+            marks,
+            unions,
+            t,
+            k,
+            s,
+            l,
+            n,
+            Parts::Locked(name),
+            Naming::Variable,
+        );
+        return parts::name_each(
+            marks,
+            unions,
+            t,
+            k,
+            s,
+            l,
+            m,
+            Parts::Others { name, locked },
+            Naming::Variable,
+        );
     }
     n
 }
 
 // The locked part, the others and the excluded parts get their variables.
-fn name_parts(marks: &[u8], unions: &[u8], t: &[u8], k: Counts, s: &mut [u8], l: Limits, n: Counters, name: u16, locked: usize) -> Counters
+fn name_parts(
+    marks: &[u8],
+    unions: &[u8],
+    t: &[u8],
+    k: Counts,
+    s: &mut [u8],
+    l: Limits,
+    n: Counters,
+    name: u16,
+    locked: usize,
+) -> Counters
     requires { ⌜ Kept k (now marks) (now unions) (now t) ⌝ }
     requires { ⌜ Fits l (length (now s)) ⌝ }
     requires { ⌜ GoodAlone (catalogue k (now marks) (now unions) (now t)) l n (held l (now s)) ⌝ }
@@ -79,11 +128,33 @@ fn name_parts(marks: &[u8], unions: &[u8], t: &[u8], k: Counts, s: &mut [u8], l:
 {
     let a = serve_several(marks, unions, t, k, s, l, n, name);
     let b = name_locked(marks, unions, t, k, s, l, a, name, locked);
-    parts::name_each(marks, unions, t, k, s, l, b, Parts::Excluded(name), Naming::Variable)
+    parts::name_each(
+        marks,
+        unions,
+        t,
+        k,
+        s,
+        l,
+        b,
+        Parts::Excluded(name),
+        Naming::Variable,
+    )
 }
 
 // If there is a locked part, the others are locked out.
-fn lock_others(marks: &[u8], unions: &[u8], t: &[u8], k: Counts, s: &mut [u8], clauses: &mut [u8], l: Limits, n: Counters, r: Run, name: u16, locked: usize) -> Counters
+fn lock_others(
+    marks: &[u8],
+    unions: &[u8],
+    t: &[u8],
+    k: Counts,
+    s: &mut [u8],
+    clauses: &mut [u8],
+    l: Limits,
+    n: Counters,
+    r: Run,
+    name: u16,
+    locked: usize,
+) -> Counters
     requires { ⌜ Kept k (now marks) (now unions) (now t) ⌝ }
     requires { ⌜ Fits l (length (now s)) ⌝ }
     requires { ⌜ Good (catalogue k (now marks) (now unions) (now t)) l n (held l (now s)) (now clauses) [] ⌝ }
@@ -94,13 +165,37 @@ fn lock_others(marks: &[u8], unions: &[u8], t: &[u8], k: Counts, s: &mut [u8], c
     ensures { λ m. ⌜ ClausesDid (catalogue k (now (marks .entry)) (now (unions .entry)) (now (t .entry))) l (λ v. fold (addingOf (runOf r) Adding.Lock) (lockedOut (catalogue k (now (marks .entry)) (now (unions .entry)) (now (t .entry))) name)) n (held l (now (s .entry))) (now (clauses .entry)) m (held l (now (s .exit))) (now (clauses .exit)) ⌝ }
 {
     if locked < k.parts {
-        return parts::add_each(marks, unions, t, k, s, clauses, l, n, r, Parts::Others { name, locked }, Adding::Lock);
+        return parts::add_each(
+            marks,
+            unions,
+            t,
+            k,
+            s,
+            clauses,
+            l,
+            n,
+            r,
+            Parts::Others { name, locked },
+            Adding::Lock,
+        );
     }
     n
 }
 
 // The clauses of a name whose parts have their variables.
-fn add_clauses(marks: &[u8], unions: &[u8], t: &[u8], k: Counts, s: &mut [u8], clauses: &mut [u8], l: Limits, n: Counters, r: Run, name: u16, locked: usize) -> Counters
+fn add_clauses(
+    marks: &[u8],
+    unions: &[u8],
+    t: &[u8],
+    k: Counts,
+    s: &mut [u8],
+    clauses: &mut [u8],
+    l: Limits,
+    n: Counters,
+    r: Run,
+    name: u16,
+    locked: usize,
+) -> Counters
     requires { ⌜ Kept k (now marks) (now unions) (now t) ⌝ }
     requires { ⌜ Fits l (length (now s)) ⌝ }
     requires { ⌜ Good (catalogue k (now marks) (now unions) (now t)) l n (held l (now s)) (now clauses) [] ⌝ }
@@ -112,10 +207,33 @@ fn add_clauses(marks: &[u8], unions: &[u8], t: &[u8], k: Counts, s: &mut [u8], c
     ensures { λ m. ⌜ ClausesDid (catalogue k (now (marks .entry)) (now (unions .entry)) (now (t .entry))) l (λ v. addClauses (catalogue k (now (marks .entry)) (now (unions .entry)) (now (t .entry))) (runOf r) name) n (held l (now (s .entry))) (now (clauses .entry)) m (held l (now (s .exit))) (now (clauses .exit)) ⌝ }
 {
     let m = lock_others(marks, unions, t, k, s, clauses, l, n, r, name, locked);
-    parts::add_each(marks, unions, t, k, s, clauses, l, m, r, Parts::Excluded(name), Adding::Excluded)
+    parts::add_each(
+        marks,
+        unions,
+        t,
+        k,
+        s,
+        clauses,
+        l,
+        m,
+        r,
+        Parts::Excluded(name),
+        Adding::Excluded,
+    )
 }
 
-pub fn serve_name(marks: &[u8], unions: &[u8], t: &[u8], k: Counts, s: &mut [u8], clauses: &mut [u8], l: Limits, n: Counters, r: Run, name: u16) -> Counters
+pub fn serve_name(
+    marks: &[u8],
+    unions: &[u8],
+    t: &[u8],
+    k: Counts,
+    s: &mut [u8],
+    clauses: &mut [u8],
+    l: Limits,
+    n: Counters,
+    r: Run,
+    name: u16,
+) -> Counters
     requires { ⌜ Kept k (now marks) (now unions) (now t) ⌝ }
     requires { ⌜ WellFormed (catalogue k (now marks) (now unions) (now t)) ⌝ }
     requires { ⌜ Fits l (length (now s)) ⌝ }

@@ -1,5 +1,5 @@
 -- A clause is added for a part that has a variable, or for each of these parts.
-use mathlib.Core.Path.{_≡_, refl, sym, _∙_, ap}
+use mathlib.Core.Path.{_≡_, refl, _∙_, ap}
 use mathlib.Core.Bool.{Bool, true, false}
 use mathlib.Core.List.{List, [], _∷_, map}
 use Prim.Native.Nat.{ℕ, _+_, _<_, _≤_}
@@ -25,15 +25,15 @@ use Rattle.variable_map.specs.declared.Origin as code
 use Rattle.variable_map.specs.Mapping.{originOf, variables}
 use Rattle.encoder.specs.declared.Counters.{Counters}
 use Rattle.encoder.specs.declared.Run.{Run}
-use Rattle.encoder.specs.Held.{runOf, Reading, stateOf, Good}
-use Rattle.encoder.specs.Did.{Looked, Did, ClausesDid}
+use Rattle.encoder.specs.Held.{runOf, stateOf, Good}
+use Rattle.encoder.specs.Did.{Looked, ClausesDid}
 use Rattle.encoder.proofs.Did.{did-as}
 use Rattle.encoder.proofs.Widening.{addClause-widens}
 use Rattle.clauses.specs.Adding.{reasonFor, Adds}
 use Rattle.parts.specs.declared.Parts.{Parts}
 use Rattle.parts.specs.declared.Adding.{Adding}
 use Rattle.parts.specs.declared.Adding.the-variants as Adding
-use Rattle.parts.specs.Parts.{selectedOf, partsFor, clauseFor, addingOf, Settable, CanAdd, AllKnown}
+use Rattle.parts.specs.Parts.{selectedOf, partsFor, clauseFor, addingOf, CanAdd, AllKnown}
 use Rattle.parts.proofs.Lists.{fold-none, fold-more}
 use Rattle.parts.proofs.Steps.{clauses-same, clauses-none, clauses-then, good-later, known-later}
 
@@ -100,7 +100,11 @@ module _ {c : Catalogue} {l : Limits} {r : rules.Run} {which : Parts} {a : Addin
       → AddedSoFar c l r which a count n₀ s₀ cl₀ n₀ s₀ cl₀ 0
   adding-start g h =
       record {
-        within = omega arith; same = refl; same-clauses = refl; good = g; known = h;
+        within = omega arith;
+        same = refl;
+        same-clauses = refl;
+        good = g;
+        known = h;
         did = clauses-none (λ v s. fold-none (selectedOf c which) (addingOf r a) s);
       }
 

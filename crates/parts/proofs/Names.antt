@@ -1,7 +1,7 @@
 -- A part is named, or each of these parts.
-use mathlib.Core.Path.{_≡_, refl, sym, _∙_, ap}
+use mathlib.Core.Path.{_≡_, refl, _∙_}
 use mathlib.Core.Bool.{Bool, true, false}
-use mathlib.Core.List.{List, [], _∷_}
+use mathlib.Core.List.{List, []}
 use Prim.Native.Nat.{ℕ, _+_, _<_, _≤_}
 use native.Mathlib.Omega.{arith}
 use lib.ListN.{length, getD}
@@ -28,7 +28,7 @@ use Rattle.marked.specs.Marked.{ownerOf, Marked}
 use Rattle.marked.proofs.Owners.{part-is}
 use Rattle.encoder.specs.declared.Counters.{Counters}
 use Rattle.encoder.specs.Held.{Reading, stateOf}
-use Rattle.encoder.specs.Did.{onOpening, Did, StateDid, PlainDid}
+use Rattle.encoder.specs.Did.{onOpening, StateDid, PlainDid}
 use Rattle.parts.specs.declared.Parts.{Parts}
 use Rattle.parts.specs.declared.Naming.{Naming}
 use Rattle.parts.specs.declared.Naming.the-variants.{Variable, Tracked, Candidate}
@@ -83,7 +83,6 @@ module _ {c : Catalogue} {l : Limits} {n n′ : Counters} {st st′ : ℕ → Li
       pub naming-selected : b ≡ true → StateDid c l (λ v. namingOf c naming p) n st n′ st′
           → StateDid c l (λ v. when (selectedOf c which p) (namingOf c naming p)) n st n′ st′
       naming-selected i d = state-same d (λ v s. unfold when in rw (← e, i))
-
 
 pub naming-other : {c : Catalogue} {l : Limits} {n : Counters} {st : ℕ → List ℕ} (which : Parts) (naming : Naming) (p : ℕ) {b : Bool} → b ≡ selectedOf c which p → b ≡ false
     → StateDid c l (λ v. when (selectedOf c which p) (namingOf c naming p)) n st n st

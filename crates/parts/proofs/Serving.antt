@@ -1,11 +1,11 @@
 -- For callers: a task's event by steps that name parts and add clauses.
 use mathlib.Core.Path.{_≡_, refl, sym, _∙_, ap}
 use mathlib.Core.Bool.{Bool}
-use mathlib.Core.List.{List, [], _∷_, map}
+use mathlib.Core.List.{List, map}
 use Prim.Native.Nat.{ℕ}
 use Rattle.rules.specs.Lists.{fold}
 use Rattle.rules.specs.Catalogue.{Catalogue}
-use Rattle.rules.specs.Variables.{Origin, withVariables, partOrigin}
+use Rattle.rules.specs.Variables.{withVariables, partOrigin}
 use Rattle.rules.specs.Opening.{Task, Opening, serve}
 use Rattle.rules.specs.Encoding.{served}
 use Rattle.rules.specs.State.{State, setOpening, setVariables, decidedTrue, Run, emit}
@@ -16,7 +16,7 @@ use Rattle.rules.proofs.Forgotten.{erased, forget, emit-forgets}
 use Rattle.state.specs.declared.Limits.{Limits}
 use Rattle.encoder.specs.declared.Counters.{Counters}
 use Rattle.encoder.specs.Held.{Reading, openingOf, stateOf}
-use Rattle.encoder.specs.Did.{Widens, Did, ClausesDid}
+use Rattle.encoder.specs.Did.{Widens, ClausesDid}
 use Rattle.encoder.proofs.Did.{did-as}
 use Rattle.parts.specs.declared.Naming.the-variants.{Variable}
 use Rattle.parts.specs.Parts.{namingOf}

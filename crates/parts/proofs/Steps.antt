@@ -1,13 +1,13 @@
 -- For callers too: steps of the state area, and of it and the clauses', one after another; what they keep.
-use mathlib.Core.Path.{_≡_, refl, sym, _∙_, ap, subst}
-use mathlib.Core.Bool.{Bool, true, false, true≢false}
-use mathlib.Core.List.{List, [], _∷_}
+use mathlib.Core.Path.{_≡_, sym, _∙_, ap, subst}
+use mathlib.Core.Bool.{true, false, true≢false}
+use mathlib.Core.List.{List, []}
 use Prim.Native.Nat.{ℕ}
 use Rattle.rules.specs.Catalogue.{Catalogue}
 use Rattle.rules.specs.Variables.{Origin, known, partOrigin}
 use Rattle.rules.specs.State.{State}
 use Rattle.rules.proofs.Bools.{by-cases}
-use Rattle.rules.proofs.Each.{Each, each-imp}
+use Rattle.rules.proofs.Each.{each-imp}
 use Rattle.rules.proofs.Grows.{Prefix}
 use Rattle.rules.proofs.Places.{keeps-variable}
 use Rattle.state.specs.declared.Limits.{Limits}
@@ -15,7 +15,7 @@ use Rattle.state.specs.Layout.{Fits}
 use Rattle.variable_map.specs.Mapping.{variables}
 use Rattle.encoder.specs.declared.Counters.{Counters}
 use Rattle.encoder.specs.Held.{Reading, stateOf, Good, LongEnough}
-use Rattle.encoder.specs.Did.{Widens, Did, StateDid, ClausesDid, PlainDid}
+use Rattle.encoder.specs.Did.{Widens, Did, StateDid, ClausesDid}
 use Rattle.encoder.proofs.Did.{did-as, did-then, did-idle, widens-same}
 use Rattle.parts.specs.Parts.{AllKnown, GoodAlone}
 

@@ -7,7 +7,7 @@ use tables::Counts;
 ghost use mathlib.Core.Path.{_≡_};
 ghost use mathlib.Core.Bool.{not, _&&_};
 ghost use mathlib.Core.List.{[], _∷_};
-ghost use Prim.Native.Nat.{_<_, _≤_};
+ghost use Prim.Native.Nat.{_<_};
 ghost use lib.Dec.{eqb};
 ghost use lib.ListN.{length, getD};
 ghost use Rattle.rules.specs.Lists.{fold, when};
@@ -91,7 +91,16 @@ pub fn selected(marks: &[u8], unions: &[u8], t: &[u8], k: Counts, which: Parts, 
 
 // ---- naming
 
-fn open_ready(marks: &[u8], unions: &[u8], t: &[u8], k: Counts, s: &mut [u8], l: Limits, n: Counters, p: u16) -> Counters
+fn open_ready(
+    marks: &[u8],
+    unions: &[u8],
+    t: &[u8],
+    k: Counts,
+    s: &mut [u8],
+    l: Limits,
+    n: Counters,
+    p: u16,
+) -> Counters
     requires { ⌜ Kept k (now marks) (now unions) (now t) ⌝ }
     requires { ⌜ Fits l (length (now s)) ⌝ }
     requires { ⌜ GoodAlone (catalogue k (now marks) (now unions) (now t)) l n (held l (now s)) ⌝ }
@@ -104,7 +113,16 @@ fn open_ready(marks: &[u8], unions: &[u8], t: &[u8], k: Counts, s: &mut [u8], l:
     n
 }
 
-fn name_tracked(marks: &[u8], unions: &[u8], t: &[u8], k: Counts, s: &mut [u8], l: Limits, n: Counters, p: u16) -> Counters
+fn name_tracked(
+    marks: &[u8],
+    unions: &[u8],
+    t: &[u8],
+    k: Counts,
+    s: &mut [u8],
+    l: Limits,
+    n: Counters,
+    p: u16,
+) -> Counters
     requires { ⌜ Kept k (now marks) (now unions) (now t) ⌝ }
     requires { ⌜ Fits l (length (now s)) ⌝ }
     requires { ⌜ GoodAlone (catalogue k (now marks) (now unions) (now t)) l n (held l (now s)) ⌝ }
@@ -115,7 +133,16 @@ fn name_tracked(marks: &[u8], unions: &[u8], t: &[u8], k: Counts, s: &mut [u8], 
     opening::name_for_tracking(marks, unions, t, k, s, l, m, p)
 }
 
-fn name_candidate(marks: &[u8], unions: &[u8], t: &[u8], k: Counts, s: &mut [u8], l: Limits, n: Counters, p: u16) -> Counters
+fn name_candidate(
+    marks: &[u8],
+    unions: &[u8],
+    t: &[u8],
+    k: Counts,
+    s: &mut [u8],
+    l: Limits,
+    n: Counters,
+    p: u16,
+) -> Counters
     requires { ⌜ Kept k (now marks) (now unions) (now t) ⌝ }
     requires { ⌜ Fits l (length (now s)) ⌝ }
     requires { ⌜ GoodAlone (catalogue k (now marks) (now unions) (now t)) l n (held l (now s)) ⌝ }
@@ -126,7 +153,17 @@ fn name_candidate(marks: &[u8], unions: &[u8], t: &[u8], k: Counts, s: &mut [u8]
     open_ready(marks, unions, t, k, s, l, m, p)
 }
 
-fn name_part(marks: &[u8], unions: &[u8], t: &[u8], k: Counts, s: &mut [u8], l: Limits, n: Counters, naming: Naming, p: u16) -> Counters
+fn name_part(
+    marks: &[u8],
+    unions: &[u8],
+    t: &[u8],
+    k: Counts,
+    s: &mut [u8],
+    l: Limits,
+    n: Counters,
+    naming: Naming,
+    p: u16,
+) -> Counters
     requires { ⌜ Kept k (now marks) (now unions) (now t) ⌝ }
     requires { ⌜ Fits l (length (now s)) ⌝ }
     requires { ⌜ GoodAlone (catalogue k (now marks) (now unions) (now t)) l n (held l (now s)) ⌝ }
@@ -140,7 +177,18 @@ fn name_part(marks: &[u8], unions: &[u8], t: &[u8], k: Counts, s: &mut [u8], l: 
     }
 }
 
-fn name_if(marks: &[u8], unions: &[u8], t: &[u8], k: Counts, s: &mut [u8], l: Limits, n: Counters, which: Parts, naming: Naming, p: usize) -> Counters
+fn name_if(
+    marks: &[u8],
+    unions: &[u8],
+    t: &[u8],
+    k: Counts,
+    s: &mut [u8],
+    l: Limits,
+    n: Counters,
+    which: Parts,
+    naming: Naming,
+    p: usize,
+) -> Counters
     requires { ⌜ Kept k (now marks) (now unions) (now t) ⌝ }
     requires { ⌜ Fits l (length (now s)) ⌝ }
     requires { ⌜ GoodAlone (catalogue k (now marks) (now unions) (now t)) l n (held l (now s)) ⌝ }
@@ -154,7 +202,17 @@ fn name_if(marks: &[u8], unions: &[u8], t: &[u8], k: Counts, s: &mut [u8], l: Li
 }
 
 // Each of these parts is named.
-pub fn name_each(marks: &[u8], unions: &[u8], t: &[u8], k: Counts, s: &mut [u8], l: Limits, n: Counters, which: Parts, naming: Naming) -> Counters
+pub fn name_each(
+    marks: &[u8],
+    unions: &[u8],
+    t: &[u8],
+    k: Counts,
+    s: &mut [u8],
+    l: Limits,
+    n: Counters,
+    which: Parts,
+    naming: Naming,
+) -> Counters
     requires { ⌜ Kept k (now marks) (now unions) (now t) ⌝ }
     requires { ⌜ Fits l (length (now s)) ⌝ }
     requires { ⌜ GoodAlone (catalogue k (now marks) (now unions) (now t)) l n (held l (now s)) ⌝ }
@@ -171,7 +229,19 @@ pub fn name_each(marks: &[u8], unions: &[u8], t: &[u8], k: Counts, s: &mut [u8],
 
 // ---- adding
 
-fn add_part(marks: &[u8], unions: &[u8], t: &[u8], k: Counts, s: &mut [u8], clauses: &mut [u8], l: Limits, n: Counters, r: Run, adding: Adding, p: u16) -> Counters
+fn add_part(
+    marks: &[u8],
+    unions: &[u8],
+    t: &[u8],
+    k: Counts,
+    s: &mut [u8],
+    clauses: &mut [u8],
+    l: Limits,
+    n: Counters,
+    r: Run,
+    adding: Adding,
+    p: u16,
+) -> Counters
     requires { ⌜ Kept k (now marks) (now unions) (now t) ⌝ }
     requires { ⌜ Fits l (length (now s)) ⌝ }
     requires { ⌜ Good (catalogue k (now marks) (now unions) (now t)) l n (held l (now s)) (now clauses) [] ⌝ }
@@ -190,7 +260,20 @@ fn add_part(marks: &[u8], unions: &[u8], t: &[u8], k: Counts, s: &mut [u8], clau
     }
 }
 
-fn add_if(marks: &[u8], unions: &[u8], t: &[u8], k: Counts, s: &mut [u8], clauses: &mut [u8], l: Limits, n: Counters, r: Run, which: Parts, adding: Adding, p: usize) -> Counters
+fn add_if(
+    marks: &[u8],
+    unions: &[u8],
+    t: &[u8],
+    k: Counts,
+    s: &mut [u8],
+    clauses: &mut [u8],
+    l: Limits,
+    n: Counters,
+    r: Run,
+    which: Parts,
+    adding: Adding,
+    p: usize,
+) -> Counters
     requires { ⌜ Kept k (now marks) (now unions) (now t) ⌝ }
     requires { ⌜ Fits l (length (now s)) ⌝ }
     requires { ⌜ Good (catalogue k (now marks) (now unions) (now t)) l n (held l (now s)) (now clauses) [] ⌝ }
@@ -207,7 +290,19 @@ fn add_if(marks: &[u8], unions: &[u8], t: &[u8], k: Counts, s: &mut [u8], clause
 }
 
 // A clause is added for each of these parts, which have variables.
-pub fn add_each(marks: &[u8], unions: &[u8], t: &[u8], k: Counts, s: &mut [u8], clauses: &mut [u8], l: Limits, n: Counters, r: Run, which: Parts, adding: Adding) -> Counters
+pub fn add_each(
+    marks: &[u8],
+    unions: &[u8],
+    t: &[u8],
+    k: Counts,
+    s: &mut [u8],
+    clauses: &mut [u8],
+    l: Limits,
+    n: Counters,
+    r: Run,
+    which: Parts,
+    adding: Adding,
+) -> Counters
     requires { ⌜ Kept k (now marks) (now unions) (now t) ⌝ }
     requires { ⌜ Fits l (length (now s)) ⌝ }
     requires { ⌜ Good (catalogue k (now marks) (now unions) (now t)) l n (held l (now s)) (now clauses) [] ⌝ }
