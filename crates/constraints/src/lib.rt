@@ -7,7 +7,6 @@ use parts::Naming;
 use parts::Parts;
 use state::Limits;
 use tables::Counts;
-use variable_map::Origin;
 ghost use mathlib.Core.Path.{_≡_};
 ghost use mathlib.Core.Bool.{true};
 ghost use mathlib.Core.List.{[]};
@@ -27,16 +26,6 @@ ghost use Rattle.encoder.specs.Did.{ClausesDid};
 ghost use Rattle.parts.specs.Parts.{AllKnown};
 ghost use Rattle.owners.specs.Owners.{serving};
 ghost use Rattle.constraints.specs.Constraints.{Knows, constrainFew, addViolation, constrainMany};
-
-// The variable of an owner: the root, or a part.
-pub fn owner_origin(o: u16) -> Origin
-    ensures { λ r. ⌜ originOf r ≡ chosen (ownerOf o) ⌝ }
-{
-    if o == 1024 {
-        return variable_map::root();
-    }
-    variable_map::part(o)
-}
 
 // Under 4 non-matching parts: one clause each. The owner, by its number o, has its variable.
 fn constrain_few(
@@ -74,7 +63,7 @@ fn constrain_few(
         },
         Naming::Variable,
     );
-    let x = opening::variable_of(s, l, m, owner_origin(o));
+    let x = opening::variable_of(s, l, m, owners::owner_origin(o));
     parts::add_each(
         marks,
         unions,
@@ -118,7 +107,7 @@ fn add_violation(
     ensures { λ m. ⌜ ClausesDid (catalogue k (now (marks .entry)) (now (unions .entry)) (now (t .entry))) l (λ v. addViolation (catalogue k (now (marks .entry)) (now (unions .entry)) (now (t .entry))) (runOf run) (ownerOf o) r new) n (held l (now (s .entry))) (now (clauses .entry)) m (held l (now (s .exit))) (now (clauses .exit)) ⌝ }
 {
     let y = opening::variable_of(s, l, n, variable_map::violation(r as u16));
-    let x = opening::variable_of(s, l, n, owner_origin(o));
+    let x = opening::variable_of(s, l, n, owners::owner_origin(o));
     if new {
         let m = parts::add_each(
             marks,
@@ -208,7 +197,7 @@ pub fn serve_constraint(
     let it = tables::constraint_at(t, k, i);
     let o = owners::owner_number(it.owner);
     let r = it.range as usize;
-    let m = opening::name_variable(s, l, n, owner_origin(o));
+    let m = opening::name_variable(s, l, n, owners::owner_origin(o));
     if cache::non_matching_count(marks, unions, t, k, r) < 4 {
         return constrain_few(marks, unions, t, k, s, clauses, l, m, run, r, o);
     }
