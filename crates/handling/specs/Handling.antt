@@ -5,11 +5,12 @@ use mathlib.Core.List.{List, [], _∷_, _++_, map}
 use Prim.Native.Nat.{ℕ, _+_, _<_, _≤_}
 use lib.ListN.{length}
 use Rattle.rules.specs.Lists.{fold, when, distinct}
-use Rattle.rules.specs.Literal.{Literal}
+use Rattle.rules.specs.Literal.{Literal, pos}
 use Rattle.rules.specs.Clause.{requires, gated, anyGate}
 use Rattle.rules.specs.Catalogue.{Catalogue, ownerAt, goalAt, rangeName}
 use Rattle.rules.specs.Candidates.{sorted, nonMatching, goalRanges, candidates}
 use Rattle.rules.specs.Conditions.{disjunctAt, disjunctsOf}
+use Rattle.rules.specs.Decisions.{Decision, evaluate, isFalsified}
 use Rattle.rules.specs.Variables.{Origin, chosen, one, gate, known, variableOf, partOrigin, partVariable}
 use Rattle.rules.specs.Encoding.{Shape, direct, throughGate, onFiring, shapeOf, rangeOrigins, disjunctOrigins, disjunctLiterals}
 use Rattle.rules.specs.State.{State, Run}
@@ -17,10 +18,10 @@ use Rattle.rules.proofs.Each.{Each}
 use Rattle.rules.proofs.Capped.{addVariable}
 use Rattle.rules.proofs.ClauseByClause.{addClause}
 use Rattle.state.specs.declared.Limits.{Limits}
+use Rattle.state.specs.Changed.{Changed}
 use Rattle.marked.specs.Marked.{listed, Marked}
 use Rattle.encoder.specs.declared.Counters.{Counters}
 use Rattle.encoder.specs.Held.{literalsIn}
-use Rattle.encoder.specs.Did.{StateDid}
 use Rattle.parts.specs.declared.Naming.the-variants.{Tracked, Candidate}
 use Rattle.parts.specs.Parts.{namingOf}
 use Rattle.firing.specs.declared.Indices.{Indices}
@@ -71,11 +72,20 @@ pub record Pending (l : Limits) (n : Counters) (st : ℕ → List ℕ) (ks : Lis
   pub counted : count ≡ length ks
   pub stored : n .literals + count ≤ l .literals → literalsIn (st 19) (n .literals) count ≡ ks
 
--- the literals `more` were put behind them; nothing else changed
-pub record Pushes (c : Catalogue) (l : Limits) (n : Counters) (st : ℕ → List ℕ) (count : ℕ) (more : List Literal) (count′ : ℕ) (st′ : ℕ → List ℕ) : Type 0 where
-  pub same : StateDid c l (λ v s. s) n st n st′
+-- the literals `more` were put behind them; the literals of the stored clauses and all else are as they were
+pub record Pushes (l : Limits) (n : Counters) (st : ℕ → List ℕ) (count : ℕ) (more : List Literal) (count′ : ℕ) (st′ : ℕ → List ℕ) : Type 0 where
+  pub others : Changed (19 ∷ []) st st′
+  pub same : (start size : ℕ) → start + size ≤ n .literals → literalsIn (st′ 19) start size ≡ literalsIn (st 19) start size
   pub more-counted : count′ ≡ count + length more
   pub pending : (ks : List Literal) → Pending l n st ks count → Pending l n st′ (ks ++ more) count′
+
+-- these parts, each as a literal
+unfoldable pub partLiterals : List Origin → List ℕ → List Literal
+partLiterals vs ps = map (λ p. pos (partVariable vs p)) ps
+
+-- decided false
+unfoldable pub literalFalse : List Decision → Literal → Bool
+literalFalse ds x = isFalsified (evaluate ds x)
 
 -- ---- clauses
 

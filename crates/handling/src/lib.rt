@@ -20,17 +20,17 @@ ghost use Rattle.rules.specs.Literal.{pos};
 ghost use Rattle.rules.specs.Catalogue.{goalAt, rangeName};
 ghost use Rattle.rules.specs.Candidates.{sorted, nonMatching, candidates};
 ghost use Rattle.rules.specs.Conditions.{disjunctAt, disjunctsOf, unconditional};
-ghost use Rattle.rules.specs.Decisions.{evaluate, isFalsified, allFalse};
+ghost use Rattle.rules.specs.Decisions.{allFalse};
 ghost use Rattle.rules.specs.Encoding.{rangeLiterals, disjunctLiterals};
 ghost use Rattle.rules.specs.Opening.{requirement};
-ghost use Rattle.rules.specs.Variables.{gate, known, partVariable};
+ghost use Rattle.rules.specs.Variables.{gate, known, variableOf, partVariable};
 ghost use Rattle.requirement.specs.Requirements.{goalOf};
 ghost use Rattle.cache.specs.Areas.{catalogue};
 ghost use Rattle.cache.specs.Lists.{chosen};
 ghost use Rattle.cache.specs.declared.Choice.the-variants.{NonMatching};
-ghost use Rattle.clause.specs.Literals.{literalOf};
+ghost use Rattle.clause.specs.Literals.{signed, literalOf};
 ghost use Rattle.state.specs.Layout.{held, Fits};
-ghost use Rattle.variable_map.specs.Mapping.{originOf, variables, Mapped};
+ghost use Rattle.variable_map.specs.Mapping.{originOf, inTables, variables, Mapped};
 ghost use Rattle.decision_tracker.specs.Tracking.{decisions, Kept};
 ghost use Rattle.marked.specs.Marked.{listed, Marked};
 ghost use Rattle.encoder.specs.Held.{runOf, literalsIn, LongEnough, GoodState, Good};
@@ -40,7 +40,7 @@ ghost use Rattle.parts.specs.declared.Naming.the-variants.{Candidate};
 ghost use Rattle.parts.specs.Parts.{namingOf};
 ghost use Rattle.owners.specs.Owners.{serving};
 ghost use Rattle.firing.specs.Firing.{indicesIn};
-ghost use Rattle.handling.specs.Handling.{nameRange, nameDisjuncts, Pushes, AtHand, Named, FiredKnown, addDirect, addGate, addThroughGate, addFired, addAllFired, addUnconditional, handled, RangeKnown, DisjunctKnown, GivenIndices};
+ghost use Rattle.handling.specs.Handling.{nameRange, nameDisjuncts, Pushes, partLiterals, literalFalse, AtHand, Named, FiredKnown, addDirect, addGate, addThroughGate, addFired, addAllFired, addUnconditional, handled, RangeKnown, DisjunctKnown, GivenIndices};
 
 // ---- candidates
 
@@ -129,28 +129,38 @@ fn name_disjuncts(marks: &[u8], unions: &[u8], t: &[u8], k: Counts, s: &mut [u8]
 // ---- condition literals, behind those of the stored clauses
 
 // One behind the `count` at hand; past the limit it is only counted.
-fn push_literal(marks: &[u8], unions: &[u8], t: &[u8], k: Counts, s: &mut [u8], l: Limits, n: Counters, count: usize, literal: Literal) -> usize
-    requires { ⌜ Catalogued k (now marks) (now unions) (now t) ⌝ }
+fn push_literal(s: &mut [u8], l: Limits, n: Counters, count: usize, literal: Literal) -> usize
     requires { ⌜ Fits l (length (now s)) ⌝ }
-    requires { ⌜ GoodState (catalogue k (now marks) (now unions) (now t)) l n (held l (now s)) ⌝ }
-    requires { ⌜ count < 65536 ⌝ }
-    ensures { λ r. ⌜ Pushes (catalogue k (now (marks .entry)) (now (unions .entry)) (now (t .entry))) l n (held l (now (s .entry))) count (literalOf literal ∷ []) r (held l (now (s .exit))) ⌝ }
+    requires { ⌜ (n .literals ≤ l .literals) × (count < 65536) ⌝ }
+    ensures { λ r. ⌜ Pushes l n (held l (now (s .entry))) count (literalOf literal ∷ []) r (held l (now (s .exit))) ⌝ }
 {
     state::set(s, l, state::LITERALS, n.literals + count, literal.code);
     count + 1
 }
 
+// The literal of an origin that has a variable.
+fn literal_of(s: &[u8], l: Limits, n: Counters, o: Origin, positive: bool) -> Literal
+    requires { ⌜ Fits l (length (now s)) ⌝ }
+    requires { ⌜ Mapped l (n .variables) (held l (now s)) ⌝ }
+    requires { ⌜ (inTables (originOf o) ≡ true) × (known (variables (n .variables) (held l (now s))) (originOf o) ≡ true) ⌝ }
+    ensures { λ r. ⌜ literalOf r ≡ signed (variableOf (variables (n .variables) (held l (now (s .entry)))) (originOf o)) positive ⌝ }
+{
+    let x = opening::variable_of(s, l, n, o);
+    Literal::new(x, positive)
+}
+
+// A part, if it is one of the range's non-matching.
 fn push_if(marks: &[u8], unions: &[u8], t: &[u8], k: Counts, s: &mut [u8], l: Limits, n: Counters, count: usize, r: usize, p: usize) -> usize
     requires { ⌜ Catalogued k (now marks) (now unions) (now t) ⌝ }
     requires { ⌜ Fits l (length (now s)) ⌝ }
     requires { ⌜ GoodState (catalogue k (now marks) (now unions) (now t)) l n (held l (now s)) ⌝ }
     requires { ⌜ (count < 65536) × (p < 1024) ⌝ }
     requires { ⌜ AllKnown (variables (n .variables) (held l (now s))) (listIf (chosen (catalogue k (now marks) (now unions) (now t)) r NonMatching p) (p ∷ [])) ⌝ }
-    ensures { λ m. ⌜ Pushes (catalogue k (now (marks .entry)) (now (unions .entry)) (now (t .entry))) l n (held l (now (s .entry))) count (map (λ x. pos (partVariable (variables (n .variables) (held l (now (s .entry)))) x)) (listIf (chosen (catalogue k (now (marks .entry)) (now (unions .entry)) (now (t .entry))) r NonMatching p) (p ∷ []))) m (held l (now (s .exit))) ⌝ }
+    ensures { λ m. ⌜ Pushes l n (held l (now (s .entry))) count (partLiterals (variables (n .variables) (held l (now (s .entry)))) (listIf (chosen (catalogue k (now (marks .entry)) (now (unions .entry)) (now (t .entry))) r NonMatching p) (p ∷ []))) m (held l (now (s .exit))) ⌝ }
 {
     if cache::chosen(marks, unions, t, k, r, Choice::NonMatching, p) {
-        let x = opening::variable_of(s, l, n, variable_map::part(p as u16));
-        return push_literal(marks, unions, t, k, s, l, n, count, Literal::new(x, true));
+        let literal = literal_of(s, l, n, variable_map::part(p as u16), true);
+        return push_literal(s, l, n, count, literal);
     }
     count
 }
@@ -161,7 +171,7 @@ fn part_literals(marks: &[u8], unions: &[u8], t: &[u8], k: Counts, s: &mut [u8],
     requires { ⌜ GoodState (catalogue k (now marks) (now unions) (now t)) l n (held l (now s)) ⌝ }
     requires { ⌜ count < 32768 ⌝ }
     requires { ⌜ AllKnown (variables (n .variables) (held l (now s))) (nonMatching (catalogue k (now marks) (now unions) (now t)) r) ⌝ }
-    ensures { λ m. ⌜ Pushes (catalogue k (now (marks .entry)) (now (unions .entry)) (now (t .entry))) l n (held l (now (s .entry))) count (map (λ x. pos (partVariable (variables (n .variables) (held l (now (s .entry)))) x)) (nonMatching (catalogue k (now (marks .entry)) (now (unions .entry)) (now (t .entry))) r)) m (held l (now (s .exit))) ⌝ }
+    ensures { λ m. ⌜ Pushes l n (held l (now (s .entry))) count (partLiterals (variables (n .variables) (held l (now (s .entry)))) (nonMatching (catalogue k (now (marks .entry)) (now (unions .entry)) (now (t .entry))) r)) m (held l (now (s .exit))) ⌝ }
 {
     let mut m = count;
     let mut p = 0;
@@ -177,13 +187,13 @@ fn range_literals(marks: &[u8], unions: &[u8], t: &[u8], k: Counts, s: &mut [u8]
     requires { ⌜ Catalogued k (now marks) (now unions) (now t) ⌝ }
     requires { ⌜ Fits l (length (now s)) ⌝ }
     requires { ⌜ GoodState (catalogue k (now marks) (now unions) (now t)) l n (held l (now s)) ⌝ }
-    requires { ⌜ (count < 32768) × (r < k .ranges) ⌝ }
+    requires { ⌜ count < 32768 ⌝ }
     requires { ⌜ RangeKnown (catalogue k (now marks) (now unions) (now t)) (variables (n .variables) (held l (now s))) r ⌝ }
-    ensures { λ m. ⌜ Pushes (catalogue k (now (marks .entry)) (now (unions .entry)) (now (t .entry))) l n (held l (now (s .entry))) count (rangeLiterals (variables (n .variables) (held l (now (s .entry)))) (rangeName (catalogue k (now (marks .entry)) (now (unions .entry)) (now (t .entry))) r) (nonMatching (catalogue k (now (marks .entry)) (now (unions .entry)) (now (t .entry))) r)) m (held l (now (s .exit))) ⌝ }
+    ensures { λ m. ⌜ Pushes l n (held l (now (s .entry))) count (rangeLiterals (variables (n .variables) (held l (now (s .entry)))) (rangeName (catalogue k (now (marks .entry)) (now (unions .entry)) (now (t .entry))) r) (nonMatching (catalogue k (now (marks .entry)) (now (unions .entry)) (now (t .entry))) r)) m (held l (now (s .exit))) ⌝ }
 {
     if cache::non_matching_count(marks, unions, t, k, r) == 0 {
-        let y = opening::variable_of(s, l, n, variable_map::one(tables::range_name(t, k, r)));
-        return push_literal(marks, unions, t, k, s, l, n, count, Literal::new(y, false));
+        let literal = literal_of(s, l, n, variable_map::one(tables::range_name(t, k, r)), false);
+        return push_literal(s, l, n, count, literal);
     }
     part_literals(marks, unions, t, k, s, l, n, count, r)
 }
@@ -194,7 +204,7 @@ fn disjunct_literals(marks: &[u8], unions: &[u8], t: &[u8], k: Counts, s: &mut [
     requires { ⌜ GoodState (catalogue k (now marks) (now unions) (now t)) l n (held l (now s)) ⌝ }
     requires { ⌜ (q < k .requirements) × (unconditional (catalogue k (now marks) (now unions) (now t)) q ≡ false) × (i < length (disjunctsOf (catalogue k (now marks) (now unions) (now t)) q)) ⌝ }
     requires { ⌜ DisjunctKnown (catalogue k (now marks) (now unions) (now t)) (variables (n .variables) (held l (now s))) (disjunctAt (catalogue k (now marks) (now unions) (now t)) q i) ⌝ }
-    ensures { λ m. ⌜ Pushes (catalogue k (now (marks .entry)) (now (unions .entry)) (now (t .entry))) l n (held l (now (s .entry))) 0 (disjunctLiterals (catalogue k (now (marks .entry)) (now (unions .entry)) (now (t .entry))) (variables (n .variables) (held l (now (s .entry)))) (disjunctAt (catalogue k (now (marks .entry)) (now (unions .entry)) (now (t .entry))) q i)) m (held l (now (s .exit))) ⌝ }
+    ensures { λ m. ⌜ Pushes l n (held l (now (s .entry))) 0 (disjunctLiterals (catalogue k (now (marks .entry)) (now (unions .entry)) (now (t .entry))) (variables (n .variables) (held l (now (s .entry)))) (disjunctAt (catalogue k (now (marks .entry)) (now (unions .entry)) (now (t .entry))) q i)) m (held l (now (s .exit))) ⌝ }
 {
     let it = tables::requirement_at(t, k, q);
     let d = conditions::disjunct_of(t, k, it.condition as usize, i);
@@ -214,7 +224,7 @@ fn disjunct_literals(marks: &[u8], unions: &[u8], t: &[u8], k: Counts, s: &mut [
 fn literals_false(s: &[u8], l: Limits, n: Counters, count: usize) -> bool
     requires { ⌜ Fits l (length (now s)) ⌝ }
     requires { ⌜ Kept l (n .decisions) (held l (now s)) × (n .literals + count ≤ l .literals) ⌝ }
-    ensures { λ b. ⌜ b ≡ all (λ x. isFalsified (evaluate (decisions (n .decisions) (held l (now (s .entry)))) x)) (literalsIn ((held l (now (s .entry))) 19) (n .literals) count) ⌝ }
+    ensures { λ b. ⌜ b ≡ all (literalFalse (decisions (n .decisions) (held l (now (s .entry))))) (literalsIn ((held l (now (s .entry))) 19) (n .literals) count) ⌝ }
 {
     let mut j = 0;
     while j < count {
@@ -241,9 +251,10 @@ fn rest_false(marks: &[u8], unions: &[u8], t: &[u8], k: Counts, s: &[u8], l: Lim
     ensures { λ b. ⌜ b ≡ allFalse (decisions (n .decisions) (held l (now (s .entry)))) (literalsIn ((held l (now (s .entry))) 19) (n .literals) count ++ map pos (map (partVariable (variables (n .variables) (held l (now (s .entry))))) (candidates (catalogue k (now (marks .entry)) (now (unions .entry)) (now (t .entry))) (goalAt (catalogue k (now (marks .entry)) (now (unions .entry)) (now (t .entry))) q)))) ⌝ }
 {
     if count == 0 {
-        if !goals::some_candidate(marks, unions, t, k, s, l, ranges) {
-            return false;
+        if goals::some_candidate(marks, unions, t, k, s, l, ranges) {
+            return goals::all_false(marks, unions, t, k, s, l, n, ranges);
         }
+        return false;
     }
     if literals_false(s, l, n, count) {
         return goals::all_false(marks, unions, t, k, s, l, n, ranges);
