@@ -35,7 +35,8 @@ use Rattle.encoder.specs.Did.{onOpening}
 use Rattle.parts.specs.declared.Naming.the-variants.{Candidate}
 use Rattle.parts.specs.Parts.{namingOf}
 use Rattle.owners.specs.Owners.{serving}
-use Rattle.handling.specs.Handling.{nameParts, nameRange, nameDisjuncts, addDirect, addGate, addThroughGate, addFired, addAllFired, addBy, handled}
+use Rattle.naming.specs.Naming.{nameParts, nameRange, nameDisjuncts}
+use Rattle.handling.specs.Handling.{addDirect, addGate, addThroughGate, addFired, addAllFired, addBy, handled}
 
 -- ---- a step on the opening and one on the variables
 

@@ -25,7 +25,8 @@ use Rattle.rules.proofs.ClauseByClause.{addClause}
 use Rattle.parts.specs.declared.Naming.the-variants.{Candidate}
 use Rattle.parts.specs.Parts.{namingOf}
 use Rattle.goals.specs.Goals.{AllKnown}
-use Rattle.handling.specs.Handling.{nameDisjuncts, RangeKnown, DisjunctKnown, FiredKnown, Named, addGate, addFired, addBy, addUnconditional, addAllFired}
+use Rattle.naming.specs.Naming.{nameDisjuncts}
+use Rattle.handling.specs.Handling.{RangeKnown, DisjunctKnown, FiredKnown, Named, addGate, addFired, addBy, addUnconditional, addAllFired}
 use Rattle.handling.proofs.Handled.{candidates-named, disjuncts-named}
 
 -- ---- what is named is known

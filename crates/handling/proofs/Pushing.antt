@@ -28,7 +28,7 @@ use Rattle.encoder.specs.declared.Counters.{Counters}
 use Rattle.encoder.specs.Held.{Reading, stateOf, openingOf, literalIn, literalsIn, clauseIn, clausesIn, Sound, GoodState, Good}
 use Rattle.encoder.specs.Did.{StateDid}
 use Rattle.encoder.proofs.Frames.{state-kept, list-kept, line-kept}
-use Rattle.encoder.proofs.Did.{widens-same, did-made, hand-kept}
+use Rattle.encoder.proofs.Did.{widens-same, did-made, beside-kept}
 use Rattle.handling.specs.Handling.{Pending, Pushes}
 
 -- ---- one
@@ -147,5 +147,5 @@ module _ {c : Catalogue} {l : Limits} {n : Counters} {st st′ : ℕ → List �
   pub push-did : StateDid c l (λ v s. s) n st n st′
   push-did =
       record {
-        is = λ cl wt. did-made (λ v s. widens-same) refl (hand-kept (p .others) (unfold any in refl) (unfold any in refl)) refl refl (λ k. refl) good-pushed state-pushed;
+        is = λ cl wt. did-made (λ v s. widens-same) refl (λ g. beside-kept (p .others) (unfold any in refl) (unfold any in refl) (unfold any in refl)) refl refl (λ k. refl) good-pushed state-pushed;
       }

@@ -17,7 +17,8 @@ use Rattle.encoder.proofs.Widening.{widens-when, addVariable-widens, addClause-
 use Rattle.parts.specs.declared.Naming.{Naming}
 use Rattle.parts.specs.declared.Naming.the-variants.{Variable, Tracked, Candidate}
 use Rattle.parts.specs.Parts.{namingOf}
-use Rattle.handling.specs.Handling.{nameParts, nameRange, nameDisjuncts, addDirect, addGate, addThroughGate, addFired, addAllFired, addBy, addUnconditional, handled}
+use Rattle.naming.specs.Naming.{nameParts, nameRange, nameDisjuncts}
+use Rattle.handling.specs.Handling.{addDirect, addGate, addThroughGate, addFired, addAllFired, addBy, addUnconditional, handled}
 
 -- ---- names
 

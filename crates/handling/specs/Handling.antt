@@ -22,22 +22,9 @@ use Rattle.state.specs.Changed.{Changed}
 use Rattle.marked.specs.Marked.{listed, Marked}
 use Rattle.encoder.specs.declared.Counters.{Counters}
 use Rattle.encoder.specs.Held.{literalsIn}
-use Rattle.parts.specs.declared.Naming.the-variants.{Tracked, Candidate}
+use Rattle.parts.specs.declared.Naming.the-variants.{Candidate}
 use Rattle.parts.specs.Parts.{namingOf}
-use Rattle.firing.specs.declared.Indices.{Indices}
-use Rattle.firing.specs.Firing.{indicesIn}
-
--- ---- names of fired ranges
-
-unfoldable pub nameParts : Catalogue → ℕ → List ℕ → State → State
-nameParts c n [] s = addVariable (one n) s
-nameParts c n (p ∷ ps) s = fold (namingOf c Tracked) (p ∷ ps) s
-
-unfoldable pub nameRange : Catalogue → ℕ → State → State
-nameRange c r s = nameParts c (rangeName c r) (nonMatching c r) s
-
-unfoldable pub nameDisjuncts : Catalogue → ℕ → List ℕ → State → State
-nameDisjuncts c q is s = fold (λ i. fold (nameRange c) (disjunctAt c q i)) is s
+use Rattle.naming.specs.Naming.{nameDisjuncts}
 
 -- ---- what has variables, and what is at hand
 
@@ -59,11 +46,6 @@ pub record Named (c : Catalogue) (q : ℕ) (vs : List Origin) : Type 0 where
 pub record AtHand (c : Catalogue) (q ranges : ℕ) (st : ℕ → List ℕ) : Type 0 where
   pub marked : Marked 14 15 ranges st
   pub is : listed ranges 14 st ≡ distinct (goalRanges c (goalAt c q))
-
--- each index is one of a disjunct of q
-pub record GivenIndices (c : Catalogue) (q : ℕ) (is : Indices) : Type 0 where
-  pub room : is .len ≤ 64
-  pub given : Each (λ i. i < length (disjunctsOf c q)) (indicesIn is)
 
 -- ---- condition literals
 

@@ -4,8 +4,6 @@ use clause::Literal;
 use encoder::Counters;
 use encoder::Run;
 use firing::Indices;
-use parts::Naming;
-use parts::Parts;
 use requirement::Requirement;
 use state::Limits;
 use tables::Counts;
@@ -40,91 +38,8 @@ ghost use Rattle.parts.specs.declared.Naming.the-variants.{Candidate};
 ghost use Rattle.parts.specs.Parts.{namingOf};
 ghost use Rattle.owners.specs.Owners.{serving};
 ghost use Rattle.firing.specs.Firing.{indicesIn};
-ghost use Rattle.handling.specs.Handling.{nameRange, nameDisjuncts, Pushes, partLiterals, literalFalse, AtHand, Named, FiredKnown, addDirect, addGate, addThroughGate, addFired, addAllFired, addUnconditional, handled, RangeKnown, DisjunctKnown, GivenIndices};
-
-// ---- candidates
-
-// The candidates of a range.
-fn range_candidates(marks: &[u8], unions: &[u8], t: &[u8], k: Counts, s: &mut [u8], l: Limits, n: Counters, r: usize) -> Counters
-    requires { ⌜ Catalogued k (now marks) (now unions) (now t) ⌝ }
-    requires { ⌜ Fits l (length (now s)) ⌝ }
-    requires { ⌜ GoodState (catalogue k (now marks) (now unions) (now t)) l n (held l (now s)) ⌝ }
-    ensures { λ m. ⌜ StateDid (catalogue k (now (marks .entry)) (now (unions .entry)) (now (t .entry))) l (λ v. fold (namingOf (catalogue k (now (marks .entry)) (now (unions .entry)) (now (t .entry))) Candidate) (sorted (catalogue k (now (marks .entry)) (now (unions .entry)) (now (t .entry))) r)) n (held l (now (s .entry))) m (held l (now (s .exit))) ⌝ }
-{
-    let m = parts::name_each(marks, unions, t, k, s, l, n, Parts::Chosen { range: r, choice: Choice::Favoured }, Naming::Candidate);
-    parts::name_each(marks, unions, t, k, s, l, m, Parts::Chosen { range: r, choice: Choice::Others }, Naming::Candidate)
-}
-
-// Those of the ranges at hand.
-fn all_candidates(marks: &[u8], unions: &[u8], t: &[u8], k: Counts, s: &mut [u8], l: Limits, n: Counters, ranges: usize) -> Counters
-    requires { ⌜ Catalogued k (now marks) (now unions) (now t) ⌝ }
-    requires { ⌜ Fits l (length (now s)) ⌝ }
-    requires { ⌜ GoodState (catalogue k (now marks) (now unions) (now t)) l n (held l (now s)) ⌝ }
-    requires { ⌜ Marked 14 15 ranges (held l (now s)) ⌝ }
-    ensures { λ m. ⌜ StateDid (catalogue k (now (marks .entry)) (now (unions .entry)) (now (t .entry))) l (λ v. fold (λ r. fold (namingOf (catalogue k (now (marks .entry)) (now (unions .entry)) (now (t .entry))) Candidate) (sorted (catalogue k (now (marks .entry)) (now (unions .entry)) (now (t .entry))) r)) (listed ranges 14 (held l (now (s .entry))))) n (held l (now (s .entry))) m (held l (now (s .exit))) ⌝ }
-{
-    let mut m = n;
-    let mut j = 0;
-    while j < ranges {
-        let r = marked::at(s, l, state::CANDIDATES, ranges, j);
-        m = range_candidates(marks, unions, t, k, s, l, m, r as usize);
-        j += 1;
-    }
-    m
-}
-
-// ---- variables of fired disjuncts
-
-// The variables of a fired range: its non-matching parts, which are named for tracking; if none, one-of-name.
-fn name_range(marks: &[u8], unions: &[u8], t: &[u8], k: Counts, s: &mut [u8], l: Limits, n: Counters, r: usize) -> Counters
-    requires { ⌜ Catalogued k (now marks) (now unions) (now t) ⌝ }
-    requires { ⌜ Fits l (length (now s)) ⌝ }
-    requires { ⌜ GoodState (catalogue k (now marks) (now unions) (now t)) l n (held l (now s)) ⌝ }
-    requires { ⌜ r < k .ranges ⌝ }
-    ensures { λ m. ⌜ StateDid (catalogue k (now (marks .entry)) (now (unions .entry)) (now (t .entry))) l (λ v. nameRange (catalogue k (now (marks .entry)) (now (unions .entry)) (now (t .entry))) r) n (held l (now (s .entry))) m (held l (now (s .exit))) ⌝ }
-{
-    if cache::non_matching_count(marks, unions, t, k, r) == 0 {
-        return opening::name_variable(s, l, n, variable_map::one(tables::range_name(t, k, r)));
-    }
-    parts::name_each(marks, unions, t, k, s, l, n, Parts::Chosen { range: r, choice: Choice::NonMatching }, Naming::Tracked)
-}
-
-fn name_disjunct(marks: &[u8], unions: &[u8], t: &[u8], k: Counts, s: &mut [u8], l: Limits, n: Counters, q: usize, i: usize) -> Counters
-    requires { ⌜ Catalogued k (now marks) (now unions) (now t) ⌝ }
-    requires { ⌜ Fits l (length (now s)) ⌝ }
-    requires { ⌜ GoodState (catalogue k (now marks) (now unions) (now t)) l n (held l (now s)) ⌝ }
-    requires { ⌜ (q < k .requirements) × (unconditional (catalogue k (now marks) (now unions) (now t)) q ≡ false) × (i < length (disjunctsOf (catalogue k (now marks) (now unions) (now t)) q)) ⌝ }
-    ensures { λ m. ⌜ StateDid (catalogue k (now (marks .entry)) (now (unions .entry)) (now (t .entry))) l (λ v. fold (nameRange (catalogue k (now (marks .entry)) (now (unions .entry)) (now (t .entry)))) (disjunctAt (catalogue k (now (marks .entry)) (now (unions .entry)) (now (t .entry))) q i)) n (held l (now (s .entry))) m (held l (now (s .exit))) ⌝ }
-{
-    let it = tables::requirement_at(t, k, q);
-    let d = conditions::disjunct_of(t, k, it.condition as usize, i);
-    let mut m = n;
-    let mut j = 0;
-    while j < d.len {
-        let r = d.ranges[j];
-        m = name_range(marks, unions, t, k, s, l, m, r as usize);
-        j += 1;
-    }
-    m
-}
-
-fn name_disjuncts(marks: &[u8], unions: &[u8], t: &[u8], k: Counts, s: &mut [u8], l: Limits, n: Counters, q: usize, is: Indices) -> Counters
-    requires { ⌜ Catalogued k (now marks) (now unions) (now t) ⌝ }
-    requires { ⌜ Fits l (length (now s)) ⌝ }
-    requires { ⌜ GoodState (catalogue k (now marks) (now unions) (now t)) l n (held l (now s)) ⌝ }
-    requires { ⌜ (q < k .requirements) × (unconditional (catalogue k (now marks) (now unions) (now t)) q ≡ false) ⌝ }
-    requires { ⌜ GivenIndices (catalogue k (now marks) (now unions) (now t)) q is ⌝ }
-    ensures { λ m. ⌜ StateDid (catalogue k (now (marks .entry)) (now (unions .entry)) (now (t .entry))) l (λ v. nameDisjuncts (catalogue k (now (marks .entry)) (now (unions .entry)) (now (t .entry))) q (indicesIn is)) n (held l (now (s .entry))) m (held l (now (s .exit))) ⌝ }
-{
-    let mut m = n;
-    let mut j = 0;
-    while j < is.len {
-        let i = is.at[j];
-        m = name_disjunct(marks, unions, t, k, s, l, m, q, i as usize);
-        j += 1;
-    }
-    m
-}
+ghost use Rattle.naming.specs.Naming.{nameDisjuncts, GivenIndices};
+ghost use Rattle.handling.specs.Handling.{Pushes, partLiterals, literalFalse, AtHand, Named, FiredKnown, addDirect, addGate, addThroughGate, addFired, addAllFired, addUnconditional, handled, RangeKnown, DisjunctKnown};
 
 // ---- condition literals, behind those of the stored clauses
 
@@ -286,7 +201,7 @@ fn add_direct(marks: &[u8], unions: &[u8], t: &[u8], k: Counts, s: &mut [u8], cl
 {
     let it = tables::requirement_at(t, k, q);
     let goal = it.requirement;
-    let x = opening::variable_of(s, l, n, constraints::owner_origin(owners::owner_number(it.owner)));
+    let x = opening::variable_of(s, l, n, owners::owner_origin(owners::owner_number(it.owner)));
     let all = rest_false(marks, unions, t, k, s, l, n, q, ranges, 0);
     clauses::add_requires(s, clauses, l, n, r, x, 0, goal.form(), goal.number(), all)
 }
@@ -332,7 +247,7 @@ fn add_through_gate(marks: &[u8], unions: &[u8], t: &[u8], k: Counts, s: &mut [u
     }
     let b = add_gate(marks, unions, t, k, s, clauses, l, a, r, q, ranges, new);
     let g = opening::variable_of(s, l, b, gate_origin(goal));
-    let x = opening::variable_of(s, l, b, constraints::owner_origin(owners::owner_number(it.owner)));
+    let x = opening::variable_of(s, l, b, owners::owner_origin(owners::owner_number(it.owner)));
     clauses::add_any_gate(s, clauses, l, b, r, g, x)
 }
 
@@ -357,7 +272,7 @@ fn add_fired(marks: &[u8], unions: &[u8], t: &[u8], k: Counts, s: &mut [u8], cla
     }
     let it = tables::requirement_at(t, k, q);
     let goal = it.requirement;
-    let x = opening::variable_of(s, l, n, constraints::owner_origin(owners::owner_number(it.owner)));
+    let x = opening::variable_of(s, l, n, owners::owner_origin(owners::owner_number(it.owner)));
     let all = rest_false(marks, unions, t, k, s, l, n, q, ranges, count);
     clauses::add_requires(s, clauses, l, n, r, x, count, goal.form(), goal.number(), all)
 }
@@ -397,7 +312,7 @@ fn handle_conditional(marks: &[u8], unions: &[u8], t: &[u8], k: Counts, s: &mut 
     requires { ⌜ GivenIndices (catalogue k (now marks) (now unions) (now t)) q is ⌝ }
     ensures { λ m. ⌜ ClausesDid (catalogue k (now (marks .entry)) (now (unions .entry)) (now (t .entry))) l (λ v. λ u. addAllFired (catalogue k (now (marks .entry)) (now (unions .entry)) (now (t .entry))) (runOf r) q (indicesIn is) (nameDisjuncts (catalogue k (now (marks .entry)) (now (unions .entry)) (now (t .entry))) q (indicesIn is) u)) n (held l (now (s .entry))) (now (clauses .entry)) m (held l (now (s .exit))) (now (clauses .exit)) ⌝ }
 {
-    let m = name_disjuncts(marks, unions, t, k, s, l, n, q, is);
+    let m = naming::name_disjuncts(marks, unions, t, k, s, l, n, q, is);
     if m.full {
         return m;
     }
@@ -437,8 +352,8 @@ fn handle(marks: &[u8], unions: &[u8], t: &[u8], k: Counts, s: &mut [u8], clause
     ensures { λ m. ⌜ ClausesDid (catalogue k (now (marks .entry)) (now (unions .entry)) (now (t .entry))) l (λ v. handled (catalogue k (now (marks .entry)) (now (unions .entry)) (now (t .entry))) (runOf r) q (indicesIn is)) n (held l (now (s .entry))) (now (clauses .entry)) m (held l (now (s .exit))) (now (clauses .exit)) ⌝ }
 {
     let it = tables::requirement_at(t, k, q);
-    let a = opening::name_variable(s, l, n, constraints::owner_origin(owners::owner_number(it.owner)));
-    let b = all_candidates(marks, unions, t, k, s, l, a, ranges);
+    let a = opening::name_variable(s, l, n, owners::owner_origin(owners::owner_number(it.owner)));
+    let b = naming::all_candidates(marks, unions, t, k, s, l, a, ranges);
     if b.full {
         return b;
     }
