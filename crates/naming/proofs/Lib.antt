@@ -1,0 +1,4 @@
+pub mod Given
+pub mod Loops
+pub mod Ranges
+pub mod Disjuncts
