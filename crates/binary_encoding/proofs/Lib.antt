@@ -1,4 +1,0 @@
-pub mod Steps
-pub mod Helpers
-pub mod Parts
-pub mod Clauses

@@ -1,7 +1,0 @@
-pub mod Served
-pub mod Lined
-pub mod Points
-pub mod Point
-pub mod BothEnds
-pub mod Behind
-pub mod Passing
