@@ -47,6 +47,21 @@ pub record Serves (c : Catalogue) (l : Limits) (r : Run) (drawn head : ℕ) (n :
     (n′ : Counters) (st′ : ℕ → List ℕ) (cl′ wt′ : List ℕ) : Type 0 where
   pub did : Did c l (λ v. servedAs c r (drawnIn l drawn wt) v (taskOf (lineAt head st))) (taken n) st cl wt n′ st′ cl′ wt′
 
+-- ---- a run begins
+
+unfoldable pub openAdded : Opening → Opening
+openAdded o = fold openOwner (o .added) o
+
+-- the drawn entries ds, the first of which is entry e
+unfoldable pub fireFrom : Catalogue → Reading → ℕ → List (ℕ × ℕ) → Opening → Opening
+fireFrom c v e [] o = o
+fireFrom c v e (x ∷ xs) o = fireFrom c v (suc e) xs (queued c (x .0) (taskIn c v (3649 + e)) o)
+
+unfoldable pub fireDrawn : Catalogue → Reading → List (ℕ × ℕ) → Opening → Opening
+fireDrawn c v ds o = fireFrom c v 0 ds o
+
+-- (to move here from proofs: readingOf, Point, passed; and to write: AddedGiven, AllGiven, emptied, Begins, Begun, LineServed)
+
 -- the run was carried out, or would end above a limit
 pub record RunDid (c : Catalogue) (l : Limits) (level : ℕ) (n : Counters) (st : ℕ → List ℕ) (cl wt : List ℕ)
     (n′ : Counters) (st′ : ℕ → List ℕ) (cl′ wt′ : List ℕ) : Type 0 where

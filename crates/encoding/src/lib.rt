@@ -81,7 +81,7 @@ fn serve_task(marks: &[u8], unions: &[u8], t: &[u8], k: Counts, s: &mut [u8], cl
 
 // ---- the line
 
-// The task at `head`; what it queues goes behind the line.
+// The task at `head` is taken from the line; what it queues goes behind.
 fn serve_next(marks: &[u8], unions: &[u8], t: &[u8], k: Counts, s: &mut [u8], clauses: &mut [u8], w: &mut [u8], l: Limits, n: Counters, r: Run, drawn: usize, head: usize) -> Counters
     requires { ⌜ Catalogued k (now marks) (now unions) (now t) ⌝ }
     requires { ⌜ Fits l (length (now s)) ⌝ }
@@ -94,12 +94,19 @@ fn serve_next(marks: &[u8], unions: &[u8], t: &[u8], k: Counts, s: &mut [u8], cl
 {
     let number = line::at(s, l, head);
     let mut m = n;
-    m.first = n.tail;
+    m.first = head + 1;
     serve_task(marks, unions, t, k, s, clauses, w, l, m, r, drawn, number)
 }
 
 // The whole line.
 fn serve_line(marks: &[u8], unions: &[u8], t: &[u8], k: Counts, s: &mut [u8], clauses: &mut [u8], w: &mut [u8], l: Limits, n: Counters, r: Run, drawn: usize) -> Counters
+    requires { ⌜ Catalogued k (now marks) (now unions) (now t) ⌝ }
+    requires { ⌜ Fits l (length (now s)) ⌝ }
+    requires { ⌜ Good (catalogue k (now marks) (now unions) (now t)) l n (held l (now s)) (now clauses) (now w) ⌝ }
+    requires { ⌜ LongEnough l (length (now clauses)) (length (now w)) ⌝ }
+    requires { ⌜ Marked 14 15 0 (held l (now s)) ⌝ }
+    requires { ⌜ Begun (catalogue k (now marks) (now unions) (now t)) l (runOf r) drawn n (held l (now s)) (now clauses) (now w) ⌝ }
+    ensures { λ m. ⌜ LineServed (catalogue k (now (marks .entry)) (now (unions .entry)) (now (t .entry))) l (runOf r) n (held l (now (s .entry))) (now (clauses .entry)) (now (w .entry)) m (held l (now (s .exit))) (now (clauses .exit)) (now (w .exit)) ⌝ }
 {
     let mut m = n;
     let mut head = 0;
@@ -110,9 +117,7 @@ fn serve_line(marks: &[u8], unions: &[u8], t: &[u8], k: Counts, s: &mut [u8], cl
         m = serve_next(marks, unions, t, k, s, clauses, w, l, m, r, drawn, head);
         head += 1;
     }
-    let mut done = m;
-    done.first = m.tail;
-    done
+    m
 }
 
 // ---- a run
@@ -121,8 +126,9 @@ fn serve_line(marks: &[u8], unions: &[u8], t: &[u8], k: Counts, s: &mut [u8], cl
 fn open_added(marks: &[u8], unions: &[u8], t: &[u8], k: Counts, s: &mut [u8], l: Limits, n: Counters) -> Counters
     requires { ⌜ Catalogued k (now marks) (now unions) (now t) ⌝ }
     requires { ⌜ Fits l (length (now s)) ⌝ }
-    requires { ⌜ GoodState (catalogue k (now marks) (now unions) (now t)) l n (held l (now s)) ⌝ }
-    ensures { λ m. ⌜ StateDid (catalogue k (now (marks .entry)) (now (unions .entry)) (now (t .entry))) l (λ v. λ u. onOpening (λ o. fold openOwner (o .added) o) u) n (held l (now (s .entry))) m (held l (now (s .exit))) ⌝ }
+    requires { ⌜ GoodAlone (catalogue k (now marks) (now unions) (now t)) l n (held l (now s)) ⌝ }
+    requires { ⌜ AddedGiven (catalogue k (now marks) (now unions) (now t)) (listed (n .added) 6 (held l (now s))) ⌝ }
+    ensures { λ m. ⌜ StateDid (catalogue k (now (marks .entry)) (now (unions .entry)) (now (t .entry))) l (λ v. onOpening openAdded) n (held l (now (s .entry))) m (held l (now (s .exit))) ⌝ }
 {
     let mut m = n;
     let mut i = 0;
@@ -136,6 +142,12 @@ fn open_added(marks: &[u8], unions: &[u8], t: &[u8], k: Counts, s: &mut [u8], l:
 
 // The `drawn` entries fire, each a task of its own.
 fn fire_drawn(marks: &[u8], unions: &[u8], t: &[u8], k: Counts, s: &mut [u8], w: &[u8], l: Limits, n: Counters, drawn: usize) -> Counters
+    requires { ⌜ Catalogued k (now marks) (now unions) (now t) ⌝ }
+    requires { ⌜ Fits l (length (now s)) ⌝ }
+    requires { ⌜ GoodAlone (catalogue k (now marks) (now unions) (now t)) l n (held l (now s)) ⌝ }
+    requires { ⌜ Long l (length (now w)) × (drawn ≤ l .waiting) ⌝ }
+    requires { ⌜ AllGiven (catalogue k (now marks) (now unions) (now t)) (drawnIn l drawn (now w)) ⌝ }
+    ensures { λ m. ⌜ StateDid (catalogue k (now (marks .entry)) (now (unions .entry)) (now (t .entry))) l (λ v. onOpening (fireDrawn (catalogue k (now (marks .entry)) (now (unions .entry)) (now (t .entry))) v (drawnIn l drawn (now (w .entry))))) n (held l (now (s .entry))) m (held l (now (s .exit))) ⌝ }
 {
     let mut m = n;
     let mut e = 0;
@@ -147,30 +159,40 @@ fn fire_drawn(marks: &[u8], unions: &[u8], t: &[u8], k: Counts, s: &mut [u8], w:
     m
 }
 
-// The added owners are opened, then the drawn entries fire.
-fn begin_run(marks: &[u8], unions: &[u8], t: &[u8], k: Counts, s: &mut [u8], w: &[u8], l: Limits, n: Counters) -> Counters
+// Nothing is added, nothing drawn and nothing in the line; one run more.
+fn emptied(n: Counters) -> Counters
+    requires { ⌜ n .runs < 65535 ⌝ }
+    ensures { λ r. ⌜ r ≡ emptied n ⌝ }
 {
     let mut a = n;
     a.first = 0;
     a.tail = 0;
     a.drawn = 0;
     a.runs = n.runs + 1;
-    let b = open_added(marks, unions, t, k, s, l, a);
+    a
+}
+
+// The added owners are opened, then the drawn entries fire.
+fn begin_run(marks: &[u8], unions: &[u8], t: &[u8], k: Counts, s: &mut [u8], clauses: &[u8], w: &[u8], l: Limits, n: Counters) -> Counters
+    requires { ⌜ Catalogued k (now marks) (now unions) (now t) ⌝ }
+    requires { ⌜ Fits l (length (now s)) ⌝ }
+    requires { ⌜ Reaches (catalogue k (now marks) (now unions) (now t)) l n (held l (now s)) (now clauses) (now w) ⌝ }
+    requires { ⌜ LongEnough l (length (now clauses)) (length (now w)) × (n .runs < 65535) ⌝ }
+    ensures { λ m. ⌜ Begins (catalogue k (now (marks .entry)) (now (unions .entry)) (now (t .entry))) l n (held l (now (s .entry))) (now (clauses .entry)) (now (w .entry)) m (held l (now (s .exit))) ⌝ }
+{
+    let a = open_added(marks, unions, t, k, s, l, emptied(n));
     marked::clear(s, l, state::ADDED, state::ADDED_MARKS, n.added);
-    let mut c = b;
-    c.added = 0;
-    fire_drawn(marks, unions, t, k, s, w, l, c, n.drawn)
+    let mut b = a;
+    b.added = 0;
+    fire_drawn(marks, unions, t, k, s, w, l, b, n.drawn)
 }
 
 // The run carried out, or full.
 pub fn run_once(marks: &[u8], unions: &[u8], t: &[u8], k: Counts, s: &mut [u8], clauses: &mut [u8], w: &mut [u8], l: Limits, n: Counters, level: u16) -> Counters
     requires { ⌜ Catalogued k (now marks) (now unions) (now t) ⌝ }
     requires { ⌜ Fits l (length (now s)) ⌝ }
-    requires { ⌜ Good (catalogue k (now marks) (now unions) (now t)) l n (held l (now s)) (now clauses) (now w) ⌝ }
-    requires { ⌜ LongEnough l (length (now clauses)) (length (now w)) ⌝ }
-    requires { ⌜ Marked 14 15 0 (held l (now s)) ⌝ }
     requires { ⌜ Reaches (catalogue k (now marks) (now unions) (now t)) l n (held l (now s)) (now clauses) (now w) ⌝ }
-    requires { ⌜ n .runs < 65535 ⌝ }
+    requires { ⌜ LongEnough l (length (now clauses)) (length (now w)) × (n .runs < 65535) ⌝ }
     ensures { λ m. ⌜ RunDid (catalogue k (now (marks .entry)) (now (unions .entry)) (now (t .entry))) l level n (held l (now (s .entry))) (now (clauses .entry)) (now (w .entry)) m (held l (now (s .exit))) (now (clauses .exit)) (now (w .exit)) ⌝ }
 {
     let r = Run {
@@ -179,14 +201,8 @@ pub fn run_once(marks: &[u8], unions: &[u8], t: &[u8], k: Counts, s: &mut [u8], 
         before: n.variables,
     };
     let drawn = n.drawn;
-    let a = begin_run(marks, unions, t, k, s, w, l, n);
+    let a = begin_run(marks, unions, t, k, s, clauses, w, l, n);
     let b = serve_line(marks, unions, t, k, s, clauses, w, l, a, r, drawn);
-    if b.full {
-        return b;
-    }
     let c = binary_encoding::join_all(marks, unions, t, k, s, clauses, l, b, r);
-    if c.full {
-        return c;
-    }
     binary_encoding::link_all(marks, unions, t, k, s, clauses, l, c, r)
 }
