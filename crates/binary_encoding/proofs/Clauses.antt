@@ -8,16 +8,19 @@ use native.Mathlib.Numerals.{add-one}
 use native.Mathlib.Decide.{decLt}
 use native.Mathlib.Omega.{arith}
 use lib.Dec.{ltb}
-use lib.ListN.{length, getD, take, drop, drop-of-length-le}
+use lib.ListN.{length, getD, drop, length-map, drop-of-length-le}
 use lib.Seq.{drop-cons, getD-take}
 use borrow.Author.Tests.{lt-ltb, le-ltb}
-use Rattle.rules.specs.Lists.{listIf}
+use Rattle.rules.specs.Lists.{listIf, upTo}
 use Rattle.rules.specs.Clause.{Clause, anyOne}
 use Rattle.rules.specs.AtMostOne.{bit, agrees, helpersFor, helpersAfter, helperClauses, helpersClauses, partClauses}
-use Rattle.rules.specs.Variables.{Origin, one, known, variableOf}
-use Rattle.rules.proofs.Each.{Each, each-at}
+use Rattle.rules.specs.Variables.{Origin, forbid, one, known, variableOf, partOrigin, partVariable}
+use Rattle.rules.proofs.Each.{Each, each-at, each-imp, each-map}
+use Rattle.rules.proofs.ListLaws.{length-upTo}
+use Rattle.rules.proofs.AtMostOne.{at-most-ten}
 use Rattle.rules.proofs.Grows.{whole}
 use Rattle.rules.proofs.Places.{stands, unknown-beyond}
+use Rattle.tables.specs.declared.Counts.{Counts}
 use Rattle.state.specs.declared.Limits.{Limits}
 use Rattle.state.specs.Layout.{held, Fits}
 use Rattle.variable_map.specs.Mapping.{inTables, variables, place}
@@ -25,11 +28,13 @@ use Rattle.variable_map.proofs.Laws as variables
 use Rattle.variable_map.proofs.Places.{place-known, placed, unplaced}
 use Rattle.encoder.specs.declared.Counters.{Counters}
 use Rattle.encoder.specs.declared.Run.{Run}
+use Rattle.marked.specs.Marked.{listed}
 use Rattle.encoder.specs.Held.{LongEnough}
+use Rattle.encoder.specs.Did.{Looked}
 use Rattle.clauses.specs.Adding.{Adds}
 use Rattle.binary_encoding.specs.declared.Tracker.{Tracker}
-use Rattle.binary_encoding.specs.Joining.{AddsAll, GoodSome, helpersIn, HelpersBelow, newHelperClauses, oneClauses}
-use Rattle.binary_encoding.proofs.Steps.{Adding, adding-start, adding-step, adding-end, adds-none, adds-one, adds-as, some-mapped, some-after, Areas, areas-start, areas-then}
+use Rattle.binary_encoding.specs.Joining.{AddsAll, GoodSome, helpersIn, Holds, firstHelpers, helperVariables, HelpersBelow, ofName, variablesOf, newHelperClauses, oneClauses, trackedClauses, joinedClauses, CanAddPart}
+use Rattle.binary_encoding.proofs.Steps.{Adding, adding-start, adding-step, adding-end, adds-none, adds-one, adds-then, adds-stop, adds-as, some-good, some-mapped, some-after, some-all, same-then, same-count, clauses-same, Areas, areas-start, areas-then}
 
 -- ---- the tracker's helpers
 
@@ -145,3 +150,63 @@ module _ (l : Limits) (r : Run) (n : Counters) (st : ℕ → List ℕ) (cl : Lis
     one-older z h a =
         let is = is-one (variables (n .variables) st) e f z in
         adds-as (adds-one (rw is at a)) (rw (lt-ltb (variableOf (variables (n .variables) st) (one name)) (r .before) (omega arith)))
+
+-- ---- all of them
+
+module _ {l : Limits} {r : Run} {n : Counters} {st : ℕ → List ℕ} {cl : List ℕ} (name x i : ℕ) (ys xs : List ℕ) {a : Counters} {st₁ : ℕ → List ℕ} {cl₁ : List ℕ}
+    (d : AddsAll l r (newHelperClauses i ys xs) n st cl a st₁ cl₁) where
+  pub tracked-first : a .full ≡ true → AddsAll l r (trackedClauses (r .before) (variables (n .variables) st) name x i ys xs) n st cl a st₁ cl₁
+  unfolding trackedClauses
+  tracked-first f = adds-stop (oneClauses (r .before) (variables (n .variables) st) name x) (adds-stop (partClauses x i 0 ys) d f) f
+
+  module _ {b : Counters} {st₂ : ℕ → List ℕ} {cl₂ : List ℕ} (e : AddsAll l r (partClauses x i 0 ys) a st₁ cl₁ b st₂ cl₂) where
+    pub tracked-second : b .full ≡ true → AddsAll l r (trackedClauses (r .before) (variables (n .variables) st) name x i ys xs) n st cl b st₂ cl₂
+    unfolding trackedClauses
+    tracked-second f = adds-stop (oneClauses (r .before) (variables (n .variables) st) name x) (adds-then d e) f
+
+    pub tracked-older : GoodSome l n st cl → a .full ≡ false → b .full ≡ false → r .before ≤ n .variables → r .before ≤ b .variables
+    tracked-older g f f′ h =
+        let q = same-then (clauses-same d (some-good g) f) (clauses-same e (some-good (some-all g d)) f′) in
+        omega (arith, same-count q)
+
+    pub tracked-all : {m : Counters} {st₃ : ℕ → List ℕ} {cl₃ : List ℕ} → GoodSome l n st cl → a .full ≡ false → b .full ≡ false
+        → AddsAll l r (oneClauses (r .before) (variables (b .variables) st₂) name x) b st₂ cl₂ m st₃ cl₃
+        → AddsAll l r (trackedClauses (r .before) (variables (n .variables) st) name x i ys xs) n st cl m st₃ cl₃
+    unfolding trackedClauses
+    tracked-all g f f′ k =
+        let q = same-then (clauses-same d (some-good g) f) (clauses-same e (some-good (some-all g d)) f′) in
+        adds-then (adds-then d e) (rw (q .variables) at k)
+
+-- ---- of a part and helpers that have variables
+
+length-variables : (vs : List Origin) (name h : ℕ) → length (helperVariables vs name h) ≡ h
+unfolding helperVariables firstHelpers
+length-variables vs name h = simp (length-map, length-upTo)
+
+module _ {k : Counts} {t : List ℕ} {l : Limits} {n : Counters} {st : ℕ → List ℕ} {cl : List ℕ} {name p i h : ℕ} (g : GoodSome l n st cl) (q : CanAddPart k t n st name p i h) where
+  pub part-below : {o : Origin} {x : ℕ} → o ≡ partOrigin p → Looked (variables (n .variables) st) o x → x < l .variables
+  part-below e y = omega (arith, y .below (rw e (q .known)), variables.count (n .variables) st, some-mapped g .room)
+
+  pub helpers-below : {x : Tracker} → Holds x (helperVariables (variables (n .variables) st) name h) → HelpersBelow x i (l .variables)
+  helpers-below {x} d =
+      let vs = variables (n .variables) st in
+      record {
+        room = d .room;
+        count = d .count ∙ (length-variables vs name h ∙ q .helpers);
+        length = ap length (d .is) ∙ sym (d .count);
+        below = rw (d .is) (unfold helperVariables firstHelpers in each-map (variableOf vs) (map (forbid name) (upTo 0 h)) (each-map (forbid name) (upTo 0 h)
+            (each-imp (λ j e. let z = stands vs (forbid name j) (forbid name j) e .0 in let y = variables.count (n .variables) st in let w = some-mapped g .room in omega arith) (q .helpers-known .known))));
+      }
+
+  pub joined-all : {r : Run} {n′ : Counters} {st′ : ℕ → List ℕ} {cl′ : List ℕ} {o : Origin} {x : ℕ} {tracker : Tracker} → o ≡ partOrigin p → Looked (variables (n .variables) st) o x
+      → Holds tracker (helperVariables (variables (n .variables) st) name h)
+      → AddsAll l r (trackedClauses (r .before) (variables (n .variables) st) name x i (helpersIn tracker) (variablesOf k t n st name)) n st cl n′ st′ cl′
+      → AddsAll l r (joinedClauses (r .before) (variables (n .variables) st) name p (ofName k t name (listed (n .tracked) 10 st))) n st cl n′ st′ cl′
+  unfolding joinedClauses variablesOf
+  joined-all {x = x} {tracker = tracker} e y d a =
+      let is : x ≡ partVariable (variables (n .variables) st) p = rw e at (y .is (rw e (q .known))) in
+      let hs : helpersIn tracker ≡ helperVariables (variables (n .variables) st) name (helpersFor (suc i)) = d .is ∙ rw (q .helpers, add-one i) in
+      adds-as a (rw (is, hs, ← q .count))
+
+pub few-helpers : {k : Counts} {t : List ℕ} {n : Counters} {st : ℕ → List ℕ} {name p i h : ℕ} → CanAddPart k t n st name p i h → h ≤ 10
+few-helpers {i = i} q = rw (q .helpers) (at-most-ten (i + 1) (omega (arith, q .few)))

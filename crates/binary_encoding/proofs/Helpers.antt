@@ -15,7 +15,7 @@ use borrow.Author.Tests.{eqb-true, lt-ltb}
 use Rattle.rules.specs.Lists.{all, snoc, upTo}
 use Rattle.rules.specs.AtMostOne.{bit, helpersFor}
 use Rattle.rules.specs.Compute.{computing}
-use Rattle.rules.specs.Variables.{Origin, forbid, known, variableOf}
+use Rattle.rules.specs.Variables.{Origin, forbid, known, variableOf, partOrigin}
 use Rattle.rules.proofs.Each.{each-out}
 use Rattle.rules.proofs.Member.{all-out, upTo-in}
 use Rattle.rules.proofs.ListLaws.{length-upTo}
@@ -29,8 +29,8 @@ use Rattle.variable_map.specs.Mapping.{originOf, inTables}
 use Rattle.encoder.specs.declared.Counters.{Counters}
 use Rattle.encoder.specs.Did.{Looked, PlainDid}
 use Rattle.binary_encoding.specs.declared.Tracker.{Tracker}
-use Rattle.binary_encoding.specs.Joining.{NamesAll, GoodAlone, helpersIn, Holds, firstHelpers, helperVariables, HelpersKnown}
-use Rattle.binary_encoding.proofs.Steps.{alone-named, names-none, names-more}
+use Rattle.binary_encoding.specs.Joining.{NamesAll, GoodAlone, helpersIn, Holds, firstHelpers, joinOrigins, helperVariables, HelpersKnown}
+use Rattle.binary_encoding.proofs.Steps.{alone-named, names-none, names-more, names-first}
 
 -- ---- powers of two
 
@@ -168,3 +168,10 @@ module _ {vs : List Origin} {name h : ℕ} {x : Tracker} {j : ℕ} (t : Tracking
   tracking-end k =
       let e : h ≡ j = omega (arith, t .within) in
       rw e (t .holds)
+
+-- ---- a part and its helpers
+
+pub joins-named : {l : Limits} {n n′ n″ : Counters} {st st′ st″ : ℕ → List ℕ} (o : code.Origin) (name p h : ℕ) → originOf o ≡ partOrigin p
+    → PlainDid l (λ c v. addVariable (originOf o)) n st n′ st′ → NamesAll l (firstHelpers name h) n′ st′ n″ st″ → NamesAll l (joinOrigins name p h) n st n″ st″
+unfolding joinOrigins
+joins-named o name p h e a b = rw (← e) (names-first (originOf o) a b)

@@ -32,20 +32,20 @@ use Rattle.encoder.specs.Held.{LongEnough}
 use Rattle.encoder.specs.Did.{Looked}
 use Rattle.clauses.specs.Adding.{Adds}
 use Rattle.goals.specs.Goals.{AllKnown}
-use Rattle.binary_encoding.specs.Joining.{AddsAll, GoodSome, ofName, variablesOf, variableAt, IsAt, NextOf, anyClauses}
+use Rattle.binary_encoding.specs.Joining.{AddsAll, GoodSome, partName, ofName, variablesOf, variableAt, IsAt, NextOf, anyClauses}
 use Rattle.binary_encoding.proofs.Steps.{Adding, adding-start, adding-step, adding-stop, adding-end, some-good, some-tracked, some-after, Areas, areas-start, areas-then, Same, same-tracked, clause-same, known-same}
 
 -- ---- the next of them
 
 module _ (k : Counts) (t : List ℕ) (name : ℕ) (ps : List ℕ) (i : ℕ) where
-  name-here : i < length ps → (getD (tables k t .parts) (getD ps i 0) noPart) .name ≡ name
+  name-here : i < length ps → partName k t (getD ps i 0) ≡ name
       → ofName k t name (drop i ps) ≡ getD ps i 0 ∷ ofName k t name (drop (i + 1) ps)
   unfolding ofName filter
-  name-here h e = rw (drop-cons ps i 0 h, add-one, eq-eqb ((getD (tables k t .parts) (getD ps i 0) noPart) .name) name e, filter)
+  name-here h e = rw (drop-cons ps i 0 h, add-one, eq-eqb (partName k t (getD ps i 0)) name e, filter)
 
-  name-past : i < length ps → ((getD (tables k t .parts) (getD ps i 0) noPart) .name ≡ name → ⊥) → ofName k t name (drop i ps) ≡ ofName k t name (drop (i + 1) ps)
+  name-past : i < length ps → (partName k t (getD ps i 0) ≡ name → ⊥) → ofName k t name (drop i ps) ≡ ofName k t name (drop (i + 1) ps)
   unfolding ofName filter
-  name-past h e = rw (drop-cons ps i 0 h, add-one, ne-eqb ((getD (tables k t .parts) (getD ps i 0) noPart) .name) name e, filter)
+  name-past h e = rw (drop-cons ps i 0 h, add-one, ne-eqb (partName k t (getD ps i 0)) name e, filter)
 
   name-none : length ps ≤ i → ofName k t name (drop i ps) ≡ []
   unfolding ofName filter
@@ -61,7 +61,8 @@ look-start k t name ps i = record { from = omega arith; left = refl }
 
 module _ {k : Counts} {t : List ℕ} (count : ℕ) (st : ℕ → List ℕ) {name i at : ℕ} (x : Looking k t name (listed count 10 st) i at) where
   module _ (p a : ℕ) (e : p ≡ getD (listed count 10 st) at 0) (d : a ≡ (getD (tables k t .parts) p noPart) .name) where
-    is-name : a ≡ (getD (tables k t .parts) (getD (listed count 10 st) at 0) noPart) .name
+    is-name : a ≡ partName k t (getD (listed count 10 st) at 0)
+    unfolding partName
     is-name = rw (← e) d
 
     pub look-found : a ≡ name → NextOf k t name (listed count 10 st) i at
@@ -119,7 +120,7 @@ pub record Walking (k : Counts) (t : List ℕ) (l : Limits) (r : Run) (name : �
   pub count : n .tracked ≡ n₀ .tracked
   pub few : n .tracked ≤ 1025
   pub known : AllKnown (variables (n .variables) (held l b)) (listed (n .tracked) 10 (held l b))
-  pub here : at < length (listed (n .tracked) 10 (held l b)) → (getD (tables k t .parts) (getD (listed (n .tracked) 10 (held l b)) at 0) noPart) .name ≡ name
+  pub here : at < length (listed (n .tracked) 10 (held l b)) → partName k t (getD (listed (n .tracked) 10 (held l b)) at 0) ≡ name
   pub did : Adding l r all (rest (map (partVariable (variables (n .variables) (held l b))) (ofName k t name (drop at (listed (n .tracked) 10 (held l b))))))
       n₀ (held l b₀) cl₀ n (held l b) cl
 

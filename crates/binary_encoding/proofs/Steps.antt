@@ -15,6 +15,8 @@ use Rattle.rules.proofs.DistinctEnough.{fold-append}
 use Rattle.rules.proofs.Effects.{effect-is, effect-leaves}
 use Rattle.rules.proofs.Capped.{addVariable}
 use Rattle.rules.proofs.ClauseByClause.{addClause}
+use Rattle.tables.specs.declared.Counts.{Counts}
+use Rattle.cache.specs.Areas.{catalogue}
 use Rattle.state.specs.declared.Limits.{Limits}
 use Rattle.state.specs.Layout.{Fits}
 use Rattle.variable_map.specs.Mapping.{variables, Mapped}
@@ -23,14 +25,14 @@ use Rattle.marked.specs.Marked.{listed, Marked}
 use Rattle.marked.proofs.Laws.{length-listed}
 use Rattle.encoder.specs.declared.Counters.{Counters}
 use Rattle.encoder.specs.declared.Run as code
-use Rattle.encoder.specs.Held.{runOf, Reading, openingOf, stateOf, GoodState, Good, LongEnough}
+use Rattle.encoder.specs.Held.{runOf, Reading, openingOf, stateOf, Good, LongEnough}
 use Rattle.encoder.specs.Did.{Widens, Did, PlainDid}
 use Rattle.encoder.proofs.Did.{widens-same, widens-fold, did-nothing, did-idle, did-as, did-then, did-stop}
 use Rattle.encoder.proofs.Widening.{addVariable-widens, addClause-widens}
 use Rattle.clauses.specs.Adding.{CanAdd, Adds}
 use Rattle.clauses.proofs.Adding.{good-can-add}
 use Rattle.goals.specs.Goals.{AllKnown}
-use Rattle.binary_encoding.specs.Joining.{Makes, AddsAll, NamesAll, GoodNow, GoodSome, GoodAlone}
+use Rattle.binary_encoding.specs.Joining.{Makes, AddsAll, NamesAll, GoodOf, GoodSome, GoodAlone}
 
 -- nothing is read
 abbrev pub blind : Reading
@@ -46,17 +48,12 @@ module _ {c : Catalogue} {l : Limits} {n : Counters} {st : ℕ → List ℕ} whe
   pub good-waiting : {cl wt : List ℕ} (wt′ : List ℕ) → Good c l n st cl wt → Good c l n st cl wt′
   good-waiting wt′ g = record { state = g .state; clauses = g .clauses; entries = g .entries }
 
-  pub now-good : {cl : List ℕ} → GoodNow c l n st cl → Good c l n st cl []
-  now-good (GoodNow.good g) = g
+module _ {k : Counts} {t : List ℕ} {l : Limits} {n : Counters} {st : ℕ → List ℕ} {cl : List ℕ} where
+  pub of-some : GoodOf k t l n st cl → GoodSome l n st cl
+  of-some (GoodOf.good m u g) = GoodSome.some (catalogue k m u t) g
 
-  pub now-some : {cl : List ℕ} → GoodNow c l n st cl → GoodSome l n st cl
-  now-some (GoodNow.good g) = GoodSome.some c g
-
-  pub now-alone : {cl : List ℕ} → GoodNow c l n st cl → GoodAlone l n st
-  now-alone {cl} (GoodNow.good g) = GoodAlone.alone c cl g
-
-  pub now-state : {cl : List ℕ} → GoodNow c l n st cl → GoodState c l n st
-  now-state (GoodNow.good g) = g .state
+  pub of-alone : GoodOf k t l n st cl → GoodAlone l n st
+  of-alone (GoodOf.good m u g) = GoodAlone.alone (catalogue k m u t) cl g
 
 module _ {l : Limits} {n : Counters} {st : ℕ → List ℕ} {cl : List ℕ} where
   abbrev pub catalogueIn : GoodSome l n st cl → Catalogue
@@ -323,3 +320,14 @@ module _ {l : Limits} {n n′ : Counters} {st st′ : ℕ → List ℕ} {cl cl�
 
 pub known-same : {n n′ : Counters} {st st′ : ℕ → List ℕ} → Same n st n′ st′ → AllKnown (variables (n .variables) st) (listed (n .tracked) 10 st) → AllKnown (variables (n′ .variables) st′) (listed (n′ .tracked) 10 st′)
 known-same s k = rw (s .variables, s .tracked) k
+
+-- ---- areas that a call has changed
+
+pub fits-same : {l : Limits} {a b : ℕ} → Fits l a → b ≡ a → Fits l b
+fits-same f e = rw e f
+
+pub long-same : {l : Limits} {a b : ℕ} → LongEnough l a 16384 → b ≡ a → LongEnough l b 16384
+long-same f e = rw e f
+
+pub some-named : {l : Limits} {os : List Origin} {n n′ : Counters} {st st′ : ℕ → List ℕ} {cl : List ℕ} → GoodSome l n st cl → NamesAll l os n st n′ st′ → GoodSome l n′ st′ cl
+some-named {cl = cl} (GoodSome.some c g) d = GoodSome.some c (d .is c .is cl [] .good g)

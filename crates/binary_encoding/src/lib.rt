@@ -398,8 +398,8 @@ fn join_name(t: &[u8], k: Counts, s: &mut [u8], clauses: &mut [u8], l: Limits, n
 {
     let mut m = n;
     let mut i = 0;
-    while i < n.named {
-        let p = marked::at(s, l, state::NAMED, n.named, i);
+    while i < m.named {
+        let p = marked::at(s, l, state::NAMED, m.named, i);
         m = join_if(t, k, s, clauses, l, m, r, name, p);
         if m.full {
             return m;

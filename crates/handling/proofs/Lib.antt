@@ -5,3 +5,7 @@ pub mod Required
 pub mod Pushing
 pub mod Literals
 pub mod Falsified
+pub mod Owning
+pub mod Adding
+pub mod Steps
+pub mod Serving

@@ -42,6 +42,14 @@ pub record Named (c : Catalogue) (q : ℕ) (vs : List Origin) : Type 0 where
   pub owner : known vs (chosen (ownerAt c q)) ≡ true
   pub candidates : Each (λ p. known vs (partOrigin p) ≡ true) (candidates c (goalAt c q))
 
+abbrev pub ownerOrigin : Catalogue → ℕ → Origin
+ownerOrigin c q = chosen (ownerAt c q)
+
+-- x is the variable of o
+pub record Found (l : Limits) (vs : List Origin) (o : Origin) (x : ℕ) : Type 0 where
+  pub is : x ≡ variableOf vs o
+  pub low : x < l .variables
+
 -- the list at hand has the distinct ranges of its goal
 pub record AtHand (c : Catalogue) (q ranges : ℕ) (st : ℕ → List ℕ) : Type 0 where
   pub marked : Marked 14 15 ranges st

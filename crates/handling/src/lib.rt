@@ -39,7 +39,7 @@ ghost use Rattle.parts.specs.Parts.{namingOf};
 ghost use Rattle.owners.specs.Owners.{serving};
 ghost use Rattle.firing.specs.Firing.{indicesIn};
 ghost use Rattle.naming.specs.Naming.{nameDisjuncts, GivenIndices};
-ghost use Rattle.handling.specs.Handling.{Pushes, partLiterals, literalFalse, AtHand, Named, FiredKnown, addDirect, addGate, addThroughGate, addFired, addAllFired, addUnconditional, handled, RangeKnown, DisjunctKnown};
+ghost use Rattle.handling.specs.Handling.{Pushes, partLiterals, literalFalse, AtHand, ownerOrigin, Named, Found, FiredKnown, addDirect, addGate, addThroughGate, addFired, addAllFired, addUnconditional, handled, RangeKnown, DisjunctKnown};
 
 // ---- condition literals, behind those of the stored clauses
 
@@ -188,8 +188,22 @@ fn gate_origin(goal: Requirement) -> Origin
     }
 }
 
+// The variable of its owner, which has one.
+fn owner_variable(marks: &[u8], unions: &[u8], t: &[u8], k: Counts, s: &[u8], l: Limits, n: Counters, q: usize) -> u16
+    requires { ⌜ Catalogued k (now marks) (now unions) (now t) ⌝ }
+    requires { ⌜ Fits l (length (now s)) ⌝ }
+    requires { ⌜ GoodState (catalogue k (now marks) (now unions) (now t)) l n (held l (now s)) ⌝ }
+    requires { ⌜ q < k .requirements ⌝ }
+    requires { ⌜ Named (catalogue k (now marks) (now unions) (now t)) q (variables (n .variables) (held l (now s))) ⌝ }
+    ensures { λ x. ⌜ Found l (variables (n .variables) (held l (now (s .entry)))) (ownerOrigin (catalogue k (now (marks .entry)) (now (unions .entry)) (now (t .entry))) q) x ⌝ }
+{
+    let it = tables::requirement_at(t, k, q);
+    let o = owners::owner_origin(owners::owner_number(it.owner));
+    opening::variable_of(s, l, n, o)
+}
+
 // The requires clause of an unconditional requirement.
-fn add_direct(marks: &[u8], unions: &[u8], t: &[u8], k: Counts, s: &mut [u8], clauses: &mut [u8], l: Limits, n: Counters, r: Run, q: usize, ranges: usize) -> Counters
+fn add_direct(marks: &[u8], unions: &[u8], t: &[u8], k: Counts, s: &[u8], clauses: &mut [u8], l: Limits, n: Counters, r: Run, q: usize, ranges: usize) -> Counters
     requires { ⌜ Catalogued k (now marks) (now unions) (now t) ⌝ }
     requires { ⌜ Fits l (length (now s)) ⌝ }
     requires { ⌜ Good (catalogue k (now marks) (now unions) (now t)) l n (held l (now s)) (now clauses) [] ⌝ }
@@ -197,17 +211,17 @@ fn add_direct(marks: &[u8], unions: &[u8], t: &[u8], k: Counts, s: &mut [u8], cl
     requires { ⌜ (q < k .requirements) × (0 < r .number) ⌝ }
     requires { ⌜ AtHand (catalogue k (now marks) (now unions) (now t)) q ranges (held l (now s)) ⌝ }
     requires { ⌜ Named (catalogue k (now marks) (now unions) (now t)) q (variables (n .variables) (held l (now s))) ⌝ }
-    ensures { λ m. ⌜ ClausesDid (catalogue k (now (marks .entry)) (now (unions .entry)) (now (t .entry))) l (λ v. addDirect (catalogue k (now (marks .entry)) (now (unions .entry)) (now (t .entry))) (runOf r) q) n (held l (now (s .entry))) (now (clauses .entry)) m (held l (now (s .exit))) (now (clauses .exit)) ⌝ }
+    ensures { λ m. ⌜ ClausesDid (catalogue k (now (marks .entry)) (now (unions .entry)) (now (t .entry))) l (λ v. addDirect (catalogue k (now (marks .entry)) (now (unions .entry)) (now (t .entry))) (runOf r) q) n (held l (now (s .entry))) (now (clauses .entry)) m (held l (now (s .entry))) (now (clauses .exit)) ⌝ }
 {
     let it = tables::requirement_at(t, k, q);
     let goal = it.requirement;
-    let x = opening::variable_of(s, l, n, owners::owner_origin(owners::owner_number(it.owner)));
+    let x = owner_variable(marks, unions, t, k, s, l, n, q);
     let all = rest_false(marks, unions, t, k, s, l, n, q, ranges, 0);
     clauses::add_requires(s, clauses, l, n, r, x, 0, goal.form(), goal.number(), all)
 }
 
-// A gate that is new has a clause of its own.
-fn add_gate(marks: &[u8], unions: &[u8], t: &[u8], k: Counts, s: &mut [u8], clauses: &mut [u8], l: Limits, n: Counters, r: Run, q: usize, ranges: usize, new: bool) -> Counters
+// A gate that is new, its variable being g, has a clause of its own.
+fn add_gate(marks: &[u8], unions: &[u8], t: &[u8], k: Counts, s: &mut [u8], clauses: &mut [u8], l: Limits, n: Counters, r: Run, q: usize, ranges: usize, g: u16, new: bool) -> Counters
     requires { ⌜ Catalogued k (now marks) (now unions) (now t) ⌝ }
     requires { ⌜ Fits l (length (now s)) ⌝ }
     requires { ⌜ Good (catalogue k (now marks) (now unions) (now t)) l n (held l (now s)) (now clauses) [] ⌝ }
@@ -215,17 +229,16 @@ fn add_gate(marks: &[u8], unions: &[u8], t: &[u8], k: Counts, s: &mut [u8], clau
     requires { ⌜ (q < k .requirements) × (0 < r .number) ⌝ }
     requires { ⌜ AtHand (catalogue k (now marks) (now unions) (now t)) q ranges (held l (now s)) ⌝ }
     requires { ⌜ Named (catalogue k (now marks) (now unions) (now t)) q (variables (n .variables) (held l (now s))) ⌝ }
-    requires { ⌜ known (variables (n .variables) (held l (now s))) (gate (goalAt (catalogue k (now marks) (now unions) (now t)) q)) ≡ true ⌝ }
+    requires { ⌜ Found l (variables (n .variables) (held l (now s))) (gate (goalAt (catalogue k (now marks) (now unions) (now t)) q)) g ⌝ }
     ensures { λ m. ⌜ ClausesDid (catalogue k (now (marks .entry)) (now (unions .entry)) (now (t .entry))) l (λ v. addGate (catalogue k (now (marks .entry)) (now (unions .entry)) (now (t .entry))) (runOf r) q new) n (held l (now (s .entry))) (now (clauses .entry)) m (held l (now (s .exit))) (now (clauses .exit)) ⌝ }
 {
-    if !new {
-        return n;
+    if new {
+        let it = tables::requirement_at(t, k, q);
+        let goal = it.requirement;
+        let all = rest_false(marks, unions, t, k, s, l, n, q, ranges, 0);
+        return clauses::add_gated(s, clauses, l, n, r, g, goal.form(), goal.number(), all);
     }
-    let it = tables::requirement_at(t, k, q);
-    let goal = it.requirement;
-    let g = opening::variable_of(s, l, n, gate_origin(goal));
-    let all = rest_false(marks, unions, t, k, s, l, n, q, ranges, 0);
-    clauses::add_gated(s, clauses, l, n, r, g, goal.form(), goal.number(), all)
+    n
 }
 
 fn add_through_gate(marks: &[u8], unions: &[u8], t: &[u8], k: Counts, s: &mut [u8], clauses: &mut [u8], l: Limits, n: Counters, r: Run, q: usize, ranges: usize) -> Counters
@@ -240,14 +253,15 @@ fn add_through_gate(marks: &[u8], unions: &[u8], t: &[u8], k: Counts, s: &mut [u
 {
     let it = tables::requirement_at(t, k, q);
     let goal = it.requirement;
-    let new = variable_map::variable(s, l, n.variables, gate_origin(goal)) == 0;
-    let a = opening::name_variable(s, l, n, gate_origin(goal));
+    let o = gate_origin(goal);
+    let new = variable_map::variable(s, l, n.variables, o) == 0;
+    let a = opening::name_variable(s, l, n, o);
     if a.full {
         return a;
     }
-    let b = add_gate(marks, unions, t, k, s, clauses, l, a, r, q, ranges, new);
-    let g = opening::variable_of(s, l, b, gate_origin(goal));
-    let x = opening::variable_of(s, l, b, owners::owner_origin(owners::owner_number(it.owner)));
+    let g = opening::variable_of(s, l, a, o);
+    let x = owner_variable(marks, unions, t, k, s, l, a, q);
+    let b = add_gate(marks, unions, t, k, s, clauses, l, a, r, q, ranges, g, new);
     clauses::add_any_gate(s, clauses, l, b, r, g, x)
 }
 
@@ -263,16 +277,13 @@ fn add_fired(marks: &[u8], unions: &[u8], t: &[u8], k: Counts, s: &mut [u8], cla
     requires { ⌜ DisjunctKnown (catalogue k (now marks) (now unions) (now t)) (variables (n .variables) (held l (now s))) (disjunctAt (catalogue k (now marks) (now unions) (now t)) q i) ⌝ }
     ensures { λ m. ⌜ ClausesDid (catalogue k (now (marks .entry)) (now (unions .entry)) (now (t .entry))) l (λ v. addFired (catalogue k (now (marks .entry)) (now (unions .entry)) (now (t .entry))) (runOf r) q i) n (held l (now (s .entry))) (now (clauses .entry)) m (held l (now (s .exit))) (now (clauses .exit)) ⌝ }
 {
-    if n.full {
-        return n;
-    }
     let count = disjunct_literals(marks, unions, t, k, s, l, n, q, i);
-    if l.literals < n.literals + count {
+    if l.literals - n.literals < count {
         return encoder::filled(n);
     }
     let it = tables::requirement_at(t, k, q);
     let goal = it.requirement;
-    let x = opening::variable_of(s, l, n, owners::owner_origin(owners::owner_number(it.owner)));
+    let x = owner_variable(marks, unions, t, k, s, l, n, q);
     let all = rest_false(marks, unions, t, k, s, l, n, q, ranges, count);
     clauses::add_requires(s, clauses, l, n, r, x, count, goal.form(), goal.number(), all)
 }
@@ -292,6 +303,9 @@ fn add_all_fired(marks: &[u8], unions: &[u8], t: &[u8], k: Counts, s: &mut [u8],
     let mut m = n;
     let mut j = 0;
     while j < is.len {
+        if m.full {
+            return m;
+        }
         let i = is.at[j];
         m = add_fired(marks, unions, t, k, s, clauses, l, m, r, q, ranges, i as usize);
         j += 1;
