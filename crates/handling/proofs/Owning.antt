@@ -15,7 +15,7 @@ use Rattle.rules.specs.Candidates.{candidates}
 use Rattle.rules.specs.Conditions.{isNone, unconditional}
 use Rattle.rules.specs.Items as items
 use Rattle.rules.specs.Variables.{Origin, chosen, gate, known, variableOf}
-use Rattle.rules.specs.Encoding.{Shape, direct, throughGate, shapeBy, shape, shapeOf}
+use Rattle.rules.specs.Encoding.{direct, throughGate, shapeBy, shape, shapeOf}
 use Rattle.rules.proofs.Bools.{by-cases}
 use Rattle.rules.proofs.WellFormed.{GoalGiven}
 use Rattle.requirement.specs.declared.ConditionalRequirement.{ConditionalRequirement}

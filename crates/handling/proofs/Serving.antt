@@ -1,16 +1,15 @@
 -- A requirement's task: its goal's ranges are at hand while it is handled, and what was handled and fired is not kept.
 use mathlib.Core.Path.{_≡_, refl, sym, _∙_, ap}
-use mathlib.Core.Bool.{Bool, true, false, cond}
+use mathlib.Core.Bool.{Bool, true, cond}
 use mathlib.Core.List.{List, [], _∷_, List·Memᴰ·head}
-use Prim.Native.Nat.{ℕ, zero, suc, _<_, _≤_}
+use Prim.Native.Nat.{ℕ, zero, suc, _≤_}
 use native.Mathlib.Omega.{arith}
 use lib.ListN.{length, getD, take}
 use Rattle.rules.specs.Lists.{any, elem, distinct}
-use Rattle.rules.specs.Catalogue.{Catalogue, noRequirement, goalAt}
+use Rattle.rules.specs.Catalogue.{Catalogue, noRequirement}
 use Rattle.rules.specs.Candidates.{goalRanges}
 use Rattle.rules.specs.Opening.{requirement}
 use Rattle.rules.specs.State.{State, Run}
-use Rattle.rules.specs.Run.{serveTask}
 use Rattle.rules.proofs.Membership.{elem-in}
 use Rattle.rules.proofs.Forgotten.{forget, serveTask-forgets}
 use Rattle.requirement.specs.declared.ConditionalRequirement.{ConditionalRequirement}

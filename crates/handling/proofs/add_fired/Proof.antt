@@ -44,7 +44,7 @@ add-requires-requires : tie.Need-add-requires-requires
 add-requires-requires c κs = (fits-same (search needs) (c .before .before .before .before .before .before .before .before .before .before .before .before .before .before .before .before .before .before .before .before .before .pre .1 .0), (good-can-add (good-after (push-did (c .before .before .before .before .before .before .before .before .before .before .before .before .before .before .disjunct-literals .ensures)) (c .before .before .before .before .before .before .before .before .before .before .before .before .before .before .before .before .before .before .before .before .before .pre .1 .1 .0)) (c .before .before .before .before .before .before .before .before .before .before .before .before .before .before .before .before .before .before .before .before .before .pre .1 .1 .1 .0), ((c .before .before .before .before .before .before .before .before .before .before .before .before .before .before .before .before .before .before .before .before .before .pre .1 .1 .1 .1 .0 .1), omega (arith, (c .before .before .before .before .before .before .before .before .before .if1 .left), (c .before .before .before .before .before .before .before .before .before .before .before .before .before .before .before .before .before .before .before .before .before .pre .1 .0 .literals)))))
 
 same-length-2 : tie.Need-same-length-2
-same-length-2 c = search needs
+same-length-2 c = search (needs, (c .before .before .before .before .before .before .before .before .before .before .before .before .before .before .before .before .before .disjunct-literals .kept), (c .before .before .before .before .before .before .before .before .before .before .before .before .before .before .before .before .s .given))
 
 same-length-3 : tie.Need-same-length-3
 same-length-3 c = search needs

@@ -39,7 +39,7 @@ add-any-gate-requires : tie.Need-add-any-gate-requires
 add-any-gate-requires c κs = (fits-same (search needs) (c .before .before .before .before .before .before .before .before .before .before .before .before .before .before .before .before .before .before .before .before .before .before .before .before .before .before .before .pre .1 .0), (good-can-add (good-later (c .before .before .before .before .before .before .add-gate .ensures) (good-after ((c .before .before .before .before .before .before .before .before .before .before .before .before .before .before .before .before .name-variable .ensures .is) _) (c .before .before .before .before .before .before .before .before .before .before .before .before .before .before .before .before .before .before .before .before .before .before .before .before .before .before .before .pre .1 .1 .0))) (long-same (search needs) (c .before .before .before .before .before .before .before .before .before .before .before .before .before .before .before .before .before .before .before .before .before .before .before .before .before .before .before .pre .1 .1 .1 .0)), ((c .before .before .before .before .before .before .before .before .before .before .before .before .before .before .before .before .before .before .before .before .before .before .before .before .before .before .before .pre .1 .1 .1 .1 .0 .1), (found _ _ _ (gate-origin _ _ _ _ _ _ (c .before .before .before .before .before .before .before .before .before .before .before .before .before .before .before .before .before .before .before .before .before .requirement-at .ensures) _ (c .before .before .before .before .before .before .before .before .before .before .before .before .before .before .before .before .before .before .before .before .gate-origin .ensures)) (c .before .before .before .before .before .before .before .before .before .before .before .variable-of .ensures) ((good-after ((c .before .before .before .before .before .before .before .before .before .before .before .before .before .before .before .before .name-variable .ensures .is) _) (c .before .before .before .before .before .before .before .before .before .before .before .before .before .before .before .before .before .before .before .before .before .before .before .before .before .before .before .pre .1 .1 .0)) .state .mapped) (gate-known _ _ (gate-origin _ _ _ _ _ _ (c .before .before .before .before .before .before .before .before .before .before .before .before .before .before .before .before .before .before .before .before .before .requirement-at .ensures) _ (c .before .before .before .before .before .before .before .before .before .before .before .before .before .before .before .before .before .before .before .before .gate-origin .ensures)) (c .before .before .before .before .before .before .before .before .before .before .before .before .before .before .before .before .name-variable .ensures) (c .before .before .before .before .before .before .before .before .before .before .before .before .before .before .before .before .before .before .before .before .before .before .before .before .before .before .before .pre .1 .1 .0) (c .before .before .before .before .before .before .before .before .before .before .before .before .before .if1 .left))) .low, (c .before .before .before .before .before .before .before .before .before .owner-variable .ensures .low))))
 
 same-length-2 : tie.Need-same-length-2
-same-length-2 c = search needs
+same-length-2 c = search (needs, (c .before .before .before .before .before .before .before .before .before .before .before .before .before .before .before .before .before .before .before .before .before .name-variable .kept), (c .before .before .before .before .before .before .before .before .before .before .before .add-gate .kept), (c .before .before .before .before .add-any-gate .kept))
 
 same-length-3 : tie.Need-same-length-3
 same-length-3 c = search needs
