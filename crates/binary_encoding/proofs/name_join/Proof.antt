@@ -1,0 +1,26 @@
+use borrow.Author.Needs.{needs}
+use Rattle.goals.proofs.Decided.{part-in-tables}
+use Rattle.binary_encoding.proofs.Helpers.{joins-named}
+use Rattle.binary_encoding.proofs.Steps.{alone-mapped, alone-named}
+use Rattle.binary_encoding.proofs.name_join.Statement.{statement}
+use Rattle.binary_encoding.proofs.name_join.Tie as tie
+
+part-requires : tie.Need-part-requires
+part-requires c κs = search needs
+
+name-variable-requires : tie.Need-name-variable-requires
+name-variable-requires c κs = (search needs, (search (needs, alone-mapped), search (needs, part-in-tables)))
+
+name-helpers-requires : tie.Need-name-helpers-requires
+name-helpers-requires c κs = (search needs, (alone-named _ (c .before .before .before .before .before .before .before .pre .1 .0) (c .before .before .before .name-variable .ensures), search needs))
+
+same-length : tie.Need-same-length
+same-length c = search needs
+
+returns : tie.Need-returns
+returns c = search (needs, joins-named)
+
+pub name-join-spec : {M : Type 1} → statement M
+name-join-spec =
+    tie.close
+    (tie.spec part-requires name-variable-requires name-helpers-requires same-length returns)

@@ -1,0 +1,11 @@
+pub mod Handled
+pub mod Named
+pub mod Widening
+pub mod Required
+pub mod Pushing
+pub mod Literals
+pub mod Falsified
+pub mod Owning
+pub mod Adding
+pub mod Steps
+pub mod Serving

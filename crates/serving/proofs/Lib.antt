@@ -1,0 +1,6 @@
+pub mod Served
+pub mod Lined
+pub mod Points
+pub mod Point
+pub mod Behind
+pub mod Passing

@@ -1,0 +1,164 @@
+-- The same loop where the tasks that a task queues are counted with those still in the line (`passed`): the line then needs no premise of its own.
+use mathlib.Core.Path.{_≡_, refl, sym, _∙_, ap}
+use mathlib.Core.Bool.{true, false}
+use mathlib.Core.List.{List, [], _++_, map, append-nil}
+use Prim.Native.Nat.{ℕ, _+_, _-_, _<_, _≤_}
+use native.Mathlib.Omega.{arith}
+use lib.ListN.{length, length-append}
+use borrow.Author.Tests.{le-ltb}
+use Rattle.rules.specs.Lists.{any}
+use Rattle.rules.specs.Catalogue.{Catalogue}
+use Rattle.rules.specs.Opening.{Task}
+use Rattle.rules.specs.State.{State, decidedTrue, Run}
+use Rattle.rules.specs.Run.{lineTaken, serveTask, runOnce}
+use Rattle.rules.specs.Limits.{above}
+use Rattle.rules.proofs.WellFormed.{well-formed}
+use Rattle.rules.proofs.Line.{stateAfter, serves, runFrom}
+use Rattle.rules.proofs.Room as rules
+use Rattle.rules.proofs.Grows.{same, stays-above}
+use Rattle.rules.proofs.StoppedRun.{task-grows}
+use Rattle.rules.proofs.Forgotten.{forget, serveTask-forgets}
+use Rattle.state.specs.declared.Limits.{Limits}
+use Rattle.state.proofs.Changed.{changed-none}
+use Rattle.line.specs.Line.{queued, lineAt}
+use Rattle.line.specs.Tasks.{taskOf}
+use Rattle.line.proofs.Line.{queued-none}
+use Rattle.entries.specs.Entries.{drawnIn}
+use Rattle.encoder.specs.declared.Counters.{Counters}
+use Rattle.encoder.specs.Held.{Reading, taskIn, openingOf, stateOf, Good}
+use Rattle.encoder.specs.Did.{limitsOf, roomOf, beyond, Did}
+use Rattle.encoder.proofs.Frames.{good-kept}
+use Rattle.owners.specs.Owners.{serving}
+use Rattle.encoding.specs.Serving.{servedAs}
+use Rattle.encoding.specs.Running.{taken}
+use Rattle.encoding.proofs.Served.{served-is}
+use Rattle.encoding.proofs.Points.{only-first, truth-at, step-room}
+use Rattle.encoding.proofs.Behind.{behindAll, serveTask-behind}
+use Rattle.encoding.proofs.Point.{Point, taken-is, serves-one, now-first}
+
+-- the task at `head` is taken from the line
+unfoldable pub passed : ℕ → Counters → Counters
+passed head n =
+    record {
+      variables = n .variables;
+      clauses = n .clauses;
+      literals = n .literals;
+      decisions = n .decisions;
+      owners = n .owners;
+      names = n .names;
+      several = n .several;
+      added = n .added;
+      named = n .named;
+      tracked = n .tracked;
+      waiting = n .waiting;
+      drawn = n .drawn;
+      first = head + 1;
+      tail = n .tail;
+      runs = n .runs;
+      full = n .full;
+    }
+
+-- the task at `head` was served
+pub record Passes (c : Catalogue) (l : Limits) (r : Run) (drawn head : ℕ) (n : Counters) (st : ℕ → List ℕ) (cl wt : List ℕ)
+    (n′ : Counters) (st′ : ℕ → List ℕ) (cl′ wt′ : List ℕ) : Type 0 where
+  pub did : Did c l (λ v. servedAs c r (drawnIn l drawn wt) v (taskOf (lineAt head st))) (passed head n) st cl wt n′ st′ cl′ wt′
+
+pub good-passed : {c : Catalogue} {l : Limits} {head : ℕ} {n : Counters} {st : ℕ → List ℕ} {cl wt : List ℕ} → head < n .tail → Good c l n st cl wt
+    → Good c l (passed head n) st cl wt
+unfolding passed any
+good-passed {head = head} {n = n} {st = st} h g =
+    let b : head + 1 ≤ n .tail = omega arith in
+    good-kept (changed-none [] st) g (search) refl refl refl refl refl (g .entries)
+
+passed-is : (c : Catalogue) (l : Limits) (v : Reading) (head : ℕ) (n : Counters) (st : ℕ → List ℕ) (cl wt : List ℕ)
+    → stateOf c l v (passed head n) st cl wt ≡ behindAll (map (taskIn c v) (queued (head + 1) (n .tail) st)) (stateOf c l v (taken n) st cl wt)
+unfolding stateOf openingOf taken passed
+passed-is c l v head n st cl wt = rw (queued-none (n .tail) st, append-nil (map (taskIn c v) (queued (head + 1) (n .tail) st)))
+
+module _ {c : Catalogue} {l : Limits} {level : ℕ} {s₀ : State} {v : Reading} {head : ℕ} {n : Counters} {st : ℕ → List ℕ} {cl wt : List ℕ}
+    (p : Point c l level (runFrom level s₀) s₀ v head n st cl wt) (h : head < n .tail) (g : Good c l n st cl wt) where
+  abbrev rest : List Task
+  rest = map (taskIn c v) (queued (head + 1) (n .tail) st)
+
+  -- the state in which the task at the head has been served
+  abbrev served : State
+  served = serveTask c (runFrom level s₀) (taskIn c v (lineAt head st)) (p .at)
+
+  before-is : stateOf c l v (passed head n) st cl wt ≡ behindAll rest (forget (p .at))
+  before-is = passed-is c l v head n st cl wt ∙ ap (behindAll rest) (p .is)
+
+  truth-before : v .truth ≡ decidedTrue (stateOf c l v (passed head n) st cl wt)
+  truth-before = p .truth ∙ (sym (truth-at l (p .given) (p .reached) level (p .after)) ∙ (unfold decidedTrue in refl ∙ ap decidedTrue (sym before-is)))
+
+  module _ {drawn : ℕ} {n′ : Counters} {st′ : ℕ → List ℕ} {cl′ wt′ : List ℕ} (e : drawn ≡ length (v .drawn)) (f : n .full ≡ false)
+      (k : Passes c l (runFrom level s₀) drawn head n st cl wt n′ st′ cl′ wt′) where
+    entries-now : drawnIn l drawn wt ≡ v .drawn
+    entries-now = rw e (p .entries)
+
+    not-full : (passed head n) .full ≡ false
+    unfolding passed
+    not-full = f
+
+    served-behind : servedAs c (runFrom level s₀) (drawnIn l drawn wt) v (taskOf (lineAt head st)) (stateOf c l v (passed head n) st cl wt)
+        ≡ behindAll rest (forget served)
+    served-behind =
+        let run = runFrom level s₀ in
+        let x = lineAt head st in
+        let task = taskIn c v x in
+        served-is (well-formed (p .given)) run v (drawnIn l drawn wt) x _ entries-now truth-before (ap forget before-is ∙ sym before-is)
+        (rules.point-given (p .given) (p .reached) run (now-first p h g) .tasks .0)
+        ∙ unfold serving in
+        (ap (λ w. forget (serveTask c run task w)) before-is
+        ∙ (ap forget (serveTask-behind rest c run task (forget (p .at))) ∙ ap (behindAll rest) (sym (serveTask-forgets c run task (p .at)))))
+
+    over-here : n′ .full ≡ true → above (limitsOf l) (runOnce c level s₀) ≡ true
+    unfolding beyond roomOf passed above
+    over-here full =
+        let run = runFrom level s₀ in
+        let a = now-first p h g in
+        let b : beyond l (roomOf l (passed head n)) (behindAll rest (forget served)) ≡ true = rw served-behind at (k .did .over (good-passed h g) not-full full v) in
+        let room = step-room l (p .given) (p .reached) level v (p .truth) (drawnIn l drawn wt) entries-now (lineAt head st) (forget (p .at)) a refl in
+        let few : length (rest ++ served .opening .line) ≤ 3649 + l .waiting - (head + 1) = omega (arith, length-append rest (served .opening .line), room) in
+        stays-above (limitsOf l) (task-grows (p .given) (p .reached) level a same)
+        (only-first (above (limitsOf l) served) _ _ b (le-ltb (3649 + l .waiting - (head + 1)) (length (rest ++ served .opening .line)) few)
+        (le-ltb 64 (length (served .opening .several)) (rules.point-fits (p .given) (p .reached) run (serves a) .several)))
+
+    module _ (f′ : n′ .full ≡ false) (size′ : length (st′ 20) ≡ 3649 + l .waiting) where
+      state-is : stateOf c l v n′ st′ cl′ wt′ ≡ behindAll rest (forget served)
+      state-is = k .did .done (good-passed h g) not-full f′ v ∙ served-behind
+
+      first-is : n′ .first ≡ head + 1
+      unfolding passed
+      first-is = k .did .first
+
+      line-is : map (taskIn c v) (queued (head + 1) (n′ .tail) st′) ≡ rest ++ served .opening .line
+      unfolding stateOf openingOf
+      line-is = rw first-is at (ap (λ (s : State). s .opening .line) state-is)
+
+      next-here : Point c l level (runFrom level s₀) s₀ v (head + 1) n′ st′ cl′ wt′
+      next-here =
+          record {
+            given = p .given;
+            reached = p .reached;
+            run = refl;
+            size = size′;
+            at = stateAfter c (runFrom level s₀) (taskIn c v (lineAt head st)) (p .at);
+            after = rw line-is (serves-one (now-first p h g));
+            is = taken-is c l v n′ st′ cl′ wt′ ∙ ap lineTaken state-is;
+            truth = p .truth;
+            drawn = p .drawn;
+            entries = k .did .drawn (length (v .drawn)) ∙ p .entries;
+          }
+
+-- ---- the laws
+
+module _ {c : Catalogue} {l : Limits} {level : ℕ} {r : Run} {s₀ : State} {v : Reading} {head : ℕ} {n : Counters} {st : ℕ → List ℕ} {cl wt : List ℕ}
+    (p : Point c l level r s₀ v head n st cl wt) {drawn : ℕ} {n′ : Counters} {st′ : ℕ → List ℕ} {cl′ wt′ : List ℕ} (e : drawn ≡ length (v .drawn))
+    (g : Good c l n st cl wt) (f : n .full ≡ false) (h : head < n .tail) (k : Passes c l r drawn head n st cl wt n′ st′ cl′ wt′) where
+  -- a task served leads to the next point
+  pub pass-step : n′ .full ≡ false → length (st′ 20) ≡ 3649 + l .waiting → Point c l level r s₀ v (head + 1) n′ st′ cl′ wt′
+  pass-step f′ size′ = rw (p .run) (next-here (rw (p .run) at p) h g e f (rw (p .run) at k) f′ size′)
+
+  -- or the run would end above a limit
+  pub pass-over : n′ .full ≡ true → above (limitsOf l) (runOnce c level s₀) ≡ true
+  pass-over f′ = over-here (rw (p .run) at p) h g e f (rw (p .run) at k) f′
