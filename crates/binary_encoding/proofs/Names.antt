@@ -30,7 +30,7 @@ use Rattle.marked.proofs.Laws.{length-listed, at-low}
 use Rattle.encoder.specs.declared.Counters.{Counters}
 use Rattle.encoder.specs.declared.Run as code
 use Rattle.encoder.specs.Held.{runOf, openingOf, stateOf, Good, LongEnough}
-use Rattle.encoder.specs.Did.{Widens, onOpening}
+use Rattle.encoder.specs.Did.{Widens, onOpening, Beside}
 use Rattle.encoder.proofs.Did.{widens-fold}
 use Rattle.goals.specs.Goals.{AllKnown}
 use Rattle.binary_encoding.specs.Joining.{Makes, GoodOf, tracking, MakesOf, joinStep, joinIf, joinName, joinNames, CanJoin}
@@ -82,6 +82,10 @@ pub record Ready (k : Counts) (t : List ℕ) (l : Limits) (r : code.Run) (n₀ :
 
 pub of-named : {k : Counts} {t : List ℕ} {l : Limits} {n : Counters} {st : ℕ → List ℕ} {cl : List ℕ} → GoodOf k t l n st cl → Marked 8 9 (n .named) st
 of-named (GoodOf.good m u g) = g .state .named
+
+of-beside : {k : Counts} {t : List ℕ} {l : Limits} (F : Catalogue → State → State) {n n′ : Counters} {st st′ : ℕ → List ℕ} {cl cl′ : List ℕ} → GoodOf k t l n st cl
+    → MakesOf k t l F n st cl n′ st′ cl′ → Beside (n .first) st st′
+of-beside F (GoodOf.good m u g) d = d .is m u .is .is [] .beside g
 
 record Shown (before : ℕ) (qs : List ℕ) (n : Counters) (st : ℕ → List ℕ) : Type 0 where
   older : before ≤ n .variables
@@ -207,9 +211,9 @@ module _ {k : Counts} {t : List ℕ} {l : Limits} {r : code.Run} {names : ℕ} {
 
     pub naming-step : n′ .full ≡ false → length b′ ≡ length b → length cl′ ≡ length cl → Naming k t l r names n₀ b₀ cl₀ b′ cl′ n′ (i + 1)
     naming-step f s s′ =
-        let hand = d .is [] [] .is .is [] .hand in
+        let beside = of-beside (joinName (runOf r) name) (x .ready .good) d in
         record {
           ready = ready-after (x .ready) (joinName (runOf r) name) b′ d (joinName-fine (runOf r) name) f s s′;
-          marked = hand .marked names (x .marked);
-          did = λ m u. rw (hand .list names (x .marked)) (stepped-name m u);
+          marked = beside .marked names (x .marked);
+          did = λ m u. rw (beside .list names (x .marked)) (stepped-name m u);
         }

@@ -36,7 +36,7 @@ use Rattle.encoder.specs.Held.{Reading, openingOf, stateOf, Good}
 use Rattle.encoder.specs.Did.{onOpening, Did}
 use Rattle.encoder.proofs.Counted as counted
 use Rattle.encoder.proofs.Frames.{good-kept, list-kept, line-kept}
-use Rattle.encoder.proofs.Did.{did-made, hand-kept}
+use Rattle.encoder.proofs.Did.{did-made, beside-kept}
 use Rattle.encoder.proofs.Widening.{Lengthens, widens-opening}
 use Rattle.goals.specs.Goals.{noted, Notes, Gathers}
 use Rattle.binary_encoding.specs.Joining.{partName, ofName, namesOf, NamesLow, tracking, Tracks, forgetNamed, Forgets}
@@ -135,7 +135,7 @@ module _ (k : Counts) (t : List ℕ) (l : Limits) (n : Counters) (b : List ℕ) 
 
       tracked-did : Did (catalogue k m u t) l (λ v. onOpening (tracking p)) n (held l b) cl wt (withTracked count n) st″ cl wt
       tracked-did =
-          did-made (λ v. widens-opening (tracking p) (tracking-lengthens p)) refl (unfold any in hand-kept ch refl refl) refl refl (λ j. refl) tracked-good (λ g. tracked-state)
+          did-made (λ v. widens-opening (tracking p) (tracking-lengthens p)) refl (λ g. unfold any in beside-kept ch refl refl refl) refl refl (λ j. refl) tracked-good (λ g. tracked-state)
 
   pub tracked-pushed : Tracks k t l p n (held l b) (withTracked count n) st″
   tracked-pushed = record { is = λ m u. record { is = λ cl wt. tracked-did m u cl wt } }
@@ -161,7 +161,7 @@ module _ (l : Limits) (n : Counters) {st st′ : ℕ → List ℕ} (x : Emptied 
 
     forgotten-did : Did c l (λ v. onOpening forgetNamed) n st cl wt (counted.withNamed 0 n) st′ cl wt
     forgotten-did =
-        did-made (λ v. widens-opening forgetNamed forget-lengthens) refl (unfold any in hand-kept (x .others) refl refl) refl refl (λ j. refl) forgotten-good (λ g. forgotten-state)
+        did-made (λ v. widens-opening forgetNamed forget-lengthens) refl (λ g. unfold any in beside-kept (x .others) refl refl refl) refl refl (λ j. refl) forgotten-good (λ g. forgotten-state)
 
   pub forgotten : Forgets l n st (counted.withNamed 0 n) st′
   forgotten = record { is = λ c. record { is = λ cl wt. forgotten-did c cl wt } }
