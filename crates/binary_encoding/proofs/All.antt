@@ -23,7 +23,16 @@ use Rattle.rules.proofs.Line.{emit-opening}
 use Rattle.rules.proofs.ClauseByClause.{effects-changed}
 use Rattle.rules.proofs.DistinctEnough.{fold-append}
 use Rattle.encoder.specs.Did.{onOpening}
-use Rattle.binary_encoding.specs.Joining.{tracking, joinStep, joinIf, joinName, joinNames, forgetNamed, linkStep, linkIf}
+use Rattle.binary_encoding.specs.Joining.{tracking, joinStep, joinIf, joinName, joinNames, forgetNamed}
+
+-- ---- a one-of-name variable that is linked
+
+unfoldable pub linkStep : Run → ℕ → Catalogue → State → State
+linkStep r n c s = emit c r (links n (trackedOf c n (s .opening .tracked))) s
+
+-- an origin that is one-of-name is linked
+unfoldable pub linkIf : Run → Origin → Catalogue → State → State
+linkIf r o c s = fold (λ n. linkStep r n c) (nameIfOne o) s
 
 -- ---- events, whatever the opening is
 

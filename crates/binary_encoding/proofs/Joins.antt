@@ -141,7 +141,7 @@ helpers-few i h e f = rw e (at-most-ten (i + 1) (omega arith))
 
 -- ---- when it and its helpers have variables
 
-state-makes : {c : Catalogue} {l : Limits} (F : State → State) {n n′ : Counters} {st st′ : ℕ → List ℕ} {cl : List ℕ} → StateDid c l (λ v. F) n st n′ st′ → Makes c l F n st cl n′ st′ cl
+pub state-makes : {c : Catalogue} {l : Limits} (F : State → State) {n n′ : Counters} {st st′ : ℕ → List ℕ} {cl : List ℕ} → StateDid c l (λ v. F) n st n′ st′ → Makes c l F n st cl n′ st′ cl
 state-makes F {cl = cl} d = record { is = record { is = λ wt. d .is cl wt } }
 
 known-first : (vs : List Origin) (os : List Origin) (ps : List ℕ) → AllKnown vs ps → AllKnown (withVariables os vs) ps

@@ -83,7 +83,11 @@ pub record Ready (k : Counts) (t : List ℕ) (l : Limits) (r : code.Run) (n₀ :
 pub of-named : {k : Counts} {t : List ℕ} {l : Limits} {n : Counters} {st : ℕ → List ℕ} {cl : List ℕ} → GoodOf k t l n st cl → Marked 8 9 (n .named) st
 of-named (GoodOf.good m u g) = g .state .named
 
-of-beside : {k : Counts} {t : List ℕ} {l : Limits} (F : Catalogue → State → State) {n n′ : Counters} {st st′ : ℕ → List ℕ} {cl cl′ : List ℕ} → GoodOf k t l n st cl
+pub of-after : {k : Counts} {t : List ℕ} {l : Limits} (F : Catalogue → State → State) {n n′ : Counters} {st st′ : ℕ → List ℕ} {cl cl′ : List ℕ} → GoodOf k t l n st cl
+    → MakesOf k t l F n st cl n′ st′ cl′ → GoodOf k t l n′ st′ cl′
+of-after F (GoodOf.good m u g) d = GoodOf.good m u (makes-good (d .is m u) g)
+
+pub of-beside : {k : Counts} {t : List ℕ} {l : Limits} (F : Catalogue → State → State) {n n′ : Counters} {st st′ : ℕ → List ℕ} {cl cl′ : List ℕ} → GoodOf k t l n st cl
     → MakesOf k t l F n st cl n′ st′ cl′ → Beside (n .first) st st′
 of-beside F (GoodOf.good m u g) d = d .is m u .is .is [] .beside g
 
@@ -94,9 +98,6 @@ record Shown (before : ℕ) (qs : List ℕ) (n : Counters) (st : ℕ → List �
 
 module _ {k : Counts} {t : List ℕ} {l : Limits} {r : code.Run} {n₀ : Counters} {b₀ cl₀ b cl : List ℕ} {n : Counters} (x : Ready k t l r n₀ b₀ cl₀ b cl n)
     (F : Catalogue → State → State) {n′ : Counters} (b′ : List ℕ) {cl′ : List ℕ} (d : MakesOf k t l F n (held l b) cl n′ (held l b′) cl′) where
-  good-after : GoodOf k t l n (held l b) cl → GoodOf k t l n′ (held l b′) cl′
-  good-after (GoodOf.good m u g) = GoodOf.good m u (makes-good (d .is m u) g)
-
   module _ (w : (c : Catalogue) (s : State) → Fine (r .before) (listed (n .named) 8 (held l b)) s → Fine (r .before) (listed (n .named) 8 (held l b)) (F c s)) (f : n′ .full ≡ false) where
     fine-after : GoodOf k t l n (held l b) cl → Shown (r .before) (listed (n .named) 8 (held l b)) n′ (held l b′)
     unfolding stateOf openingOf
@@ -111,13 +112,13 @@ module _ {k : Counts} {t : List ℕ} {l : Limits} {r : code.Run} {n₀ : Counter
         let y = fine-after (x .good) in
         record {
           areas = areas-then (x .areas) s s′;
-          good = good-after (x .good);
+          good = of-after F (x .good) d;
           can = record { going = f; number = x .can .number; older = y .older; known = y .known };
           list = y .list ∙ x .list;
         }
 
     pub ready-count : n′ .named ≡ n .named
-    ready-count = sym (length-listed (of-named (good-after (x .good)))) ∙ (ap length (fine-after (x .good) .list) ∙ length-listed (of-named (x .good)))
+    ready-count = sym (length-listed (of-named (of-after F (x .good) d))) ∙ (ap length (fine-after (x .good) .list) ∙ length-listed (of-named (x .good)))
 
 -- ---- the named parts of one name
 

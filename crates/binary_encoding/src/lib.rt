@@ -14,9 +14,7 @@ ghost use Rattle.rules.specs.Lists.{elem, fold, distinct};
 ghost use Rattle.rules.specs.AtMostOne.{agrees, helpersFor, helperClauses, partClauses};
 ghost use Rattle.rules.specs.AtMostOne as rules;
 ghost use Rattle.rules.specs.Clause.{anyOne};
-ghost use Rattle.rules.specs.Catalogue.{root, nameOf};
 ghost use Rattle.rules.specs.Opening.{trackedOf};
-ghost use Rattle.rules.specs.Variables.{chosen};
 ghost use Rattle.rules.specs.Run.{joinAll, linkAll};
 ghost use Rattle.rules.proofs.WellFormed.{WellFormed};
 ghost use Rattle.tables.specs.Tables.{Laid};
@@ -30,7 +28,7 @@ ghost use Rattle.encoder.specs.Did.{ClausesDid};
 ghost use Rattle.clauses.specs.Adding.{Adds};
 ghost use Rattle.goals.specs.Goals.{AllKnown, Gathers};
 
-ghost use Rattle.binary_encoding.specs.Joining.{AddsAll, NamesAll, GoodOf, GoodSome, GoodAlone, Holds, helpersIn, firstHelpers, joinOrigins, helperVariables, HelpersKnown, HelpersBelow, partName, ofName, namesOf, NamesLow, variablesOf, variableAt, IsAt, NextOf, newHelperClauses, oneClauses, anyClauses, trackedClauses, joinedClauses, Tracks, MakesOf, trackWith, joinStep, joinIf, joinName, joinNames, Forgets, linkIf, CanJoin, CanAddPart, CanLink};
+ghost use Rattle.binary_encoding.specs.Joining.{AddsAll, NamesAll, GoodOf, GoodSome, GoodAlone, Holds, helpersIn, firstHelpers, joinOrigins, helperVariables, HelpersKnown, HelpersBelow, partName, ofName, namesOf, NamesLow, variablesOf, variableAt, IsAt, NextOf, newHelperClauses, oneClauses, anyClauses, linkClauses, trackedClauses, joinedClauses, Tracks, MakesOf, trackWith, joinStep, joinIf, joinName, joinNames, Forgets, CanJoin, CanAddPart, CanLink};
 
 // A name's helper variables: the first `count` of ten.
 pub struct Tracker {
@@ -522,11 +520,11 @@ fn any_clauses(t: &[u8], k: Counts, s: &mut [u8], clauses: &mut [u8], l: Limits,
 fn link_if(t: &[u8], k: Counts, s: &mut [u8], clauses: &mut [u8], l: Limits, n: Counters, r: Run, y: usize) -> Counters
     requires { ⌜ Laid k (length (now t)) ⌝ }
     requires { ⌜ Fits l (length (now s)) ⌝ }
-    requires { ⌜ GoodOf k (now t) l n (held l (now s)) (now clauses) ⌝ }
+    requires { ⌜ GoodSome l n (held l (now s)) (now clauses) ⌝ }
     requires { ⌜ LongEnough l (length (now clauses)) 16384 ⌝ }
     requires { ⌜ CanLink n (held l (now s)) ⌝ }
     requires { ⌜ y < n .variables ⌝ }
-    ensures { λ m. ⌜ MakesOf k (now (t .entry)) l (linkIf (runOf r) (getD (variables (n .variables) (held l (now (s .entry)))) y (chosen root))) n (held l (now (s .entry))) (now (clauses .entry)) m (held l (now (s .exit))) (now (clauses .exit)) ⌝ }
+    ensures { λ m. ⌜ AddsAll l r (linkClauses k (now (t .entry)) (variables (n .variables) (held l (now (s .entry)))) y (listed (n .tracked) 10 (held l (now (s .entry))))) n (held l (now (s .entry))) (now (clauses .entry)) m (held l (now (s .exit))) (now (clauses .exit)) ⌝ }
 {
     let o = variable_map::origin_at(s, l, n.variables, y);
     if o.kind == 3 {
