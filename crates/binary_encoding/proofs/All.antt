@@ -1,17 +1,16 @@
 -- All that join, and all that are linked, one after another: the rules' `joinAll` and `linkAll`.
 use mathlib.Core.Path.{_≡_, refl, sym, _∙_, ap}
-use mathlib.Core.Bool.{Bool, true, false, not, _&&_, _||_, true≢false}
+use mathlib.Core.Bool.{Bool, true, false, not, _||_}
 use mathlib.Core.List.{List, [], _∷_, _++_, map, map-append, append-nil, append-assoc, List·Memᴰ·head, List·Memᴰ·tail}
-use Prim.Native.Nat.{ℕ, suc}
-use native.Mathlib.Omega.{arith}
+use Prim.Native.Nat.{ℕ}
 use lib.Dec.{eqb}
-use lib.ListN.{length, drop}
+use lib.ListN.{drop}
 use borrow.Author.Tests.{eqb-true, ne-eqb}
-use Rattle.rules.specs.Lists.{filter, any, elem, snoc, concatMap, fold, when, distinct}
+use Rattle.rules.specs.Lists.{filter, elem, snoc, concatMap, fold, when, distinct}
 use Rattle.rules.specs.Called.{_∈_}
 use Rattle.rules.specs.Catalogue.{Catalogue, nameOf}
 use Rattle.rules.specs.Variables.{Origin}
-use Rattle.rules.specs.Opening.{Opening, setNamed, setTracked, joining, endRun, trackedOf}
+use Rattle.rules.specs.Opening.{Opening, setTracked, joining, endRun, trackedOf}
 use Rattle.rules.specs.Encoding.{Event, joins, links}
 use Rattle.rules.specs.State.{State, setOpening, Run, emit, emitAll}
 use Rattle.rules.specs.Run.{nameIfOne, joinsFrom, linksFor, joinAll, linkAll}

@@ -2,20 +2,19 @@
 use mathlib.Core.Path.{_≡_, refl, sym, _∙_, ap}
 use mathlib.Core.Logic.{_⊎_, inl, inr, ⊎-elim}
 use mathlib.Core.Bool.{Bool, true, false, cond}
-use mathlib.Core.List.{List, [], _∷_, _++_, map, append-nil}
-use Prim.Native.Nat.{ℕ, zero, suc, _+_, _-_, _^_, _<_, _≤_, zero-le}
+use mathlib.Core.List.{List, [], _∷_, map, append-nil}
+use Prim.Native.Nat.{ℕ, zero, suc, _+_, _-_, _^_, _<_, _≤_}
 use native.Mathlib.Numerals.{add-one}
-use native.Mathlib.Decide.{decLt}
 use native.Mathlib.Omega.{arith}
 use lib.Dec.{ltb}
 use lib.ListN.{length, getD, drop, length-map, drop-of-length-le}
 use lib.Seq.{drop-cons, getD-take}
 use borrow.Author.Tests.{lt-ltb, le-ltb}
 use Rattle.rules.specs.Lists.{listIf, upTo}
-use Rattle.rules.specs.Clause.{Clause, anyOne}
+use Rattle.rules.specs.Clause.{anyOne}
 use Rattle.rules.specs.AtMostOne.{bit, agrees, helpersFor, helpersAfter, helperClauses, helpersClauses, partClauses}
 use Rattle.rules.specs.Variables.{Origin, forbid, one, known, variableOf, partOrigin, partVariable}
-use Rattle.rules.proofs.Each.{Each, each-at, each-imp, each-map}
+use Rattle.rules.proofs.Each.{each-at, each-imp, each-map}
 use Rattle.rules.proofs.ListLaws.{length-upTo}
 use Rattle.rules.proofs.AtMostOne.{at-most-ten}
 use Rattle.rules.proofs.Grows.{whole}

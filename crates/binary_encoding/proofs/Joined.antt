@@ -1,10 +1,10 @@
 -- The named parts join: their names are at hand while they do, and then none is named any more.
-use mathlib.Core.Path.{_≡_, refl, sym, _∙_, ap}
+use mathlib.Core.Path.{_≡_, refl, ap}
 use mathlib.Core.List.{List, [], _∷_, map}
-use Prim.Native.Nat.{ℕ, _<_, _≤_}
+use Prim.Native.Nat.{ℕ}
 use native.Mathlib.Decide.{decLt}
 use native.Mathlib.Omega.{arith}
-use lib.ListN.{length, getD, List·getD-eq-default}
+use lib.ListN.{length, List·getD-eq-default}
 use Rattle.rules.specs.Lists.{any, distinct}
 use Rattle.rules.specs.Catalogue.{noPart, Part, Catalogue, partAt, nameOf}
 use Rattle.rules.specs.Items.{ceiling}

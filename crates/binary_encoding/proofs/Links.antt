@@ -1,7 +1,7 @@
 -- New one-of-name variables are linked, variable by variable.
 use mathlib.Core.Path.{_≡_, refl, sym, _∙_, ap}
 use mathlib.Core.Bool.{Bool, true, false, cond}
-use mathlib.Core.List.{List, [], _∷_, _++_, map, map-map, append-nil}
+use mathlib.Core.List.{List, [], _∷_, map, map-map, append-nil}
 use Prim.Native.Nat.{ℕ, _+_, _<_, _≤_}
 use native.Mathlib.Numerals.{add-one}
 use native.Mathlib.Omega.{arith}
@@ -15,7 +15,7 @@ use Rattle.rules.specs.Catalogue.{root, part, range, union, Catalogue}
 use Rattle.rules.specs.Variables.{Origin, chosen, forbid, one, violation, gate, known, variableOf, withVariables, partOrigin, partVariable}
 use Rattle.rules.specs.Opening.{trackedOf}
 use Rattle.rules.specs.Encoding.{links, origins, clauses}
-use Rattle.rules.specs.State.{State, setVariables, Run}
+use Rattle.rules.specs.State.{State, Run}
 use Rattle.rules.specs.Run.{nameIfOne, linkAll}
 use Rattle.rules.proofs.Each.{Each, each-filter, each-map, each-out}
 use Rattle.rules.proofs.Grows.{linkAll-grows}
@@ -38,7 +38,7 @@ use Rattle.encoder.specs.Did.{Widens, ClausesDid}
 use Rattle.encoder.proofs.Did.{widens-fold}
 use Rattle.goals.specs.Goals.{AllKnown}
 use Rattle.binary_encoding.specs.Joining.{Makes, AddsAll, GoodSome, ofName, variablesOf, anyClauses, linkClauses, CanLink}
-use Rattle.binary_encoding.proofs.Steps.{some-good, some-all, makes-as, Folded, folded-start, folded-step, folded-stop, folded-end, adds-none, adds-as, Areas, areas-start, areas-then, Same, same-start, same-then, same-count, clauses-same, known-same}
+use Rattle.binary_encoding.proofs.Steps.{some-good, some-all, makes-as, Folded, folded-start, folded-step, folded-stop, folded-end, adds-none, adds-as, Areas, areas-start, areas-then, Same, same-count, clauses-same, known-same}
 use Rattle.binary_encoding.proofs.Track.{of-name-held}
 use Rattle.binary_encoding.proofs.Joins.{emit-widens}
 use Rattle.binary_encoding.proofs.All.{linkStep, linkIf, all-linked}

@@ -1,19 +1,19 @@
 -- The named parts join, name by name: the loops, and what they keep.
 use mathlib.Core.Path.{_≡_, refl, sym, _∙_, ap}
-use mathlib.Core.Bool.{Bool, true, false, not, _&&_}
-use mathlib.Core.List.{List, [], _∷_, _++_, map, List·Memᴰ·head}
-use Prim.Native.Nat.{ℕ, suc, _+_, _-_, _<_, _≤_}
+use mathlib.Core.Bool.{true, false}
+use mathlib.Core.List.{List, [], _∷_, List·Memᴰ·head}
+use Prim.Native.Nat.{ℕ, _+_, _-_, _<_, _≤_}
 use native.Mathlib.Numerals.{add-one}
 use native.Mathlib.Omega.{arith}
 use lib.ListN.{length, getD, drop, drop-of-length-le}
 use lib.Seq.{drop-cons}
-use Rattle.rules.specs.Lists.{snoc, fold, when}
+use Rattle.rules.specs.Lists.{fold}
 use Rattle.rules.specs.Catalogue.{Catalogue, nameOf}
-use Rattle.rules.specs.Variables.{Origin, known, withVariables, partOrigin}
+use Rattle.rules.specs.Variables.{known, withVariables, partOrigin}
 use Rattle.rules.specs.Opening.{Opening, trackedOf}
 use Rattle.rules.specs.Encoding.{joins, origins}
-use Rattle.rules.specs.State.{State, Run, emit}
-use Rattle.rules.proofs.Each.{Each, each-imp, each-snoc, when-cases}
+use Rattle.rules.specs.State.{State, Run}
+use Rattle.rules.proofs.Each.{each-imp, each-snoc, when-cases}
 use Rattle.rules.proofs.Effects.{emit-leaves}
 use Rattle.rules.proofs.Grows.{withVariables-prefix, prefix-length}
 use Rattle.rules.proofs.Places.{keeps-variable, withVariables-known}
@@ -29,7 +29,7 @@ use Rattle.marked.specs.Marked.{listed, Marked}
 use Rattle.marked.proofs.Laws.{length-listed, at-low}
 use Rattle.encoder.specs.declared.Counters.{Counters}
 use Rattle.encoder.specs.declared.Run as code
-use Rattle.encoder.specs.Held.{runOf, openingOf, stateOf, Good, LongEnough}
+use Rattle.encoder.specs.Held.{runOf, openingOf, stateOf, LongEnough}
 use Rattle.encoder.specs.Did.{Widens, onOpening, Beside}
 use Rattle.encoder.proofs.Did.{widens-fold}
 use Rattle.goals.specs.Goals.{AllKnown}

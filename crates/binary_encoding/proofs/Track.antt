@@ -1,9 +1,9 @@
 -- A part is tracked; the parts named for tracking are forgotten; their names become the list at hand.
 use mathlib.Core.Path.{_≡_, refl, sym, _∙_, ap}
 use mathlib.Core.Logic.{⊎-elim}
-use mathlib.Core.Bool.{Bool, true, false}
+use mathlib.Core.Bool.{true, false}
 use mathlib.Core.List.{List, [], _∷_, _++_, map}
-use Prim.Native.Nat.{ℕ, suc, _+_, _-_, _<_, _≤_, zero-le}
+use Prim.Native.Nat.{ℕ, _+_, _-_, _<_, _≤_}
 use native.Mathlib.Numerals.{add-one}
 use native.Mathlib.Omega.{arith}
 use lib.Dec.{eqb}
@@ -25,7 +25,7 @@ use Rattle.regions.specs.Regions.{stored}
 use Rattle.state.specs.declared.Limits.{Limits}
 use Rattle.state.specs.Layout.{held, Fits}
 use Rattle.state.specs.Changed.{Changed}
-use Rattle.state.proofs.Changed.{stored-here, stored-other, changed-none, changed-stored, changed-then, changed-within}
+use Rattle.state.proofs.Changed.{stored-here, changed-none, changed-stored, changed-then, changed-within}
 use Rattle.state.proofs.Sizes.{length-fixed}
 use Rattle.variable_map.proofs.Laws.{variables-kept}
 use Rattle.decision_tracker.proofs.Laws.{decisions-kept}

@@ -1,3 +1,4 @@
+-- `binary_encoding::join_all` lets all named parts join, as `joinAll` says.
 use borrow.Author.Needs.{needs}
 use Rattle.binary_encoding.proofs.Steps.{fits-same}
 use Rattle.binary_encoding.proofs.Joined.{names-low, hand-good, hand-can, hand-marked, hand-named, joined-all}

@@ -1,3 +1,4 @@
+-- `binary_encoding::link_all` links the one-of-name variables of the run, as `linkAll` says. The invariant: those before y are linked.
 use borrow.Author.Needs.{needs}
 use native.Mathlib.Omega.{arith}
 use Prim.Native.Nat.{_-_}

@@ -1,3 +1,4 @@
+-- `binary_encoding::link_if` links a variable that is one-of-name.
 use borrow.Author.Needs.{needs}
 use native.Mathlib.Omega.{arith}
 use Rattle.binary_encoding.proofs.Steps.{some-mapped}
