@@ -70,7 +70,8 @@ module _ {l : Limits} {r : Run} {x i : ℕ} {tracker : Tracker} {n₀ : Counters
       → q ≡ bit j i → Adds l r (agrees x y q) n (held l b) cl n′ (held l b′) cl′
       → length b′ ≡ length b → length cl′ ≡ length cl → Agreeing l r x i tracker n₀ b₀ cl₀ b′ cl′ n′ (j + 1)
   agreeing-step b′ {y = y} h u f d s s′ =
-      let left : partClauses x i j (drop j (helpersIn tracker)) ≡ agrees x y (bit j i) ∷ partClauses x i (j + 1) (drop (j + 1) (helpersIn tracker)) = rw (helpers-left k j h, ← u) (next-agrees x i j y (drop (j + 1) (helpersIn tracker))) in
+      let left : partClauses x i j (drop j (helpersIn tracker)) ≡ agrees x y (bit j i) ∷ partClauses x i (j + 1) (drop (j + 1) (helpersIn tracker))
+      = rw (helpers-left k j h, ← u) (next-agrees x i j y (drop (j + 1) (helpersIn tracker))) in
       let d′ = rw f at d in
       record { areas = areas-then (a .areas) s s′; good = some-after (a .good) d; did = adding-step (rw left at (a .did)) d′ }
 

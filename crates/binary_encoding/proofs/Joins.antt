@@ -206,8 +206,9 @@ module _ (k : Counts) (t : List ℕ) (l : Limits) (n a : Counters) (st st₁ : �
 
     stopped : a .full ≡ true → Makes (catalogue k m u t) l (joinStep (runOf r) p (catalogue k m u t)) n st cl a st₁ cl
     stopped f =
-        makes-as (makes-stop (state-makes (fold addVariable (joinOrigins name p h)) (d .is (catalogue k m u t))) {G = trackWith (runOf r) those p (catalogue k m u t)} f (trackWith-widens (runOf r) those p (catalogue k m u t)))
-        (joinStep-widens (runOf r) p (catalogue k m u t)) (λ g x v wt. lists v wt)
+        let c = catalogue k m u t in
+        makes-as (makes-stop (state-makes (fold addVariable (joinOrigins name p h)) (d .is c)) {G = trackWith (runOf r) those p c} f (trackWith-widens (runOf r) those p c))
+        (joinStep-widens (runOf r) p c) (λ g x v wt. lists v wt)
 
     done : {b : Counters} {st₂ : ℕ → List ℕ} {cl₂ : List ℕ} → Makes (catalogue k m u t) l (trackWith (runOf r) those p (catalogue k m u t)) a st₁ cl b st₂ cl₂
         → Makes (catalogue k m u t) l (joinStep (runOf r) p (catalogue k m u t)) n st cl b st₂ cl₂

@@ -145,7 +145,9 @@ module _ {k : Counts} {m u t : List ℕ} {l : Limits} {r : code.Run} {n₀ : Cou
   all-makes : {n′ : Counters} {st′ : ℕ → List ℕ} {cl′ : List ℕ}
       → Makes (catalogue k m u t) l (fold (λ o. linkIf (runOf r) o (catalogue k m u t)) (drop (r .before) (variables (n₀ .variables) (held l b₀)))) n₀ (held l b₀) cl₀ n′ st′ cl′
       → ClausesDid (catalogue k m u t) l (λ v. linkAll (catalogue k m u t) (runOf r)) n₀ (held l b₀) cl₀ n′ st′ cl′
-  all-makes w = makes-as w (linkAll-widens (catalogue k m u t) (runOf r)) (λ g e v wt. unfold stateOf runOf in all-linked (catalogue k m u t) (runOf r) (stateOf (catalogue k m u t) l v n₀ (held l b₀) cl₀ wt)) .is
+  all-makes w =
+      let c = catalogue k m u t in
+      makes-as w (linkAll-widens c (runOf r)) (λ g e v wt. unfold stateOf runOf in all-linked c (runOf r) (stateOf c l v n₀ (held l b₀) cl₀ wt)) .is
 
   pub linked-end : n₀ .variables ≤ y → ClausesDid (catalogue k m u t) l (λ v. linkAll (catalogue k m u t) (runOf r)) n₀ (held l b₀) cl₀ n (held l b) cl
   linked-end h =
@@ -156,7 +158,9 @@ module _ {k : Counts} {m u t : List ℕ} {l : Limits} {r : code.Run} {n₀ : Cou
   module _ {n′ : Counters} (b′ : List ℕ) {cl′ : List ℕ} (h : y < n₀ .variables)
       (a : AddsAll l r (linkClauses k t (variables (n .variables) (held l b)) y (listed (n .tracked) 10 (held l b))) n (held l b) cl n′ (held l b′) cl′) where
     here : Makes (catalogue k m u t) l (linkIf (runOf r) (getD (variables (n .variables) (held l b)) y (chosen root)) (catalogue k m u t)) n (held l b) cl n′ (held l b′) cl′
-    here = makes-as (a .is (catalogue k m u t)) (linkIf-widens (runOf r) _ (catalogue k m u t)) (λ g e v wt. same (stateOf (catalogue k m u t) l v n (held l b) cl wt) (unfold stateOf in refl) (unfold stateOf openingOf in refl))
+    here =
+        makes-as (a .is (catalogue k m u t)) (linkIf-widens (runOf r) _ (catalogue k m u t))
+        (λ g e v wt. same (stateOf (catalogue k m u t) l v n (held l b) cl wt) (unfold stateOf in refl) (unfold stateOf openingOf in refl))
       where
         same : (s : State) → s .variables ≡ variables (n .variables) (held l b) → s .opening .tracked ≡ listed (n .tracked) 10 (held l b)
             → fold (addClause (runOf r)) (linkClauses k t (variables (n .variables) (held l b)) y (listed (n .tracked) 10 (held l b))) s

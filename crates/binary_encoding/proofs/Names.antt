@@ -103,7 +103,8 @@ module _ {k : Counts} {t : List ℕ} {l : Limits} {r : code.Run} {n₀ : Counter
     unfolding stateOf openingOf
     fine-after (GoodOf.good m u g) =
         let c = catalogue k m u t in
-        let before : Fine (r .before) (listed (n .named) 8 (held l b)) (stateNow c l n (held l b) cl) = record { older = omega (arith, x .can .older, variables.count (n .variables) (held l b)); known = x .can .known; named = refl } in
+        let before : Fine (r .before) (listed (n .named) 8 (held l b)) (stateNow c l n (held l b) cl)
+        = record { older = omega (arith, x .can .older, variables.count (n .variables) (held l b)); known = x .can .known; named = refl } in
         let after = rw (← makes-state (d .is m u) g f) at (w c (stateNow c l n (held l b) cl) before) in
         record { older = omega (arith, after .older, variables.count (n′ .variables) (held l b′)); known = after .known; list = after .named }
 
@@ -157,7 +158,8 @@ module _ {k : Counts} {t : List ℕ} {l : Limits} {r : code.Run} {name : ℕ} {n
     stepped : (m u : List ℕ) → Folded (catalogue k m u t) l (λ q. joinIf (runOf r) name q (catalogue k m u t)) (listed (n₀ .named) 8 (held l b₀)) (drop (i + 1) (listed (n .named) 8 (held l b)))
         n₀ (held l b₀) cl₀ n′ (held l b′) cl′
     stepped m u =
-        let left : drop i (listed (n .named) 8 (held l b)) ≡ p ∷ drop (i + 1) (listed (n .named) 8 (held l b)) = drop-cons (listed (n .named) 8 (held l b)) i 0 (omega (arith, length-listed (of-named (x .ready .good)))) ∙ rw (add-one i, ← e) in
+        let ps = listed (n .named) 8 (held l b) in
+        let left : drop i ps ≡ p ∷ drop (i + 1) ps = drop-cons ps i 0 (omega (arith, length-listed (of-named (x .ready .good)))) ∙ rw (add-one i, ← e) in
         folded-step (rw left at (x .did m u)) (d .is m u)
 
     pub parting-stop : n′ .full ≡ true → MakesOf k t l (joinName (runOf r) name) n₀ (held l b₀) cl₀ n′ (held l b′) cl′
@@ -204,7 +206,8 @@ module _ {k : Counts} {t : List ℕ} {l : Limits} {r : code.Run} {names : ℕ} {
     stepped-name : (m u : List ℕ) → Folded (catalogue k m u t) l (λ y. joinName (runOf r) y (catalogue k m u t)) (listed names 14 (held l b₀)) (drop (i + 1) (listed names 14 (held l b)))
         n₀ (held l b₀) cl₀ n′ (held l b′) cl′
     stepped-name m u =
-        let left : drop i (listed names 14 (held l b)) ≡ name ∷ drop (i + 1) (listed names 14 (held l b)) = drop-cons (listed names 14 (held l b)) i 0 (omega (arith, length-listed (x .marked))) ∙ rw (add-one i, ← e) in
+        let ns = listed names 14 (held l b) in
+        let left : drop i ns ≡ name ∷ drop (i + 1) ns = drop-cons ns i 0 (omega (arith, length-listed (x .marked))) ∙ rw (add-one i, ← e) in
         folded-step (rw left at (x .did m u)) (d .is m u)
 
     pub naming-stop : n′ .full ≡ true → MakesOf k t l (joinNames (runOf r) (listed names 14 (held l b₀))) n₀ (held l b₀) cl₀ n′ (held l b′) cl′

@@ -306,7 +306,8 @@ module _ {l : Limits} {n n′ : Counters} {st st′ : ℕ → List ℕ} {cl cl�
   pub some-all : {r : code.Run} {ks : List Clause} → GoodSome l n st cl → AddsAll l r ks n st cl n′ st′ cl′ → GoodSome l n′ st′ cl′
   some-all (GoodSome.some c g) a = GoodSome.some c (makes-good (a .is c) g)
 
-pub known-same : {n n′ : Counters} {st st′ : ℕ → List ℕ} → Same n st n′ st′ → AllKnown (variables (n .variables) st) (listed (n .tracked) 10 st) → AllKnown (variables (n′ .variables) st′) (listed (n′ .tracked) 10 st′)
+pub known-same : {n n′ : Counters} {st st′ : ℕ → List ℕ} → Same n st n′ st′ → AllKnown (variables (n .variables) st) (listed (n .tracked) 10 st)
+    → AllKnown (variables (n′ .variables) st′) (listed (n′ .tracked) 10 st′)
 known-same s k = rw (s .variables, s .tracked) k
 
 -- ---- areas that a call has changed

@@ -111,10 +111,13 @@ module _ (k : Counts) (t : List ℕ) (l : Limits) (n : Counters) (b : List ℕ) 
         here : eqb j name ≡ true → getD (set (held l b 12) name (i + 1)) j 0 ≡ length (trackedOf (catalogue k m u t) j (listed (n .tracked) 10 (held l b) ++ (p ∷ [])))
         here z =
             let is : j ≡ nameOf (catalogue k m u t) p = eqb-true j name z ∙ (sym q ∙ sym (name-held k m u t p)) in
-            let now : i ≡ length (trackedOf (catalogue k m u t) j (listed (n .tracked) 10 (held l b))) = rw (eqb-true j name z) (e ∙ ap length (of-name-held k m u t name (listed (n .tracked) 10 (held l b)))) in
+            let c = catalogue k m u t in
+            let ps = listed (n .tracked) 10 (held l b) in
+            let now : i ≡ length (trackedOf c j ps) = rw (eqb-true j name z) (e ∙ ap length (of-name-held k m u t name ps)) in
             let room : j < length (held l b 12) = rw (length-fixed l b 12 (omega arith) f) h in
-            let more : trackedOf (catalogue k m u t) j (listed (n .tracked) 10 (held l b) ++ (p ∷ [])) ≡ trackedOf (catalogue k m u t) j (listed (n .tracked) 10 (held l b)) ++ (p ∷ []) = rw is (own-name (catalogue k m u t) (listed (n .tracked) 10 (held l b)) p) in
-            rw (← eqb-true j name z, more) (getD-set-same (held l b 12) j (i + 1) 0 room ∙ (ap (λ (y : ℕ). y + 1) now ∙ (add-one _ ∙ sym (unfold snoc in length-snoc (trackedOf (catalogue k m u t) j (listed (n .tracked) 10 (held l b))) p))))
+            let more : trackedOf c j (ps ++ (p ∷ [])) ≡ trackedOf c j ps ++ (p ∷ []) = rw is (own-name c ps p) in
+            rw (← eqb-true j name z, more)
+            (getD-set-same (held l b 12) j (i + 1) 0 room ∙ (ap (λ (y : ℕ). y + 1) now ∙ (add-one _ ∙ sym (unfold snoc in length-snoc (trackedOf c j ps) p))))
 
         there : eqb j name ≡ false → getD (set (held l b 12) name (i + 1)) j 0 ≡ length (trackedOf (catalogue k m u t) j (listed (n .tracked) 10 (held l b) ++ (p ∷ [])))
         there z =
