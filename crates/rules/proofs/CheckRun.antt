@@ -288,13 +288,14 @@ module _ (t : Terms) (job : List ℕ) (n p : ℕ) where
   same-walked : length job ≤ 65536 → {r q : Progress} → Agree (0 + beforeSheet 0 job) (length job) r q → Same r q
   unfolding checked ended answerOf
   same-walked h (both {r = r} l) = (λ e. let q = told-same e .1 in (e, inr (inr (omega arith))), λ e. e .0)
-  same-walked h {r} {q} (apart s a) =
-      (λ e. absurd (not-one (cc)),
-      λ e.
-      let w = sheet-within 0 job in
-      let u = run-end t job (0 + beforeSheet 0 job) n p (omega arith) s (e .0) in
-      let l = u .not-before in
-      absurd (⊎-elim (not-seven n (u .number)) (⊎-elim (λ m. omega arith) (λ m. omega arith)) (e .1)))
+  same-walked h {r} {q} (apart s a) = (
+    λ e. absurd (not-one (cc)),
+    λ e.
+        let w = sheet-within 0 job in
+        let u = run-end t job (0 + beforeSheet 0 job) n p (omega arith) s (e .0) in
+        let l = u .not-before in
+        absurd (⊎-elim (not-seven n (u .number)) (⊎-elim (λ m. omega arith) (λ m. omega arith)) (e .1)),
+  )
 
   same-begun : Begins t job → Same (progress t job (runStep t job)) (progress t job (checkStep t job))
   unfolding checked ended answerOf

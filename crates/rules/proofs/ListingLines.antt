@@ -239,12 +239,12 @@ module _ {A : Type 0} (reader : List (List ℕ) → List A) where
       unfolding listing
       listing-read s {vs} {ks} p q =
           let all-read : Reads (listing c s) (vs ++ (ks ++ [])) =
-              reads-then p
-              (reads-then q
-              (reads-then (owners-read (s .opening .owners))
-              (reads-then (names-read (s .opening .names))
-              (reads-then (conflicts-read (s .conflicts))
-              (reads-then (assertions-read 0 (s .clauses))
-              (reads-then (reads-each decisionLine decision-read (s .decisions))
-              (reads-each (waitingLines c (s .opening .waiting)) (waiting-lines-read (s .opening .waiting)) _))))))) in
+          reads-then p
+          (reads-then q
+          (reads-then (owners-read (s .opening .owners))
+          (reads-then (names-read (s .opening .names))
+          (reads-then (conflicts-read (s .conflicts))
+          (reads-then (assertions-read 0 (s .clauses))
+          (reads-then (reads-each decisionLine decision-read (s .decisions))
+          (reads-each (waitingLines c (s .opening .waiting)) (waiting-lines-read (s .opening .waiting)) _))))))) in
           rw (append-nil (listing c s), nothing-read, append-nil ks, append-nil (vs ++ ks)) at (all-read .read [])
