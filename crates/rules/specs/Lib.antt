@@ -21,6 +21,7 @@ pub mod Limits
 pub mod Sheet
 pub mod Listing
 pub mod Job
+pub mod CheckRun
 pub mod Called
 pub mod Keeps
 pub mod ReadBack
