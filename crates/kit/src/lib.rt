@@ -1,5 +1,6 @@
 // The kit service's exported functions over lent memory. `check`: refusals 1 to 7, reading up to the first sheet record.
 use catalogue::Read;
+use outcome::Outcome;
 use refusal::Refusal;
 ghost use mathlib.Core.Path.{_≡_};
 ghost use mathlib.Core.Bool.{not};
@@ -227,4 +228,91 @@ pub extern "C" fn kit_check(
     };
     clear_three(store, state, deferred);
     check_within(job, l, lent, marks, unions, catalogue)
+}
+
+// ---- run
+
+// What is answered of a job's outcome.
+fn told_outcome(length: usize, outcome: Outcome) -> Answer
+{
+    match outcome {
+        Outcome::Accepted {
+            length: bytes,
+            variables,
+            clauses,
+        } => Answer {
+            number: 0,
+            place: 0,
+            length: bytes as u64,
+            variables: variables as u64,
+            clauses: clauses as u64,
+        },
+        Outcome::Refused { refusal, at } => refused(length, at, refusal),
+    }
+}
+
+fn run_within(
+    job: &[u8],
+    l: Limits,
+    lent: Lent,
+    marks: &mut [u8],
+    unions: &mut [u8],
+    t: &mut [u8],
+    clauses: &mut [u8],
+    s: &mut [u8],
+    w: &mut [u8],
+    out: &mut [u8],
+) -> Answer
+{
+    if lends_enough(l, lent) {
+        if 65536 < job.len() {
+            return refused(job.len(), 0, Refusal::Overlong);
+        }
+        let limits = state::Limits {
+            variables: l.variables as usize,
+            clauses: l.clauses as usize,
+            literals: l.literals as usize,
+            waiting: l.waiting as usize,
+        };
+        let outcome = outcome::run(job, marks, unions, t, s, clauses, w, limits, out);
+        return told_outcome(job.len(), outcome);
+    }
+    refused(job.len(), 0, Refusal::Unfit)
+}
+
+// The job's listing, or its refusal. After the call the six work areas are zero; a refusal leaves the listing area as it was.
+#[no_mangle]
+pub extern "C" fn kit_run(
+    job: &[u8],
+    variables: u64,
+    clauses: u64,
+    literals: u64,
+    waiting: u64,
+    marks: &mut [u8],
+    unions: &mut [u8],
+    catalogue: &mut [u8],
+    store: &mut [u8],
+    state: &mut [u8],
+    deferred: &mut [u8],
+    listing: &mut [u8],
+) -> Answer
+{
+    let l = Limits {
+        variables,
+        clauses,
+        literals,
+        waiting,
+    };
+    let lent = Lent {
+        marks: marks.len(),
+        unions: unions.len(),
+        catalogue: catalogue.len(),
+        clauses: store.len(),
+        state: state.len(),
+        waiting: deferred.len(),
+    };
+    let answer = run_within(job, l, lent, marks, unions, catalogue, store, state, deferred, listing);
+    clear_three(marks, unions, catalogue);
+    clear_three(store, state, deferred);
+    answer
 }

@@ -1,4 +1,6 @@
 // A job whose length and areas are right: its catalogue is read, its sheet carried out, and its listing written.
+use carried::Sheet;
+use catalogue::Read;
 use encoder::Counters;
 use refusal::Refusal;
 use state::Limits;
@@ -35,15 +37,14 @@ fn measure(marks: &[u8], unions: &[u8], t: &[u8], k: Counts, s: &[u8], clauses: 
     listing::write(marks, unions, t, k, s, clauses, w, l, n, &mut out[..0], room)
 }
 
-// The listing is written if it fits.
-fn print(marks: &[u8], unions: &[u8], t: &[u8], k: Counts, s: &[u8], clauses: &[u8], w: &[u8], l: Limits, n: Counters, out: &mut [u8]) -> Outcome
+// The listing is written if it fits into the area, which has this much room.
+fn print(marks: &[u8], unions: &[u8], t: &[u8], k: Counts, s: &[u8], clauses: &[u8], w: &[u8], l: Limits, n: Counters, out: &mut [u8], room: usize) -> Outcome
     requires { ⌜ Catalogued k (now marks) (now unions) (now t) ⌝ }
-    requires { ⌜ Fits l (length (now s)) ⌝ }
+    requires { ⌜ Fits l (length (now s)) × Addressable room × (room ≡ length (now out)) ⌝ }
     requires { ⌜ LongEnough l (length (now clauses)) (length (now w)) ⌝ }
     requires { ⌜ Reaches (catalogue k (now marks) (now unions) (now t)) l n (held l (now s)) (now clauses) (now w) ⌝ }
     ensures { λ r. ⌜ Prints (catalogue k (now (marks .entry)) (now (unions .entry)) (now (t .entry))) l n (held l (now (s .entry))) (now (clauses .entry)) (now (w .entry)) r (now (out .entry)) (now (out .exit)) ⌝ }
 {
-    let room = out.len();
     let length = measure(marks, unions, t, k, s, clauses, w, l, n, out, room);
     if room < length {
         return Outcome::Refused {
@@ -79,5 +80,27 @@ fn finish(marks: &[u8], unions: &[u8], t: &[u8], k: Counts, s: &[u8], clauses: &
             at: 0,
         };
     }
-    print(marks, unions, t, k, s, clauses, w, l, n, out)
+    let room = out.len();
+    print(marks, unions, t, k, s, clauses, w, l, n, out, room)
+}
+
+// ---- a job
+
+// The sheet from its first record on, and the end.
+fn run_sheet(job: &[u8], from: usize, marks: &[u8], unions: &[u8], t: &[u8], k: Counts, s: &mut [u8], clauses: &mut [u8], w: &mut [u8], l: Limits, out: &mut [u8]) -> Outcome
+{
+    words::clear(s);
+    let n = carried::start(s, clauses, l);
+    match carried::carry_sheet(job, from, marks, unions, t, k, s, clauses, w, l, n) {
+        Sheet::Carried(m) => finish(marks, unions, t, k, s, clauses, w, l, m, out),
+        Sheet::Refused { refusal, at } => Outcome::Refused { refusal, at },
+    }
+}
+
+pub fn run(job: &[u8], marks: &mut [u8], unions: &mut [u8], t: &mut [u8], s: &mut [u8], clauses: &mut [u8], w: &mut [u8], l: Limits, out: &mut [u8]) -> Outcome
+{
+    match catalogue::read_catalogue(job, marks, unions, t) {
+        Read::Sheet { at, counts } => run_sheet(job, at, marks, unions, t, counts, s, clauses, w, l, out),
+        Read::Refused { refusal, at } => Outcome::Refused { refusal, at },
+    }
 }
