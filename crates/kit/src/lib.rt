@@ -11,6 +11,8 @@ ghost use Rattle.rules.specs.Limits.{within, allowed, covers, needed, fits};
 ghost use Rattle.rules.specs.Job.{refuses, workArea};
 ghost use Rattle.refusal.specs.Refusing.{refusalOf};
 ghost use Rattle.kit.specs.Checking.{Ceilings, limitsOf, lentOf, termsOf, toldOf, Gives, Zeroed, Long, CatalogueChecked, Lends, Checked, fourLimits, Served};
+ghost use Rattle.kit.specs.Running.{LendsAll, Runs, Ran};
+ghost use Rattle.outcome.specs.Outcomes as outcomes;
 
 // What a call answers: 0 or the number of a refusal, and its place; the listing's length, the variables and the clauses.
 #[repr(C)]
@@ -234,6 +236,8 @@ pub extern "C" fn kit_check(
 
 // What is answered of a job's outcome.
 fn told_outcome(length: usize, outcome: Outcome) -> Answer
+    requires { ⌜ Counted outcome ⌝ }
+    ensures { λ r. ⌜ Gives r (outcomes.told length outcome) ⌝ }
 {
     match outcome {
         Outcome::Accepted {
@@ -263,6 +267,8 @@ fn run_within(
     w: &mut [u8],
     out: &mut [u8],
 ) -> Answer
+    requires { ⌜ LendsAll lent (now marks) (now unions) (now t) (now clauses) (now s) (now w) ⌝ }
+    ensures { λ r. ⌜ Runs (now (job .entry)) (termsOf (limitsOf l) (lentOf lent) (length (now (out .entry)))) r (now (out .entry)) (now (out .exit)) ⌝ }
 {
     if lends_enough(l, lent) {
         if 65536 < job.len() {
@@ -296,6 +302,9 @@ pub extern "C" fn kit_run(
     deferred: &mut [u8],
     listing: &mut [u8],
 ) -> Answer
+    ensures { λ r. ⌜ Ran (now (job .entry)) (fourLimits variables clauses literals waiting) r
+        (now (marks .entry)) (now (unions .entry)) (now (catalogue .entry)) (now (store .entry)) (now (state .entry)) (now (deferred .entry)) (now (listing .entry))
+        (now (marks .exit)) (now (unions .exit)) (now (catalogue .exit)) (now (store .exit)) (now (state .exit)) (now (deferred .exit)) (now (listing .exit)) ⌝ }
 {
     let l = Limits {
         variables,
