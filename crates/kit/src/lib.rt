@@ -236,7 +236,6 @@ pub extern "C" fn kit_check(
 
 // What is answered of a job's outcome.
 fn told_outcome(length: usize, outcome: Outcome) -> Answer
-    requires { ⌜ Counted outcome ⌝ }
     ensures { λ r. ⌜ Gives r (outcomes.told length outcome) ⌝ }
 {
     match outcome {
