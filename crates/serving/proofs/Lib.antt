@@ -1,5 +1,4 @@
 pub mod Served
-pub mod Lined
 pub mod Points
 pub mod Point
 pub mod Behind
