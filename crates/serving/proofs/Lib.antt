@@ -1,3 +1,4 @@
+pub mod Fired
 pub mod Served
 pub mod Points
 pub mod Point
