@@ -26,7 +26,7 @@ use Rattle.line.proofs.Line.{queued-none}
 use Rattle.entries.specs.Entries.{drawnIn}
 use Rattle.encoder.specs.declared.Counters.{Counters}
 use Rattle.encoder.specs.Held.{Reading, taskIn, openingOf, stateOf, Good}
-use Rattle.encoder.specs.Did.{limitsOf, roomOf, beyond}
+use Rattle.encoder.specs.Did.{limitsOf, roomOf, beyond, Did}
 use Rattle.encoder.proofs.Frames.{good-kept}
 use Rattle.owners.specs.Owners.{serving}
 use Rattle.serving.specs.Serving.{servedAs}
@@ -42,6 +42,12 @@ unfolding from any
 good-from {head = head} {n = n} {st = st} h g =
     let b : head + 1 ≤ n .tail = omega arith in
     good-kept (changed-none [] st) g (search) refl refl refl refl refl (g .entries)
+
+-- served by its number
+pub served-next : {c : Catalogue} {l : Limits} (r : Run) {drawn : ℕ} (head x : ℕ) {n : Counters} {st : ℕ → List ℕ} {cl wt : List ℕ}
+    {n′ : Counters} {st′ : ℕ → List ℕ} {cl′ wt′ : List ℕ} → x ≡ lineAt head st
+    → Did c l (λ v. servedAs c r (drawnIn l drawn wt) v (taskOf x)) (from (head + 1) n) st cl wt n′ st′ cl′ wt′ → Serves c l r drawn head n st cl wt n′ st′ cl′ wt′
+served-next r head x e d = record { did = rw (← e) d }
 
 from-is : (c : Catalogue) (l : Limits) (v : Reading) (head : ℕ) (n : Counters) (st : ℕ → List ℕ) (cl wt : List ℕ)
     → stateOf c l v (from (head + 1) n) st cl wt ≡ behindAll (map (taskIn c v) (queued (head + 1) (n .tail) st)) (stateOf c l v (taken n) st cl wt)
