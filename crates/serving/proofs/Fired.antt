@@ -7,7 +7,7 @@ use Prim.Native.Nat.{ℕ, _<_}
 use lib.ListN.{length, getD}
 use Rattle.rules.specs.Lists.{filter, upTo}
 use Rattle.rules.specs.Catalogue.{Condition, Catalogue, conditionAt}
-use Rattle.rules.specs.Conditions.{Disjunct, disjunctsIf, isNone, disjunctsOf, indices, unconditional}
+use Rattle.rules.specs.Conditions.{disjunctsIf, isNone, disjunctsOf, indices, unconditional}
 use Rattle.rules.specs.Opening.{Task, requirement}
 use Rattle.rules.specs.State.{Run}
 use Rattle.rules.proofs.Each.{Each}

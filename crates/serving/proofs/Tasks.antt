@@ -1,12 +1,9 @@
 -- A task by its kind: what its number names, and that its own function serves it.
 use mathlib.Core.Path.{_≡_}
-use mathlib.Core.Bool.{false}
 use mathlib.Core.List.{List}
-use Prim.Native.Nat.{ℕ, _<_, _≤_}
+use Prim.Native.Nat.{ℕ, _<_}
 use native.Mathlib.Omega.{arith}
-use lib.ListN.{length}
 use Rattle.rules.specs.Catalogue.{Catalogue}
-use Rattle.rules.specs.Conditions.{unconditional}
 use Rattle.rules.specs.Opening.{owner, name, constraint}
 use Rattle.rules.specs.State.{Run}
 use Rattle.tables.specs.declared.Counts.{Counts}
