@@ -1,27 +1,23 @@
--- A task by its kind: what its number names, and that its own function serves it.
+-- A task by its kind: what its number names, and that it is served as its kind is.
 use mathlib.Core.Path.{_≡_}
 use mathlib.Core.List.{List}
 use Prim.Native.Nat.{ℕ, _<_}
 use native.Mathlib.Omega.{arith}
 use Rattle.rules.specs.Catalogue.{Catalogue}
-use Rattle.rules.specs.Opening.{owner, name, constraint}
 use Rattle.rules.specs.State.{Run}
 use Rattle.tables.specs.declared.Counts.{Counts}
 use Rattle.cache.specs.Areas.{catalogue}
 use Rattle.cache.proofs.Laws.{requirements-held, constraints-held}
 use Rattle.state.specs.declared.Limits.{Limits}
-use Rattle.marked.specs.Marked.{ownerOf}
 use Rattle.line.specs.declared.Task.{Task}
-use Rattle.line.specs.declared.Task.the-variants.{Owner, Name, Condition, Requirement, Constraint, Drawn}
+use Rattle.line.specs.declared.Task.the-variants.{Condition, Requirement, Constraint, Drawn}
 use Rattle.line.specs.Tasks.{taskOf}
 use Rattle.entries.specs.Entries.{drawnIn, Long}
 use Rattle.entries.proofs.Drain.{length-drawn}
 use Rattle.encoder.specs.declared.Counters.{Counters}
 use Rattle.encoder.specs.Held.{LongEnough}
-use Rattle.encoder.specs.Did.{Did, ClausesDid}
-use Rattle.owners.specs.Owners.{serving}
-use Rattle.firing.specs.Firing.{conditionServed, EntriesDid}
-use Rattle.serving.specs.Serving.{servedFired, servedDrawn, servedAs, TaskGiven}
+use Rattle.encoder.specs.Did.{Did}
+use Rattle.serving.specs.Serving.{servedAs, TaskGiven}
 
 -- ---- areas that are long enough
 
@@ -52,35 +48,8 @@ module _ (k : Counts) (m us t : List ℕ) {ds : List (ℕ × ℕ)} {i : ℕ} whe
 pub drawn-first : {c : Catalogue} (l : Limits) (wt : List ℕ) {drawn e : ℕ} → TaskGiven c (drawnIn l drawn wt) (Drawn e) → e < drawn
 drawn-first l wt {drawn} g = omega (arith, g .given .0, length-drawn l drawn wt)
 
--- ---- served
+-- ---- served as its kind is
 
-module _ {c : Catalogue} {l : Limits} (r : Run) (ds : List (ℕ × ℕ)) {n n′ : Counters} {st st′ : ℕ → List ℕ} {cl wt : List ℕ} {t : Task} (x : ℕ) (e : t ≡ taskOf x) where
-  pub as-owner : {o : ℕ} {cl′ : List ℕ} → t ≡ Owner o → ClausesDid c l (λ v. serving c r (owner (ownerOf o))) n st cl n′ st′ cl′
-      → Did c l (λ v. servedAs c r ds v (taskOf x)) n st cl wt n′ st′ cl′ wt
-  unfolding servedAs
-  as-owner f d = rw (← e, f) (d .is wt)
-
-  pub as-name : {i : ℕ} {cl′ : List ℕ} → t ≡ Name i → ClausesDid c l (λ v. serving c r (name i)) n st cl n′ st′ cl′
-      → Did c l (λ v. servedAs c r ds v (taskOf x)) n st cl wt n′ st′ cl′ wt
-  unfolding servedAs
-  as-name f d = rw (← e, f) (d .is wt)
-
-  pub as-condition : {i : ℕ} {wt′ : List ℕ} → t ≡ Condition i → EntriesDid c l (λ v. conditionServed c v i) n st wt n′ st′ wt′
-      → Did c l (λ v. servedAs c r ds v (taskOf x)) n st cl wt n′ st′ cl wt′
-  unfolding servedAs
-  as-condition f d = rw (← e, f) (d .is cl)
-
-  pub as-requirement : {i : ℕ} {cl′ : List ℕ} → t ≡ Requirement i → ClausesDid c l (λ v. servedFired c r i) n st cl n′ st′ cl′
-      → Did c l (λ v. servedAs c r ds v (taskOf x)) n st cl wt n′ st′ cl′ wt
-  unfolding servedAs
-  as-requirement f d = rw (← e, f) (d .is wt)
-
-  pub as-constraint : {i : ℕ} {cl′ : List ℕ} → t ≡ Constraint i → ClausesDid c l (λ v. serving c r (constraint i)) n st cl n′ st′ cl′
-      → Did c l (λ v. servedAs c r ds v (taskOf x)) n st cl wt n′ st′ cl′ wt
-  unfolding servedAs
-  as-constraint f d = rw (← e, f) (d .is wt)
-
-  pub as-drawn : {i : ℕ} {cl′ : List ℕ} → t ≡ Drawn i → ClausesDid c l (λ v. servedDrawn c r ds i) n st cl n′ st′ cl′
-      → Did c l (λ v. servedAs c r ds v (taskOf x)) n st cl wt n′ st′ cl′ wt
-  unfolding servedAs
-  as-drawn f d = rw (← e, f) (d .is wt)
+pub as-kind : {c : Catalogue} {l : Limits} (r : Run) (ds : List (ℕ × ℕ)) {n n′ : Counters} {st st′ : ℕ → List ℕ} {cl cl′ wt wt′ : List ℕ} {t k : Task} (x : ℕ)
+    → t ≡ taskOf x → t ≡ k → Did c l (λ v. servedAs c r ds v k) n st cl wt n′ st′ cl′ wt′ → Did c l (λ v. servedAs c r ds v (taskOf x)) n st cl wt n′ st′ cl′ wt′
+as-kind r ds x e f d = rw (← e, f) d

@@ -2,7 +2,8 @@
 use borrow.Author.Needs.{needs}
 use mathlib.Core.List.{[]}
 use Rattle.owners.proofs.Steps.{good-waiting, alone}
-use Rattle.serving.proofs.Tasks.{long-most, long-entries, given-as, condition-below, requirement-below, constraint-below, drawn-first, as-owner, as-name, as-condition, as-requirement, as-constraint, as-drawn}
+use Rattle.serving.specs.Serving.{servedAs}
+use Rattle.serving.proofs.Tasks.{long-most, long-entries, given-as, condition-below, requirement-below, constraint-below, drawn-first, as-kind}
 use Rattle.serving.proofs.serve_task.Statement.{statement}
 use Rattle.serving.proofs.serve_task.Tie as tie
 
@@ -71,7 +72,7 @@ same-length-2 : tie.Need-same-length-2
 same-length-2 c = search needs
 
 returns : tie.Need-returns
-returns c = as-owner _ _ _ (c .before .before .before .before .before .before .before .before .before .before .task-of .ensures) (c .before .before .before .before .before .before .before .before .o .given .1) (c .before .before .before .before .serve-owner .ensures)
+returns c = as-kind _ _ _ (c .before .before .before .before .before .before .before .before .before .before .task-of .ensures) (c .before .before .before .before .before .before .before .before .o .given .1) (unfold servedAs in (c .before .before .before .before .serve-owner .ensures .is) _)
 
 same-length-3 : tie.Need-same-length-3
 same-length-3 c = search needs
@@ -80,7 +81,7 @@ same-length-4 : tie.Need-same-length-4
 same-length-4 c = search needs
 
 returns-2 : tie.Need-returns-2
-returns-2 c = as-name _ _ _ (c .before .before .before .before .before .before .before .before .before .before .task-of .ensures) (c .before .before .before .before .before .before .before .before .name .given .1) (c .before .before .before .before .serve-name .ensures)
+returns-2 c = as-kind _ _ _ (c .before .before .before .before .before .before .before .before .before .before .task-of .ensures) (c .before .before .before .before .before .before .before .before .name .given .1) (unfold servedAs in (c .before .before .before .before .serve-name .ensures .is) _)
 
 same-length-5 : tie.Need-same-length-5
 same-length-5 c = search needs
@@ -89,7 +90,7 @@ same-length-6 : tie.Need-same-length-6
 same-length-6 c = search needs
 
 returns-3 : tie.Need-returns-3
-returns-3 c = as-condition _ _ _ (c .before .before .before .before .before .before .before .before .before .before .task-of .ensures) (c .before .before .before .before .before .before .before .before .q .given .1) (c .before .before .before .before .serve-condition .ensures)
+returns-3 c = as-kind _ _ _ (c .before .before .before .before .before .before .before .before .before .before .task-of .ensures) (c .before .before .before .before .before .before .before .before .q .given .1) (unfold servedAs in (c .before .before .before .before .serve-condition .ensures .is) _)
 
 same-length-7 : tie.Need-same-length-7
 same-length-7 c = search needs
@@ -98,7 +99,7 @@ same-length-8 : tie.Need-same-length-8
 same-length-8 c = search needs
 
 returns-4 : tie.Need-returns-4
-returns-4 c = as-requirement _ _ _ (c .before .before .before .before .before .before .before .before .before .before .task-of .ensures) (c .before .before .before .before .before .before .before .before .q2 .given .1) (c .before .before .before .before .serve-fired .ensures)
+returns-4 c = as-kind _ _ _ (c .before .before .before .before .before .before .before .before .before .before .task-of .ensures) (c .before .before .before .before .before .before .before .before .q2 .given .1) (unfold servedAs in (c .before .before .before .before .serve-fired .ensures .is) _)
 
 same-length-9 : tie.Need-same-length-9
 same-length-9 c = search needs
@@ -107,7 +108,7 @@ same-length-10 : tie.Need-same-length-10
 same-length-10 c = search needs
 
 returns-5 : tie.Need-returns-5
-returns-5 c = as-constraint _ _ _ (c .before .before .before .before .before .before .before .before .before .before .task-of .ensures) (c .before .before .before .before .before .before .before .before .i .given .1) (c .before .before .before .before .serve-constraint .ensures)
+returns-5 c = as-kind _ _ _ (c .before .before .before .before .before .before .before .before .before .before .task-of .ensures) (c .before .before .before .before .before .before .before .before .i .given .1) (unfold servedAs in (c .before .before .before .before .serve-constraint .ensures .is) _)
 
 same-length-11 : tie.Need-same-length-11
 same-length-11 c = search needs
@@ -119,7 +120,7 @@ same-length-13 : tie.Need-same-length-13
 same-length-13 c = search needs
 
 returns-6 : tie.Need-returns-6
-returns-6 c = as-drawn _ _ _ (c .before .before .before .before .before .before .before .before .before .before .before .task-of .ensures) (c .before .before .before .before .before .before .before .before .before .e .given .1) (c .before .before .before .before .serve-drawn .ensures)
+returns-6 c = as-kind _ _ _ (c .before .before .before .before .before .before .before .before .before .before .before .task-of .ensures) (c .before .before .before .before .before .before .before .before .before .e .given .1) (unfold servedAs in (c .before .before .before .before .serve-drawn .ensures .is) _)
 
 pub serve-task-spec : {M : Type 1} → statement M
 serve-task-spec =
