@@ -3,6 +3,7 @@
 use mathlib.Core.Path.{_≡_, refl, sym, _∙_, ap}
 use mathlib.Core.Bool.{Bool, true, false, not, _&&_, true≢false, false≢true}
 use mathlib.Core.List.{List, [], _∷_}
+use mathlib.Core.Logic.{_⊎_, inl, inr}
 use mathlib.Core.Option.{Option, none, some}
 use Prim.Native.Nat.{ℕ, zero, suc}
 use lib.Dec.{ltb}
@@ -21,6 +22,7 @@ use Rattle.rules.specs.Limits.{Limits, Terms, fits}
 use Rattle.rules.specs.Sheet.{commandRefusals, carriedOut, carryOut}
 use Rattle.rules.specs.Listing.{listing}
 use Rattle.rules.specs.Job.{Progress, reading, carrying, stopped, bodyOf, walk, afterItem, afterCommand, afterRecord, runStep, begunWith, progress, Outcome, accepted, refused, isEmpty, ending, endedBy, ended, outcome}
+use Rattle.rules.specs.Job.{startsSheet, checkBy, checkStep}
 
 -- ---- a step that refuses nothing
 
@@ -119,7 +121,7 @@ not-item Kind.run b i h e = not-one (cc)
 not-item Kind.decide b i h e = not-one (cc)
 not-item Kind.undo b i h e = not-one (cc)
 
-no-item : (b : ℕ) (rest : List ℕ) (i : Item) → read true b rest ≡ ok (catalogue i) → ⊥
+pub no-item : (b : ℕ) (rest : List ℕ) (i : Item) → read true b rest ≡ ok (catalogue i) → ⊥
 unfolding read kindOf
 no-item b rest i e = go (ofSheet b) (lookUp b kinds) (λ k h. looked-up rightClass b kinds k table h) e
   where
@@ -154,11 +156,35 @@ module _ (t : Terms) (job : List ℕ) where
   step-sound at b rest (carries g r) = from-carrying at b rest g r
   step-sound at b rest stops = stops
 
-  walk-sound : (skip at : ℕ) (bs : List ℕ) {p : Progress} → Sound (t .limits) p → Sound (t .limits) (walk (runStep t job) skip at bs p)
+  check-step-sound : (at b : ℕ) (rest : List ℕ) {p : Progress} → Sound (t .limits) p → Sound (t .limits) (checkStep t job at b rest p)
+  unfolding checkStep
+  check-step-sound at b rest (reads {c} g) = go (startsSheet b (kindOf b))
+    where
+      go : (s : Bool) → Sound (t .limits) (checkBy t job s at b rest c)
+      go true = unfold checkBy in carries g begun
+      go false = unfold checkBy in from-reading at g (read false b rest)
+  check-step-sound at b rest (carries g r) = carries g r
+  check-step-sound at b rest stops = stops
+
+  walk-sound : {step : ℕ → ℕ → List ℕ → Progress → Progress}
+      → ((at b : ℕ) (rest : List ℕ) (p : Progress) → Sound (t .limits) p → Sound (t .limits) (step at b rest p))
+      → (skip at : ℕ) (bs : List ℕ) {p : Progress} → Sound (t .limits) p → Sound (t .limits) (walk step skip at bs p)
   unfolding walk
-  walk-sound skip at [] h = h
-  walk-sound (suc skip) at (b ∷ bs) h = walk-sound skip (suc at) bs h
-  walk-sound zero at (b ∷ bs) h = walk-sound (bodyOf (kindOf b)) (suc at) bs (step-sound at b bs h)
+  walk-sound k skip at [] h = h
+  walk-sound k (suc skip) at (b ∷ bs) h = walk-sound k skip (suc at) bs h
+  walk-sound k zero at (b ∷ bs) h = walk-sound k (bodyOf (kindOf b)) (suc at) bs (k at b bs _ h)
+
+  -- a catalogue that `check` has read is given
+  pub checked-given : {c : Catalogue} {p : Progress} → walk (checkStep t job) 0 0 job (reading emptyCatalogue) ≡ p → (p ≡ reading c) ⊎ (p ≡ carrying c start) → Given c
+  checked-given {c} e k = go (rw e at (walk-sound (λ at b rest p. check-step-sound at b rest) 0 0 job (reads nothing))) k
+    where
+      go : {p : Progress} → Sound (t .limits) p → (p ≡ reading c) ⊎ (p ≡ carrying c start) → Given c
+      go (reads {c = d} g) (inl e) = let a : d ≡ c = cc in rw a at g
+      go (reads g) (inr e) = absurd (not-one (cc))
+      go (carries g r) (inl e) = absurd (not-one (cc))
+      go (carries {c = d} g r) (inr e) = let a : d ≡ c = cc in rw a at g
+      go stops (inl e) = absurd (not-one (cc))
+      go stops (inr e) = absurd (not-one (cc))
 
   progress-sound : Sound (t .limits) (progress t job (runStep t job))
   unfolding progress
@@ -167,7 +193,7 @@ module _ (t : Terms) (job : List ℕ) where
       go : (a b : Bool) → Sound (t .limits) (begunWith t job (unlessAny ((unfit if a) ∷ (overlong if b) ∷ []) (walk (runStep t job) 0 0 job (reading emptyCatalogue))))
       go true b = unfold unlessAny begunWith in stops
       go false true = unfold unlessAny begunWith in stops
-      go false false = unfold unlessAny begunWith in walk-sound 0 0 job (reads nothing)
+      go false false = unfold unlessAny begunWith in walk-sound (λ at b rest p. step-sound at b rest) 0 0 job (reads nothing)
 
 -- ---- an accepted job
 
