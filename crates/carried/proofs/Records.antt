@@ -1,6 +1,6 @@
 -- One record of a sheet: a step of the definitions' walk, or its refusal.
 use mathlib.Core.Path.{_≡_, refl, sym, _∙_, ap}
-use mathlib.Core.Bool.{Bool, true, false, not, _||_}
+use mathlib.Core.Bool.{Bool, true, not, _||_}
 use mathlib.Core.List.{List}
 use Prim.Native.Nat.{ℕ, _+_, _-_, _<_, _≤_}
 use native.Mathlib.Omega.{arith}
@@ -10,14 +10,13 @@ use borrow.Author.Tests.{leb-true}
 use Rattle.rules.specs.Compute.{computing}
 use Rattle.rules.specs.Lists.{all}
 use Rattle.rules.specs.Catalogue.{Catalogue}
-use Rattle.rules.specs.Refusals.{Result, ok, refuse, numberAndPlace}
+use Rattle.rules.specs.Refusals.{ok, refuse, numberAndPlace}
 use Rattle.rules.specs.Refusals as rules
 use Rattle.rules.specs.Records.{Kind, kinds, kindOf, ofSheet, Command, sheet, read}
-use Rattle.rules.specs.Records as records
 use Rattle.rules.specs.State.{State}
 use Rattle.rules.specs.Limits.{Terms}
 use Rattle.rules.specs.Sheet.{commandRefusals, carriedOut, carryOut}
-use Rattle.rules.specs.Job.{Progress, carrying, stopped, bodyOf, walk, afterCommand, afterRecord, runStep, startsSheet, refused, ended}
+use Rattle.rules.specs.Job.{carrying, stopped, bodyOf, walk, afterCommand, afterRecord, runStep, startsSheet, refused, ended}
 use Rattle.rules.proofs.KindTable.{not-one, looked-up}
 use Rattle.rules.proofs.WalkLaws.{walk-record, walk-still, read-ok, read-sheet, run-reads}
 use Rattle.rules.proofs.Reached.{unlessAny-ok, Given, Reached, command, no-item}

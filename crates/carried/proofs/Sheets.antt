@@ -1,14 +1,13 @@
 -- The loop over a sheet's records: what is left of the job ends as the whole sheet does.
-use mathlib.Core.Path.{_≡_, refl, sym, _∙_, ap}
-use mathlib.Core.Bool.{Bool, true, false, not, _&&_}
+use mathlib.Core.Path.{_≡_, refl, _∙_, ap}
+use mathlib.Core.Bool.{true, false}
 use mathlib.Core.List.{List}
 use mathlib.Core.Option.{Option, none, some}
-use Prim.Native.Nat.{ℕ, _+_, _-_, _*_, _<_, _≤_, zero-le}
+use Prim.Native.Nat.{ℕ, _+_, _-_, _*_, _<_, _≤_}
 use native.Mathlib.Omega.{arith}
 use native.Mathlib.Decide.{decLt}
 use lib.ListN.{length, getD, drop}
 use Rattle.rules.specs.Catalogue.{Catalogue}
-use Rattle.rules.specs.Refusals.{numberAndPlace}
 use Rattle.rules.specs.Records.{Kind, kindOf, ofSheet, read}
 use Rattle.rules.specs.State.{State, start}
 use Rattle.rules.specs.Limits.{Terms}
@@ -17,7 +16,6 @@ use Rattle.rules.proofs.KindTable.{not-one}
 use Rattle.rules.proofs.WalkLaws.{walk-record, walk-end}
 use Rattle.rules.proofs.Reached.{Given, Reached}
 use Rattle.refusal.specs.declared.Refusal.{Refusal}
-use Rattle.refusal.specs.Refusing.{refusalOf}
 use Rattle.tables.specs.declared.Counts.{Counts}
 use Rattle.cache.specs.Areas.{catalogue}
 use Rattle.catalogue.specs.Walking.{UpToSheet}
@@ -31,7 +29,7 @@ use Rattle.sheet.proofs.Held.{held-runs}
 use Rattle.carried.specs.declared.Step.{Step}
 use Rattle.carried.specs.declared.Step.the-variants as Step
 use Rattle.carried.specs.declared.Sheet.the-variants as Sheet
-use Rattle.carried.specs.Carrying.{endFrom, Passed, StepDid, Came, SheetDid}
+use Rattle.carried.specs.Carrying.{endFrom, StepDid, Came, SheetDid}
 
 -- ---- the first record
 

@@ -1,10 +1,10 @@
 -- An area of zeros with the root's variable, and the clauses' area with install, hold the state at the start.
-use mathlib.Core.Path.{_≡_, refl, sym, _∙_, ap}
+use mathlib.Core.Path.{_≡_, refl}
 use mathlib.Core.Bool.{false}
 use mathlib.Core.List.{List, [], _∷_}
-use Prim.Native.Nat.{ℕ, _+_, _*_, _<_, _≤_, zero-le}
+use Prim.Native.Nat.{ℕ, _+_, _<_, _≤_, zero-le}
 use native.Mathlib.Omega.{arith}
-use lib.ListN.{length, getD, replicate}
+use lib.ListN.{length, replicate}
 use Rattle.rules.specs.Lists.{snoc, any, filter, upTo, sum}
 use Rattle.rules.specs.Clause.{conditionLiterals}
 use Rattle.rules.specs.Catalogue.{Catalogue}
@@ -28,7 +28,6 @@ use Rattle.solver.specs.declared.Stored.{Stored}
 use Rattle.solver.specs.Rows.{noRow, rowOf, rows}
 use Rattle.encoder.specs.declared.Counters.{Counters}
 use Rattle.encoder.specs.Held.{Reading, clauseIn, clausesIn, conflictIf, conflictsFrom, openingOf, stateOf, GoodState, GoodClauses}
-use Rattle.encoding.specs.Running.{Holds}
 use Rattle.carried.specs.Carrying.{Started}
 
 -- the slots of an area of zeros

@@ -70,7 +70,19 @@ pub enum Step {
     Refused(Refusal),
 }
 
-fn carry_record(job: &[u8], at: usize, marks: &[u8], unions: &[u8], t: &[u8], k: Counts, s: &mut [u8], clauses: &mut [u8], w: &mut [u8], l: Limits, n: Counters) -> Step
+fn carry_record(
+    job: &[u8],
+    at: usize,
+    marks: &[u8],
+    unions: &[u8],
+    t: &[u8],
+    k: Counts,
+    s: &mut [u8],
+    clauses: &mut [u8],
+    w: &mut [u8],
+    l: Limits,
+    n: Counters,
+) -> Step
     requires { ⌜ (at < length (now job)) × (length (now job) ≤ 65536) ⌝ }
     requires { ⌜ Catalogued k (now marks) (now unions) (now t) ⌝ }
     requires { ⌜ Fits l (length (now s)) ⌝ }
@@ -92,7 +104,19 @@ fn carry_record(job: &[u8], at: usize, marks: &[u8], unions: &[u8], t: &[u8], k:
 }
 
 // The records from `from` on, the first of which is of a sheet.
-pub fn carry_sheet(job: &[u8], from: usize, marks: &[u8], unions: &[u8], t: &[u8], k: Counts, s: &mut [u8], clauses: &mut [u8], w: &mut [u8], l: Limits, n: Counters) -> Sheet
+pub fn carry_sheet(
+    job: &[u8],
+    from: usize,
+    marks: &[u8],
+    unions: &[u8],
+    t: &[u8],
+    k: Counts,
+    s: &mut [u8],
+    clauses: &mut [u8],
+    w: &mut [u8],
+    l: Limits,
+    n: Counters,
+) -> Sheet
     requires { ⌜ length (now job) ≤ 65536 ⌝ }
     requires { ⌜ Catalogued k (now marks) (now unions) (now t) ⌝ }
     requires { ⌜ UpToSheet (now job) from k (now marks) (now unions) (now t) ⌝ }

@@ -1,3 +1,3 @@
 pub mod Held
-pub mod Given
+pub mod Outcomes
 pub mod Running

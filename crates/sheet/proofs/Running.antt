@@ -1,8 +1,8 @@
 -- A run of a sheet: refused where its level is too low or it would end above a limit.
-use mathlib.Core.Path.{_≡_, refl, sym, _∙_, ap}
+use mathlib.Core.Path.{_≡_, refl, sym, _∙_}
 use mathlib.Core.Bool.{Bool, true, false, _||_}
 use mathlib.Core.List.{List}
-use Prim.Native.Nat.{ℕ, suc, _+_, _≤_}
+use Prim.Native.Nat.{ℕ, suc}
 use native.Mathlib.Omega.{arith}
 use lib.Dec.{eqb, ltb}
 use Rattle.rules.specs.Catalogue.{Catalogue}
@@ -16,7 +16,7 @@ use Rattle.rules.specs.Limits as rules
 use Rattle.rules.specs.Sheet.{tooLow, commandRefusals, carriedOut, carryOut}
 use Rattle.rules.proofs.Reached.{Given, Reached}
 use Rattle.rules.proofs.RunLaws.{Within, every-run}
-use Rattle.rules.proofs.Forgotten.{forget, forget-above}
+use Rattle.rules.proofs.Forgotten.{forget-above}
 use Rattle.refusal.specs.declared.Refusal.the-variants.{LevelLow, RunFull}
 use Rattle.refusal.specs.Refusing.{refusalOf}
 use Rattle.state.specs.declared.Limits.{Limits}
@@ -28,7 +28,7 @@ use Rattle.encoding.specs.Running.{Holds, RunDid}
 use Rattle.commands.specs.declared.Outcome.the-variants.{Carried, Refused}
 use Rattle.sheet.specs.Sheet.{Gives, CommandDid}
 use Rattle.sheet.proofs.Held.{anyReading, held-decisions, held-runs}
-use Rattle.sheet.proofs.Given.{did-carried, did-refused}
+use Rattle.sheet.proofs.Outcomes.{did-carried, did-refused}
 
 -- ---- runs are counted
 

@@ -1,10 +1,8 @@
 -- From the state that the areas hold to the definitions' state: what is not kept changes no outcome.
 use mathlib.Core.Path.{_≡_, refl, sym, _∙_, ap}
-use mathlib.Core.Bool.{false}
 use mathlib.Core.List.{List}
-use Prim.Native.Nat.{ℕ, _+_, _<_, _≤_}
+use Prim.Native.Nat.{ℕ, _<_, _≤_}
 use native.Mathlib.Omega.{arith}
-use lib.ListN.{length}
 use Rattle.rules.specs.Catalogue.{Catalogue}
 use Rattle.rules.specs.Refusals.{Result, ok, refuse}
 use Rattle.rules.specs.Refusals as rules
