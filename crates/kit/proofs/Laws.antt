@@ -196,7 +196,7 @@ gives-refused n at number place f e =
 pub told-sheet : (n : ℕ) (read : Read) (at : ℕ) (k : Counts) → read ≡ Read.Sheet at k
     → Gives (record { number = 0; place = 0; length = 0; variables = 0; clauses = 0 }) (toldOf n read)
 unfolding toldOf
-told-sheet n read at k e = rw e gives-accepts 0 0 0
+told-sheet n read at k e = rw e (gives-accepts 0 0 0)
 
 pub told-refused : (n : ℕ) (read : Read) (f : Refusal) (at : ℕ) (r : Answer) → read ≡ Read.Refused f at
     → Gives r (refuses ((numberAndPlace n at (refusalOf f)) .0) ((numberAndPlace n at (refusalOf f)) .1)) → Gives r (toldOf n read)
