@@ -1,1 +1,2 @@
-pub mod BothEnds
+pub mod Added
+pub mod Drawn

@@ -18,6 +18,7 @@ use Rattle.marked.specs.Marked.{Marked}
 use Rattle.encoder.specs.declared.Counters.{Counters}
 use Rattle.encoder.specs.Held.{Reading, taskIn, stateOf, Good}
 use Rattle.encoder.specs.Did.{limitsOf}
+use Rattle.owners.specs.Owners.{GoodAlone}
 use Rattle.firing.specs.Firing.{queued}
 use Rattle.serving.specs.Line.{readingOf}
 
@@ -36,6 +37,11 @@ pub record Reaches (c : Catalogue) (l : Limits) (n : Counters) (st : ℕ → Lis
   pub holds : Holds c l state n st cl wt
 
 -- ---- a run begins
+
+-- what holds between two steps of the state area, with some catalogue: for a step that does not read it
+pub record GoodSome (l : Limits) (n : Counters) (st : ℕ → List ℕ) : Type 0 where
+  pub catalogue : Catalogue
+  pub good : GoodAlone catalogue l n st
 
 -- each of these entries is a disjunct of a requirement
 pub record AllGiven (c : Catalogue) (es : List (ℕ × ℕ)) : Type 0 where

@@ -10,23 +10,25 @@ ghost use Rattle.cache.specs.Areas.{catalogue};
 ghost use Rattle.state.specs.Layout.{held, Fits};
 ghost use Rattle.entries.specs.Entries.{Long, drawnIn};
 ghost use Rattle.encoder.specs.Held.{LongEnough};
-ghost use Rattle.encoder.specs.Did.{onOpening, StateDid};
+ghost use Rattle.encoder.specs.Did.{onOpening, StateDid, PlainDid};
 ghost use Rattle.goals.specs.Goals.{Catalogued};
 ghost use Rattle.owners.specs.Owners.{GoodAlone};
-ghost use Rattle.encoding.specs.Running.{Reaches, AllGiven, openAdded, fireDrawn, emptied, Begins, RunDid};
+ghost use Rattle.encoding.specs.Running.{Reaches, GoodSome, AllGiven, openAdded, fireDrawn, emptied, Begins, RunDid};
 
 // ---- a run begins
 
 // The added owners are opened, in order.
-fn open_added(marks: &[u8], unions: &[u8], t: &[u8], k: Counts, s: &mut [u8], l: Limits, n: Counters) -> Counters
-    requires { ⌜ Catalogued k (now marks) (now unions) (now t) ⌝ }
+fn open_added(s: &mut [u8], l: Limits, n: Counters) -> Counters
     requires { ⌜ Fits l (length (now s)) ⌝ }
-    requires { ⌜ GoodAlone (catalogue k (now marks) (now unions) (now t)) l n (held l (now s)) ⌝ }
-    ensures { λ m. ⌜ StateDid (catalogue k (now (marks .entry)) (now (unions .entry)) (now (t .entry))) l (λ v. onOpening openAdded) n (held l (now (s .entry))) m (held l (now (s .exit))) ⌝ }
+    requires { ⌜ GoodSome l n (held l (now s)) ⌝ }
+    ensures { λ m. ⌜ PlainDid l (λ c v. onOpening openAdded) n (held l (now (s .entry))) m (held l (now (s .exit))) ⌝ }
 {
     let mut m = n;
     let mut i = 0;
     while i < n.added {
+        if m.full {
+            return m;
+        }
         let o = marked::at(s, l, state::ADDED, n.added, i);
         m = opening::open_owner(s, l, m, o);
         i += 1;
@@ -74,37 +76,10 @@ fn begin_run(marks: &[u8], unions: &[u8], t: &[u8], k: Counts, s: &mut [u8], cla
     requires { ⌜ LongEnough l (length (now clauses)) (length (now w)) × (n .runs < 65535) ⌝ }
     ensures { λ m. ⌜ Begins (catalogue k (now (marks .entry)) (now (unions .entry)) (now (t .entry))) l n (held l (now (s .entry))) (now (clauses .entry)) (now (w .entry)) m (held l (now (s .exit))) ⌝ }
 {
-    let a = open_added(marks, unions, t, k, s, l, emptied(n));
-    marked::clear(s, l, state::ADDED, state::ADDED_MARKS, n.added);
+    let a = open_added(s, l, emptied(n));
+    marked::clear(s, l, state::ADDED, state::ADDED_MARKS, a.added);
     let mut b = a;
     b.added = 0;
     fire_drawn(marks, unions, t, k, s, w, l, b, n.drawn)
 }
 
-// ---- a run
-
-// The run carried out, or full.
-pub fn run_once(marks: &[u8], unions: &[u8], t: &[u8], k: Counts, s: &mut [u8], clauses: &mut [u8], w: &mut [u8], l: Limits, n: Counters, level: u16) -> Counters
-    requires { ⌜ Catalogued k (now marks) (now unions) (now t) ⌝ }
-    requires { ⌜ Fits l (length (now s)) ⌝ }
-    requires { ⌜ Reaches (catalogue k (now marks) (now unions) (now t)) l n (held l (now s)) (now clauses) (now w) ⌝ }
-    requires { ⌜ LongEnough l (length (now clauses)) (length (now w)) × (n .runs < 65535) ⌝ }
-    ensures { λ m. ⌜ RunDid (catalogue k (now (marks .entry)) (now (unions .entry)) (now (t .entry))) l level n (held l (now (s .entry))) (now (clauses .entry)) (now (w .entry)) m (held l (now (s .exit))) (now (clauses .exit)) (now (w .exit)) ⌝ }
-{
-    let r = Run {
-        number: n.runs as u16 + 1,
-        level,
-        before: n.variables,
-    };
-    let drawn = n.drawn;
-    let a = begin_run(marks, unions, t, k, s, clauses, w, l, n);
-    let b = serving::serve_line(marks, unions, t, k, s, clauses, w, l, a, r, drawn);
-    if b.full {
-        return b;
-    }
-    let c = binary_encoding::join_all(marks, unions, t, k, s, clauses, l, b, r);
-    if c.full {
-        return c;
-    }
-    binary_encoding::link_all(marks, unions, t, k, s, clauses, l, c, r)
-}
