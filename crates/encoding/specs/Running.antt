@@ -5,7 +5,7 @@ use mathlib.Core.List.{List, [], _∷_}
 use Prim.Native.Nat.{ℕ, suc, _+_, _≤_}
 use Rattle.rules.specs.Lists.{fold}
 use Rattle.rules.specs.Catalogue.{Catalogue}
-use Rattle.rules.specs.Opening.{Opening, openOwner}
+use Rattle.rules.specs.Opening.{Opening, setAdded, openOwner}
 use Rattle.rules.specs.State.{State}
 use Rattle.rules.specs.Run.{begun, runOnce}
 use Rattle.rules.specs.Limits.{above}
@@ -49,6 +49,9 @@ pub record AllGiven (c : Catalogue) (es : List (ℕ × ℕ)) : Type 0 where
 
 unfoldable pub openAdded : Opening → Opening
 openAdded o = fold openOwner (o .added) o
+
+unfoldable pub forgetAdded : Opening → Opening
+forgetAdded o = setAdded [] o
 
 -- the drawn entries ds, the first of which is entry e
 unfoldable pub fireFrom : Catalogue → Reading → ℕ → List (ℕ × ℕ) → Opening → Opening

@@ -8,12 +8,13 @@ ghost use Prim.Native.Nat.{_<_, _≤_};
 ghost use lib.ListN.{length};
 ghost use Rattle.cache.specs.Areas.{catalogue};
 ghost use Rattle.state.specs.Layout.{held, Fits};
+ghost use Rattle.marked.specs.Marked.{Marked};
 ghost use Rattle.entries.specs.Entries.{Long, drawnIn};
 ghost use Rattle.encoder.specs.Held.{LongEnough};
 ghost use Rattle.encoder.specs.Did.{onOpening, StateDid, PlainDid};
 ghost use Rattle.goals.specs.Goals.{Catalogued};
 ghost use Rattle.owners.specs.Owners.{GoodAlone};
-ghost use Rattle.encoding.specs.Running.{Reaches, GoodSome, AllGiven, openAdded, fireDrawn, emptied, Begins, RunDid};
+ghost use Rattle.encoding.specs.Running.{Reaches, GoodSome, AllGiven, openAdded, forgetAdded, fireDrawn, emptied, Begins, RunDid};
 
 // ---- a run begins
 
@@ -68,6 +69,18 @@ fn emptied(n: Counters) -> Counters
     a
 }
 
+// No owner is added any more.
+fn forget_added(s: &mut [u8], l: Limits, n: Counters) -> Counters
+    requires { ⌜ Fits l (length (now s)) ⌝ }
+    requires { ⌜ Marked 6 7 (n .added) (held l (now s)) ⌝ }
+    ensures { λ m. ⌜ PlainDid l (λ c v. onOpening forgetAdded) n (held l (now (s .entry))) m (held l (now (s .exit))) ⌝ }
+{
+    marked::clear(s, l, state::ADDED, state::ADDED_MARKS, n.added);
+    let mut m = n;
+    m.added = 0;
+    m
+}
+
 // The added owners are opened, then the drawn entries fire.
 fn begin_run(marks: &[u8], unions: &[u8], t: &[u8], k: Counts, s: &mut [u8], clauses: &[u8], w: &[u8], l: Limits, n: Counters) -> Counters
     requires { ⌜ Catalogued k (now marks) (now unions) (now t) ⌝ }
@@ -77,9 +90,7 @@ fn begin_run(marks: &[u8], unions: &[u8], t: &[u8], k: Counts, s: &mut [u8], cla
     ensures { λ m. ⌜ Begins (catalogue k (now (marks .entry)) (now (unions .entry)) (now (t .entry))) l n (held l (now (s .entry))) (now (clauses .entry)) (now (w .entry)) m (held l (now (s .exit))) ⌝ }
 {
     let a = open_added(s, l, emptied(n));
-    marked::clear(s, l, state::ADDED, state::ADDED_MARKS, a.added);
-    let mut b = a;
-    b.added = 0;
+    let b = forget_added(s, l, a);
     fire_drawn(marks, unions, t, k, s, w, l, b, n.drawn)
 }
 
