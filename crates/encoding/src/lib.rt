@@ -3,6 +3,14 @@ use encoder::Counters;
 use encoder::Run;
 use state::Limits;
 use tables::Counts;
+ghost use mathlib.Core.List.{[]};
+ghost use Rattle.rules.specs.Run.{joinAll, linkAll};
+ghost use Rattle.rules.proofs.WellFormed.{WellFormed};
+ghost use Rattle.catalogue.specs.Reading.{Kept};
+ghost use Rattle.encoder.specs.Held.{runOf, Good};
+ghost use Rattle.encoder.specs.Did.{ClausesDid};
+ghost use Rattle.binary_encoding.specs.Joining.{CanJoin, CanLink};
+ghost use Rattle.serving.specs.Line.{Begun, LineServed};
 ghost use mathlib.Core.Path.{_≡_};
 ghost use Prim.Native.Nat.{_<_, _≤_};
 ghost use lib.ListN.{length};
@@ -94,3 +102,70 @@ fn begin_run(marks: &[u8], unions: &[u8], t: &[u8], k: Counts, s: &mut [u8], cla
     fire_drawn(marks, unions, t, k, s, w, l, b, n.drawn)
 }
 
+// ---- STUBS
+
+fn serve_line(marks: &[u8], unions: &[u8], t: &[u8], k: Counts, s: &mut [u8], clauses: &mut [u8], w: &mut [u8], l: Limits, n: Counters, r: Run, drawn: usize) -> Counters
+    requires { ⌜ Catalogued k (now marks) (now unions) (now t) ⌝ }
+    requires { ⌜ Fits l (length (now s)) ⌝ }
+    requires { ⌜ Good (catalogue k (now marks) (now unions) (now t)) l n (held l (now s)) (now clauses) (now w) ⌝ }
+    requires { ⌜ LongEnough l (length (now clauses)) (length (now w)) ⌝ }
+    requires { ⌜ Marked 14 15 0 (held l (now s)) × (0 < r .number) ⌝ }
+    requires { ⌜ Begun (catalogue k (now marks) (now unions) (now t)) l (runOf r) drawn n (held l (now s)) (now clauses) (now w) ⌝ }
+    ensures { λ m. ⌜ LineServed (catalogue k (now (marks .entry)) (now (unions .entry)) (now (t .entry))) l (runOf r) drawn n (held l (now (s .entry))) (now (clauses .entry)) (now (w .entry)) m (held l (now (s .exit))) (now (clauses .exit)) (now (w .exit)) ⌝ }
+{
+    n
+}
+
+fn join_all(marks: &[u8], unions: &[u8], t: &[u8], k: Counts, s: &mut [u8], clauses: &mut [u8], l: Limits, n: Counters, r: Run) -> Counters
+    requires { ⌜ Kept k (now marks) (now unions) (now t) ⌝ }
+    requires { ⌜ WellFormed (catalogue k (now marks) (now unions) (now t)) ⌝ }
+    requires { ⌜ Fits l (length (now s)) ⌝ }
+    requires { ⌜ Good (catalogue k (now marks) (now unions) (now t)) l n (held l (now s)) (now clauses) [] ⌝ }
+    requires { ⌜ LongEnough l (length (now clauses)) 16384 ⌝ }
+    requires { ⌜ CanJoin n (held l (now s)) r ⌝ }
+    requires { ⌜ Marked 14 15 0 (held l (now s)) ⌝ }
+    ensures { λ m. ⌜ ClausesDid (catalogue k (now (marks .entry)) (now (unions .entry)) (now (t .entry))) l (λ v. joinAll (catalogue k (now (marks .entry)) (now (unions .entry)) (now (t .entry))) (runOf r)) n (held l (now (s .entry))) (now (clauses .entry)) m (held l (now (s .exit))) (now (clauses .exit)) ⌝ }
+{
+    n
+}
+
+fn link_all(marks: &[u8], unions: &[u8], t: &[u8], k: Counts, s: &mut [u8], clauses: &mut [u8], l: Limits, n: Counters, r: Run) -> Counters
+    requires { ⌜ Kept k (now marks) (now unions) (now t) ⌝ }
+    requires { ⌜ Fits l (length (now s)) ⌝ }
+    requires { ⌜ Good (catalogue k (now marks) (now unions) (now t)) l n (held l (now s)) (now clauses) [] ⌝ }
+    requires { ⌜ LongEnough l (length (now clauses)) 16384 ⌝ }
+    requires { ⌜ CanLink n (held l (now s)) ⌝ }
+    ensures { λ m. ⌜ ClausesDid (catalogue k (now (marks .entry)) (now (unions .entry)) (now (t .entry))) l (λ v. linkAll (catalogue k (now (marks .entry)) (now (unions .entry)) (now (t .entry))) (runOf r)) n (held l (now (s .entry))) (now (clauses .entry)) m (held l (now (s .exit))) (now (clauses .exit)) ⌝ }
+{
+    n
+}
+
+// ---- END OF STUBS
+
+// ---- a run
+
+// The run carried out, or full.
+pub fn run_once(marks: &[u8], unions: &[u8], t: &[u8], k: Counts, s: &mut [u8], clauses: &mut [u8], w: &mut [u8], l: Limits, n: Counters, level: u16) -> Counters
+    requires { ⌜ Catalogued k (now marks) (now unions) (now t) ⌝ }
+    requires { ⌜ Fits l (length (now s)) ⌝ }
+    requires { ⌜ Reaches (catalogue k (now marks) (now unions) (now t)) l n (held l (now s)) (now clauses) (now w) ⌝ }
+    requires { ⌜ LongEnough l (length (now clauses)) (length (now w)) × (n .runs < 65535) ⌝ }
+    ensures { λ m. ⌜ RunDid (catalogue k (now (marks .entry)) (now (unions .entry)) (now (t .entry))) l level n (held l (now (s .entry))) (now (clauses .entry)) (now (w .entry)) m (held l (now (s .exit))) (now (clauses .exit)) (now (w .exit)) ⌝ }
+{
+    let r = Run {
+        number: n.runs as u16 + 1,
+        level,
+        before: n.variables,
+    };
+    let drawn = n.drawn;
+    let a = begin_run(marks, unions, t, k, s, clauses, w, l, n);
+    let b = serve_line(marks, unions, t, k, s, clauses, w, l, a, r, drawn);
+    if b.full {
+        return b;
+    }
+    let c = join_all(marks, unions, t, k, s, clauses, l, b, r);
+    if c.full {
+        return c;
+    }
+    link_all(marks, unions, t, k, s, clauses, l, c, r)
+}
