@@ -20,7 +20,7 @@ use Rattle.state.specs.Layout.{held, Fits}
 use Rattle.marked.specs.Marked.{listed, ownerOf, Marked}
 use Rattle.marked.proofs.Laws.{length-listed, at-low}
 use Rattle.encoder.specs.declared.Counters.{Counters}
-use Rattle.encoder.specs.Held.{Reading, openingOf, stateOf, Good}
+use Rattle.encoder.specs.Held.{Reading, openingOf, stateOf}
 use Rattle.encoder.specs.Did.{Widens, onOpening, PlainDid}
 use Rattle.encoder.proofs.Did.{did-then, did-stop, did-as}
 use Rattle.encoder.proofs.Widening.{Lengthens, lengthens-fold, openOwner-lengthens, widens-opening}

@@ -12,7 +12,7 @@ use Rattle.rules.specs.Lists.{fold, any, snoc, upTo}
 use Rattle.rules.specs.Catalogue.{Owner, Catalogue}
 use Rattle.rules.specs.Items.{ceiling}
 use Rattle.rules.specs.Opening.{Opening, setAdded, setDrawn, setLine, queue, openOwner, requirement, fire, beginRun}
-use Rattle.rules.specs.State.{State, Run}
+use Rattle.rules.specs.State.{State}
 use Rattle.rules.specs.Run.{begun, runOnce}
 use Rattle.rules.specs.Limits.{above}
 use Rattle.rules.proofs.ListLaws.{length-snoc}
@@ -20,7 +20,7 @@ use Rattle.rules.proofs.MemberLaws.{all-in}
 use Rattle.rules.proofs.Each.{each-in}
 use Rattle.rules.proofs.Reached.{Given, Reached}
 use Rattle.rules.proofs.Valid.{Entry, valid}
-use Rattle.rules.proofs.Line.{begins, firstState, runFrom}
+use Rattle.rules.proofs.Line.{begins, runFrom}
 use Rattle.rules.proofs.Ends.{room}
 use Rattle.rules.proofs.Drawn.{places}
 use Rattle.rules.proofs.Room.{point-fits}
@@ -29,20 +29,18 @@ use Rattle.rules.proofs.StoppedRun.{point-grows}
 use Rattle.rules.proofs.Forgotten.{unless-commutes, fold-commutes, forget, begun-forgets}
 use Rattle.state.specs.declared.Limits.{Limits}
 use Rattle.state.proofs.Changed.{changed-none}
-use Rattle.state.proofs.Rows.{length-rows}
 use Rattle.variable_map.proofs.Laws.{variables-kept}
 use Rattle.decision_tracker.proofs.Laws.{decisions-kept}
 use Rattle.marked.specs.Marked.{listed, Marked, Emptied}
 use Rattle.line.proofs.Line.{queued-none}
 use Rattle.line.proofs.Tasks.{task-drawn}
-use Rattle.entries.specs.Entries.{rowAt, drawnIn}
+use Rattle.entries.specs.Entries.{drawnIn}
 use Rattle.encoder.specs.declared.Counters.{Counters}
 use Rattle.encoder.specs.Held.{Reading, drawnTask, noSuch, taskFrom, taskIn, openingOf, stateOf, Good}
 use Rattle.encoder.specs.Did.{limitsOf, roomOf, beyond, onOpening, Did, StateDid, PlainDid}
 use Rattle.encoder.proofs.Did.{beside-kept, did-made, did-then}
 use Rattle.encoder.proofs.Frames.{good-kept, list-kept, line-kept}
 use Rattle.encoder.proofs.Widening.{Lengthens, widens-opening}
-use Rattle.firing.specs.Firing.{queued}
 use Rattle.firing.proofs.Callers.{queued-fire}
 use Rattle.owners.specs.Owners.{GoodAlone}
 use Rattle.owners.proofs.Steps.{alone, alone-after}

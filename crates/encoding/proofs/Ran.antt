@@ -1,16 +1,15 @@
 -- A run: begun, its line served, the named parts joined, the new one-of-name variables linked.
 use mathlib.Core.Path.{_≡_, refl, sym, _∙_, ap}
 use mathlib.Core.Bool.{true, false, true≢false}
-use mathlib.Core.List.{List, []}
-use Prim.Native.Nat.{ℕ, _+_, _<_, _≤_}
+use mathlib.Core.List.{List}
+use Prim.Native.Nat.{ℕ, _+_, _≤_}
 use native.Mathlib.Omega.{arith}
 use lib.ListN.{length}
 use Rattle.rules.specs.Catalogue.{Catalogue}
 use Rattle.rules.specs.Variables.{Origin}
 use Rattle.rules.specs.State.{State}
 use Rattle.rules.specs.State as rules
-use Rattle.rules.specs.Run.{joinAll, linkAll, runOnce}
-use Rattle.rules.specs.Limits.{above}
+use Rattle.rules.specs.Run.{joinAll, linkAll}
 use Rattle.rules.proofs.Bools.{by-cases}
 use Rattle.rules.proofs.Places.{Distinct}
 use Rattle.rules.proofs.Reached.{Given, Reached}
@@ -26,7 +25,6 @@ use Rattle.encoder.specs.declared.Run.{Run}
 use Rattle.encoder.specs.Held.{Reading, runOf, openingOf, stateOf, LongEnough, Good}
 use Rattle.encoder.specs.Did.{limitsOf, roomOf, ClausesDid}
 use Rattle.goals.specs.Goals.{AllKnown}
-use Rattle.owners.proofs.Steps.{good-waiting}
 use Rattle.binary_encoding.specs.Joining.{CanJoin, CanLink}
 use Rattle.serving.specs.Line.{readingOf, taken, Point, Begun, LineServed}
 use Rattle.serving.proofs.Point.{taken-none}

@@ -3,14 +3,6 @@ use encoder::Counters;
 use encoder::Run;
 use state::Limits;
 use tables::Counts;
-ghost use mathlib.Core.List.{[]};
-ghost use Rattle.rules.specs.Run.{joinAll, linkAll};
-ghost use Rattle.rules.proofs.WellFormed.{WellFormed};
-ghost use Rattle.catalogue.specs.Reading.{Kept};
-ghost use Rattle.encoder.specs.Held.{runOf, Good};
-ghost use Rattle.encoder.specs.Did.{ClausesDid};
-ghost use Rattle.binary_encoding.specs.Joining.{CanJoin, CanLink};
-ghost use Rattle.serving.specs.Line.{Begun, LineServed};
 ghost use mathlib.Core.Path.{_≡_};
 ghost use Prim.Native.Nat.{_<_, _≤_};
 ghost use lib.ListN.{length};
@@ -25,6 +17,19 @@ ghost use Rattle.owners.specs.Owners.{GoodAlone};
 ghost use Rattle.encoding.specs.Running.{Reaches, GoodSome, AllGiven, openAdded, forgetAdded, fireDrawn, emptied, Begins, RunDid};
 
 // ---- a run begins
+
+// Nothing is drawn and nothing in the line; one run more.
+fn emptied(n: Counters) -> Counters
+    requires { ⌜ n .runs < 65535 ⌝ }
+    ensures { λ r. ⌜ r ≡ emptied n ⌝ }
+{
+    let mut a = n;
+    a.first = 0;
+    a.tail = 0;
+    a.drawn = 0;
+    a.runs = n.runs + 1;
+    a
+}
 
 // The added owners are opened, in order.
 fn open_added(s: &mut [u8], l: Limits, n: Counters) -> Counters
@@ -45,38 +50,6 @@ fn open_added(s: &mut [u8], l: Limits, n: Counters) -> Counters
     m
 }
 
-// The `drawn` entries fire, each a task of its own.
-fn fire_drawn(marks: &[u8], unions: &[u8], t: &[u8], k: Counts, s: &mut [u8], w: &[u8], l: Limits, n: Counters, drawn: usize) -> Counters
-    requires { ⌜ Catalogued k (now marks) (now unions) (now t) ⌝ }
-    requires { ⌜ Fits l (length (now s)) ⌝ }
-    requires { ⌜ GoodAlone (catalogue k (now marks) (now unions) (now t)) l n (held l (now s)) ⌝ }
-    requires { ⌜ Long l (length (now w)) × (drawn ≤ l .waiting) ⌝ }
-    requires { ⌜ AllGiven (catalogue k (now marks) (now unions) (now t)) (drawnIn l drawn (now w)) ⌝ }
-    ensures { λ m. ⌜ StateDid (catalogue k (now (marks .entry)) (now (unions .entry)) (now (t .entry))) l (λ v. onOpening (fireDrawn (catalogue k (now (marks .entry)) (now (unions .entry)) (now (t .entry))) v (drawnIn l drawn (now (w .entry))))) n (held l (now (s .entry))) m (held l (now (s .exit))) ⌝ }
-{
-    let mut m = n;
-    let mut e = 0;
-    while e < drawn {
-        let entry = entries::drawn_at(w, l, drawn, e);
-        m = firing::fire(marks, unions, t, k, s, l, m, entry.requirement as usize, 3649 + e as u16);
-        e += 1;
-    }
-    m
-}
-
-// Nothing is added, nothing drawn and nothing in the line; one run more.
-fn emptied(n: Counters) -> Counters
-    requires { ⌜ n .runs < 65535 ⌝ }
-    ensures { λ r. ⌜ r ≡ emptied n ⌝ }
-{
-    let mut a = n;
-    a.first = 0;
-    a.tail = 0;
-    a.drawn = 0;
-    a.runs = n.runs + 1;
-    a
-}
-
 // No owner is added any more.
 fn forget_added(s: &mut [u8], l: Limits, n: Counters) -> Counters
     requires { ⌜ Fits l (length (now s)) ⌝ }
@@ -89,8 +62,57 @@ fn forget_added(s: &mut [u8], l: Limits, n: Counters) -> Counters
     m
 }
 
+// The `drawn` entries fire, each a task of its own.
+fn fire_drawn(
+    marks: &[u8],
+    unions: &[u8],
+    t: &[u8],
+    k: Counts,
+    s: &mut [u8],
+    w: &[u8],
+    l: Limits,
+    n: Counters,
+    drawn: usize,
+) -> Counters
+    requires { ⌜ Catalogued k (now marks) (now unions) (now t) ⌝ }
+    requires { ⌜ Fits l (length (now s)) ⌝ }
+    requires { ⌜ GoodAlone (catalogue k (now marks) (now unions) (now t)) l n (held l (now s)) ⌝ }
+    requires { ⌜ Long l (length (now w)) × (drawn ≤ l .waiting) ⌝ }
+    requires { ⌜ AllGiven (catalogue k (now marks) (now unions) (now t)) (drawnIn l drawn (now w)) ⌝ }
+    ensures { λ m. ⌜ StateDid (catalogue k (now (marks .entry)) (now (unions .entry)) (now (t .entry))) l (λ v. onOpening (fireDrawn (catalogue k (now (marks .entry)) (now (unions .entry)) (now (t .entry))) v (drawnIn l drawn (now (w .entry))))) n (held l (now (s .entry))) m (held l (now (s .exit))) ⌝ }
+{
+    let mut m = n;
+    let mut e = 0;
+    while e < drawn {
+        let entry = entries::drawn_at(w, l, drawn, e);
+        m = firing::fire(
+            marks,
+            unions,
+            t,
+            k,
+            s,
+            l,
+            m,
+            entry.requirement as usize,
+            3649 + e as u16,
+        );
+        e += 1;
+    }
+    m
+}
+
 // The added owners are opened, then the drawn entries fire.
-fn begin_run(marks: &[u8], unions: &[u8], t: &[u8], k: Counts, s: &mut [u8], clauses: &[u8], w: &[u8], l: Limits, n: Counters) -> Counters
+fn begin_run(
+    marks: &[u8],
+    unions: &[u8],
+    t: &[u8],
+    k: Counts,
+    s: &mut [u8],
+    clauses: &[u8],
+    w: &[u8],
+    l: Limits,
+    n: Counters,
+) -> Counters
     requires { ⌜ Catalogued k (now marks) (now unions) (now t) ⌝ }
     requires { ⌜ Fits l (length (now s)) ⌝ }
     requires { ⌜ Reaches (catalogue k (now marks) (now unions) (now t)) l n (held l (now s)) (now clauses) (now w) ⌝ }
@@ -102,50 +124,21 @@ fn begin_run(marks: &[u8], unions: &[u8], t: &[u8], k: Counts, s: &mut [u8], cla
     fire_drawn(marks, unions, t, k, s, w, l, b, n.drawn)
 }
 
-// ---- STUBS
-
-fn serve_line(marks: &[u8], unions: &[u8], t: &[u8], k: Counts, s: &mut [u8], clauses: &mut [u8], w: &mut [u8], l: Limits, n: Counters, r: Run, drawn: usize) -> Counters
-    requires { ⌜ Catalogued k (now marks) (now unions) (now t) ⌝ }
-    requires { ⌜ Fits l (length (now s)) ⌝ }
-    requires { ⌜ Good (catalogue k (now marks) (now unions) (now t)) l n (held l (now s)) (now clauses) (now w) ⌝ }
-    requires { ⌜ LongEnough l (length (now clauses)) (length (now w)) ⌝ }
-    requires { ⌜ Marked 14 15 0 (held l (now s)) × (0 < r .number) ⌝ }
-    requires { ⌜ Begun (catalogue k (now marks) (now unions) (now t)) l (runOf r) drawn n (held l (now s)) (now clauses) (now w) ⌝ }
-    ensures { λ m. ⌜ LineServed (catalogue k (now (marks .entry)) (now (unions .entry)) (now (t .entry))) l (runOf r) drawn n (held l (now (s .entry))) (now (clauses .entry)) (now (w .entry)) m (held l (now (s .exit))) (now (clauses .exit)) (now (w .exit)) ⌝ }
-{
-    n
-}
-
-fn join_all(marks: &[u8], unions: &[u8], t: &[u8], k: Counts, s: &mut [u8], clauses: &mut [u8], l: Limits, n: Counters, r: Run) -> Counters
-    requires { ⌜ Kept k (now marks) (now unions) (now t) ⌝ }
-    requires { ⌜ WellFormed (catalogue k (now marks) (now unions) (now t)) ⌝ }
-    requires { ⌜ Fits l (length (now s)) ⌝ }
-    requires { ⌜ Good (catalogue k (now marks) (now unions) (now t)) l n (held l (now s)) (now clauses) [] ⌝ }
-    requires { ⌜ LongEnough l (length (now clauses)) 16384 ⌝ }
-    requires { ⌜ CanJoin n (held l (now s)) r ⌝ }
-    requires { ⌜ Marked 14 15 0 (held l (now s)) ⌝ }
-    ensures { λ m. ⌜ ClausesDid (catalogue k (now (marks .entry)) (now (unions .entry)) (now (t .entry))) l (λ v. joinAll (catalogue k (now (marks .entry)) (now (unions .entry)) (now (t .entry))) (runOf r)) n (held l (now (s .entry))) (now (clauses .entry)) m (held l (now (s .exit))) (now (clauses .exit)) ⌝ }
-{
-    n
-}
-
-fn link_all(marks: &[u8], unions: &[u8], t: &[u8], k: Counts, s: &mut [u8], clauses: &mut [u8], l: Limits, n: Counters, r: Run) -> Counters
-    requires { ⌜ Kept k (now marks) (now unions) (now t) ⌝ }
-    requires { ⌜ Fits l (length (now s)) ⌝ }
-    requires { ⌜ Good (catalogue k (now marks) (now unions) (now t)) l n (held l (now s)) (now clauses) [] ⌝ }
-    requires { ⌜ LongEnough l (length (now clauses)) 16384 ⌝ }
-    requires { ⌜ CanLink n (held l (now s)) ⌝ }
-    ensures { λ m. ⌜ ClausesDid (catalogue k (now (marks .entry)) (now (unions .entry)) (now (t .entry))) l (λ v. linkAll (catalogue k (now (marks .entry)) (now (unions .entry)) (now (t .entry))) (runOf r)) n (held l (now (s .entry))) (now (clauses .entry)) m (held l (now (s .exit))) (now (clauses .exit)) ⌝ }
-{
-    n
-}
-
-// ---- END OF STUBS
-
 // ---- a run
 
 // The run carried out, or full.
-pub fn run_once(marks: &[u8], unions: &[u8], t: &[u8], k: Counts, s: &mut [u8], clauses: &mut [u8], w: &mut [u8], l: Limits, n: Counters, level: u16) -> Counters
+pub fn run_once(
+    marks: &[u8],
+    unions: &[u8],
+    t: &[u8],
+    k: Counts,
+    s: &mut [u8],
+    clauses: &mut [u8],
+    w: &mut [u8],
+    l: Limits,
+    n: Counters,
+    level: u16,
+) -> Counters
     requires { ⌜ Catalogued k (now marks) (now unions) (now t) ⌝ }
     requires { ⌜ Fits l (length (now s)) ⌝ }
     requires { ⌜ Reaches (catalogue k (now marks) (now unions) (now t)) l n (held l (now s)) (now clauses) (now w) ⌝ }
@@ -159,13 +152,13 @@ pub fn run_once(marks: &[u8], unions: &[u8], t: &[u8], k: Counts, s: &mut [u8], 
     };
     let drawn = n.drawn;
     let a = begin_run(marks, unions, t, k, s, clauses, w, l, n);
-    let b = serve_line(marks, unions, t, k, s, clauses, w, l, a, r, drawn);
+    let b = serving::serve_line(marks, unions, t, k, s, clauses, w, l, a, r, drawn);
     if b.full {
         return b;
     }
-    let c = join_all(marks, unions, t, k, s, clauses, l, b, r);
+    let c = binary_encoding::join_all(marks, unions, t, k, s, clauses, l, b, r);
     if c.full {
         return c;
     }
-    link_all(marks, unions, t, k, s, clauses, l, c, r)
+    binary_encoding::link_all(marks, unions, t, k, s, clauses, l, c, r)
 }
