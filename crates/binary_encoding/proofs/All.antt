@@ -1,17 +1,16 @@
 -- All that join, and all that are linked, one after another: the rules' `joinAll` and `linkAll`.
 use mathlib.Core.Path.{_≡_, refl, sym, _∙_, ap}
-use mathlib.Core.Bool.{Bool, true, false, not, _&&_, _||_, true≢false}
+use mathlib.Core.Bool.{Bool, true, false, not, _||_}
 use mathlib.Core.List.{List, [], _∷_, _++_, map, map-append, append-nil, append-assoc, List·Memᴰ·head, List·Memᴰ·tail}
-use Prim.Native.Nat.{ℕ, suc}
-use native.Mathlib.Omega.{arith}
+use Prim.Native.Nat.{ℕ}
 use lib.Dec.{eqb}
-use lib.ListN.{length, drop}
+use lib.ListN.{drop}
 use borrow.Author.Tests.{eqb-true, ne-eqb}
-use Rattle.rules.specs.Lists.{filter, any, elem, snoc, concatMap, fold, when, distinct}
+use Rattle.rules.specs.Lists.{filter, elem, snoc, concatMap, fold, when, distinct}
 use Rattle.rules.specs.Called.{_∈_}
 use Rattle.rules.specs.Catalogue.{Catalogue, nameOf}
 use Rattle.rules.specs.Variables.{Origin}
-use Rattle.rules.specs.Opening.{Opening, setNamed, setTracked, joining, endRun, trackedOf}
+use Rattle.rules.specs.Opening.{Opening, setTracked, joining, endRun, trackedOf}
 use Rattle.rules.specs.Encoding.{Event, joins, links}
 use Rattle.rules.specs.State.{State, setOpening, Run, emit, emitAll}
 use Rattle.rules.specs.Run.{nameIfOne, joinsFrom, linksFor, joinAll, linkAll}
@@ -23,7 +22,16 @@ use Rattle.rules.proofs.Line.{emit-opening}
 use Rattle.rules.proofs.ClauseByClause.{effects-changed}
 use Rattle.rules.proofs.DistinctEnough.{fold-append}
 use Rattle.encoder.specs.Did.{onOpening}
-use Rattle.binary_encoding.specs.Joining.{tracking, joinStep, joinIf, joinName, joinNames, forgetNamed, linkStep, linkIf}
+use Rattle.binary_encoding.specs.Joining.{tracking, joinStep, joinIf, joinName, joinNames, forgetNamed}
+
+-- ---- a one-of-name variable that is linked
+
+unfoldable pub linkStep : Run → ℕ → Catalogue → State → State
+linkStep r n c s = emit c r (links n (trackedOf c n (s .opening .tracked))) s
+
+-- an origin that is one-of-name is linked
+unfoldable pub linkIf : Run → Origin → Catalogue → State → State
+linkIf r o c s = fold (λ n. linkStep r n c) (nameIfOne o) s
 
 -- ---- events, whatever the opening is
 

@@ -2,20 +2,19 @@
 use mathlib.Core.Path.{_≡_, refl, sym, _∙_, ap}
 use mathlib.Core.Logic.{_⊎_, inl, inr, ⊎-elim}
 use mathlib.Core.Bool.{Bool, true, false, cond}
-use mathlib.Core.List.{List, [], _∷_, _++_, map, append-nil}
-use Prim.Native.Nat.{ℕ, zero, suc, _+_, _-_, _^_, _<_, _≤_, zero-le}
+use mathlib.Core.List.{List, [], _∷_, map, append-nil}
+use Prim.Native.Nat.{ℕ, zero, suc, _+_, _-_, _^_, _<_, _≤_}
 use native.Mathlib.Numerals.{add-one}
-use native.Mathlib.Decide.{decLt}
 use native.Mathlib.Omega.{arith}
 use lib.Dec.{ltb}
 use lib.ListN.{length, getD, drop, length-map, drop-of-length-le}
 use lib.Seq.{drop-cons, getD-take}
 use borrow.Author.Tests.{lt-ltb, le-ltb}
 use Rattle.rules.specs.Lists.{listIf, upTo}
-use Rattle.rules.specs.Clause.{Clause, anyOne}
+use Rattle.rules.specs.Clause.{anyOne}
 use Rattle.rules.specs.AtMostOne.{bit, agrees, helpersFor, helpersAfter, helperClauses, helpersClauses, partClauses}
 use Rattle.rules.specs.Variables.{Origin, forbid, one, known, variableOf, partOrigin, partVariable}
-use Rattle.rules.proofs.Each.{Each, each-at, each-imp, each-map}
+use Rattle.rules.proofs.Each.{each-at, each-imp, each-map}
 use Rattle.rules.proofs.ListLaws.{length-upTo}
 use Rattle.rules.proofs.AtMostOne.{at-most-ten}
 use Rattle.rules.proofs.Grows.{whole}
@@ -71,7 +70,8 @@ module _ {l : Limits} {r : Run} {x i : ℕ} {tracker : Tracker} {n₀ : Counters
       → q ≡ bit j i → Adds l r (agrees x y q) n (held l b) cl n′ (held l b′) cl′
       → length b′ ≡ length b → length cl′ ≡ length cl → Agreeing l r x i tracker n₀ b₀ cl₀ b′ cl′ n′ (j + 1)
   agreeing-step b′ {y = y} h u f d s s′ =
-      let left : partClauses x i j (drop j (helpersIn tracker)) ≡ agrees x y (bit j i) ∷ partClauses x i (j + 1) (drop (j + 1) (helpersIn tracker)) = rw (helpers-left k j h, ← u) (next-agrees x i j y (drop (j + 1) (helpersIn tracker))) in
+      let left : partClauses x i j (drop j (helpersIn tracker)) ≡ agrees x y (bit j i) ∷ partClauses x i (j + 1) (drop (j + 1) (helpersIn tracker))
+      = rw (helpers-left k j h, ← u) (next-agrees x i j y (drop (j + 1) (helpersIn tracker))) in
       let d′ = rw f at d in
       record { areas = areas-then (a .areas) s s′; good = some-after (a .good) d; did = adding-step (rw left at (a .did)) d′ }
 

@@ -1,8 +1,8 @@
 -- Bits, how many helpers there are, their variables, and the tracker.
-use mathlib.Core.Path.{_≡_, refl, sym, _∙_, ap}
-use mathlib.Core.Bool.{Bool, true, false, _&&_}
+use mathlib.Core.Path.{_≡_, refl, sym, _∙_}
+use mathlib.Core.Bool.{true}
 use mathlib.Core.List.{List, [], _∷_, _++_, map, map-append}
-use Prim.Native.Nat.{ℕ, zero, suc, _+_, _-_, _*_, _/_, _%_, _^_, _<_, _≤_, zero-le}
+use Prim.Native.Nat.{ℕ, zero, suc, _+_, _-_, _/_, _%_, _^_, _<_, _≤_, zero-le}
 use native.Mathlib.Nat.{div-div-eq-div-mul, div-one, pow-suc, mul-comm, not-suc-le-zero}
 use native.Mathlib.Numerals.{add-one}
 use native.Mathlib.Decide.{decLt}
@@ -12,7 +12,7 @@ use lib.Pow.{pow-pos}
 use lib.ListN.{length, getD, take, set, replicate, length-map, length-append}
 use lib.Seq.{take-suc-set, length-take-le}
 use borrow.Author.Tests.{eqb-true, lt-ltb}
-use Rattle.rules.specs.Lists.{all, snoc, upTo}
+use Rattle.rules.specs.Lists.{snoc, upTo}
 use Rattle.rules.specs.AtMostOne.{bit, helpersFor}
 use Rattle.rules.specs.Compute.{computing}
 use Rattle.rules.specs.Variables.{Origin, forbid, known, variableOf, partOrigin}

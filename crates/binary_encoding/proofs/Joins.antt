@@ -1,32 +1,31 @@
 -- A part joins: it and its helpers get variables, its clauses are added, and it is tracked.
 use mathlib.Core.Path.{_≡_, refl, sym, _∙_, ap}
 use mathlib.Core.Bool.{Bool, true, false, not, _&&_}
-use mathlib.Core.List.{List, [], _∷_, _++_, map, List·Memᴰ·head, List·Memᴰ·tail}
+use mathlib.Core.List.{List, [], List·Memᴰ·head, List·Memᴰ·tail}
 use Prim.Native.Nat.{ℕ, suc, _+_, _-_, _<_, _≤_}
 use native.Mathlib.Numerals.{add-one}
 use native.Mathlib.Omega.{arith}
-use lib.Dec.{eqb, ltb}
+use lib.Dec.{eqb}
 use lib.ListN.{length, getD, length-map}
 use borrow.Author.Tests.{eq-eqb, ne-eqb}
-use Rattle.rules.specs.Lists.{filter, elem, snoc, fold, when, upTo, listIf}
+use Rattle.rules.specs.Lists.{elem, fold, when, upTo}
 use Rattle.rules.specs.Clause.{Clause}
 use Rattle.rules.specs.AtMostOne.{helpersFor, joinClauses}
 use Rattle.rules.specs.Catalogue.{noPart, Catalogue, nameOf}
 use Rattle.rules.specs.Variables.{Origin, forbid, known, withVariables, partOrigin}
 use Rattle.rules.specs.Opening.{Opening, trackedOf}
 use Rattle.rules.specs.Encoding.{Event, joins, helpersOf, origins, clauses}
-use Rattle.rules.specs.State.{State, setVariables, Run, emit}
-use Rattle.rules.proofs.Bools.{by-cases, and-false}
-use Rattle.rules.proofs.Each.{Each, each-imp, each-in}
-use Rattle.rules.proofs.Member.{upTo-out}
+use Rattle.rules.specs.State.{State, Run, emit}
+use Rattle.rules.proofs.Bools.{and-false}
+use Rattle.rules.proofs.Each.{each-imp, each-in}
 use Rattle.rules.proofs.Membership.{map-in}
 use Rattle.rules.proofs.ListLaws.{length-filters}
 use Rattle.rules.proofs.AtMostOne.{at-most-ten}
-use Rattle.rules.proofs.Grows.{Prefix, emit-grows, withVariables-prefix, prefix-length}
+use Rattle.rules.proofs.Grows.{emit-grows, withVariables-prefix, prefix-length}
 use Rattle.rules.proofs.Places.{keeps-variable, withVariables-known}
 use Rattle.rules.proofs.Line.{emit-opening}
 use Rattle.rules.proofs.Capped.{addVariable, addVariables-is}
-use Rattle.rules.proofs.ClauseByClause.{addClause, emit-one-by-one}
+use Rattle.rules.proofs.ClauseByClause.{emit-one-by-one}
 use Rattle.tables.specs.declared.Counts.{Counts}
 use Rattle.tables.specs.Tables.{tables}
 use Rattle.cache.specs.Areas.{catalogue}
@@ -39,13 +38,13 @@ use Rattle.marked.specs.Marked.{listed, isMarked, Marked}
 use Rattle.marked.proofs.Laws.{length-listed, free-room, listed-after}
 use Rattle.encoder.specs.declared.Counters.{Counters}
 use Rattle.encoder.specs.declared.Run as code
-use Rattle.encoder.specs.Held.{runOf, Reading, openingOf, stateOf, Good}
+use Rattle.encoder.specs.Held.{runOf, Reading, openingOf, stateOf}
 use Rattle.encoder.specs.Did.{Widens, onOpening, StateDid}
 use Rattle.encoder.proofs.Did.{widens-then}
 use Rattle.encoder.proofs.Widening.{widens-opening, widens-when}
 use Rattle.goals.specs.Goals.{AllKnown}
-use Rattle.binary_encoding.specs.Joining.{Makes, AddsAll, NamesAll, GoodOf, GoodSome, GoodAlone, firstHelpers, joinOrigins, helperVariables, HelpersKnown, partName, ofName, NamesLow, newHelperClauses, oneClauses, trackedClauses, joinedClauses, tracking, Tracks, MakesOf, trackWith, joinStep, joinIf, CanJoin, CanAddPart}
-use Rattle.binary_encoding.proofs.Steps.{blind, of-some, of-alone, some-good, some-tracked, some-all, makes-as, makes-same, makes-stop, makes-then, makes-idle, clauses-widen, variables-widen, clauses-same}
+use Rattle.binary_encoding.specs.Joining.{Makes, AddsAll, NamesAll, GoodOf, GoodSome, GoodAlone, firstHelpers, joinOrigins, helperVariables, partName, ofName, NamesLow, newHelperClauses, oneClauses, trackedClauses, joinedClauses, tracking, Tracks, MakesOf, trackWith, joinStep, joinIf, CanJoin, CanAddPart}
+use Rattle.binary_encoding.proofs.Steps.{blind, of-some, some-good, some-tracked, some-all, makes-as, makes-stop, makes-then, makes-idle, clauses-widen, clauses-same}
 use Rattle.binary_encoding.proofs.Track.{name-held, of-name-held, track-free, tracking-lengthens}
 
 -- ---- after origins have got variables
@@ -79,8 +78,8 @@ origins-are c p ps = refl
 
 step-is : (r : Run) (p : ℕ) (c : Catalogue) (u : State)
     → trackWith r (joinedClauses (r .before) (withVariables (joinOrigins (nameOf c p) p (helpersFor (suc (length (trackedOf c (nameOf c p) (u .opening .tracked)))))) (u .variables)) (nameOf c p) p
-        (trackedOf c (nameOf c p) (u .opening .tracked))) p c
-        (fold addVariable (joinOrigins (nameOf c p) p (helpersFor (suc (length (trackedOf c (nameOf c p) (u .opening .tracked)))))) u)
+    (trackedOf c (nameOf c p) (u .opening .tracked))) p c
+    (fold addVariable (joinOrigins (nameOf c p) p (helpersFor (suc (length (trackedOf c (nameOf c p) (u .opening .tracked)))))) u)
     ≡ joinStep r p c u
 unfolding trackWith joinStep
 step-is r p c u =
@@ -141,7 +140,7 @@ helpers-few i h e f = rw e (at-most-ten (i + 1) (omega arith))
 
 -- ---- when it and its helpers have variables
 
-state-makes : {c : Catalogue} {l : Limits} (F : State → State) {n n′ : Counters} {st st′ : ℕ → List ℕ} {cl : List ℕ} → StateDid c l (λ v. F) n st n′ st′ → Makes c l F n st cl n′ st′ cl
+pub state-makes : {c : Catalogue} {l : Limits} (F : State → State) {n n′ : Counters} {st st′ : ℕ → List ℕ} {cl : List ℕ} → StateDid c l (λ v. F) n st n′ st′ → Makes c l F n st cl n′ st′ cl
 state-makes F {cl = cl} d = record { is = record { is = λ wt. d .is cl wt } }
 
 known-first : (vs : List Origin) (os : List Origin) (ps : List ℕ) → AllKnown vs ps → AllKnown (withVariables os vs) ps
@@ -207,8 +206,9 @@ module _ (k : Counts) (t : List ℕ) (l : Limits) (n a : Counters) (st st₁ : �
 
     stopped : a .full ≡ true → Makes (catalogue k m u t) l (joinStep (runOf r) p (catalogue k m u t)) n st cl a st₁ cl
     stopped f =
-        makes-as (makes-stop (state-makes (fold addVariable (joinOrigins name p h)) (d .is (catalogue k m u t))) {G = trackWith (runOf r) those p (catalogue k m u t)} f (trackWith-widens (runOf r) those p (catalogue k m u t)))
-        (joinStep-widens (runOf r) p (catalogue k m u t)) (λ g x v wt. lists v wt)
+        let c = catalogue k m u t in
+        makes-as (makes-stop (state-makes (fold addVariable (joinOrigins name p h)) (d .is c)) {G = trackWith (runOf r) those p c} f (trackWith-widens (runOf r) those p c))
+        (joinStep-widens (runOf r) p c) (λ g x v wt. lists v wt)
 
     done : {b : Counters} {st₂ : ℕ → List ℕ} {cl₂ : List ℕ} → Makes (catalogue k m u t) l (trackWith (runOf r) those p (catalogue k m u t)) a st₁ cl b st₂ cl₂
         → Makes (catalogue k m u t) l (joinStep (runOf r) p (catalogue k m u t)) n st cl b st₂ cl₂

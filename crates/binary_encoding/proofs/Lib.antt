@@ -6,3 +6,5 @@ pub mod Track
 pub mod Joins
 pub mod Names
 pub mod All
+pub mod Links
+pub mod Joined

@@ -1,19 +1,19 @@
 -- The named parts join, name by name: the loops, and what they keep.
 use mathlib.Core.Path.{_≡_, refl, sym, _∙_, ap}
-use mathlib.Core.Bool.{Bool, true, false, not, _&&_}
-use mathlib.Core.List.{List, [], _∷_, _++_, map, List·Memᴰ·head}
-use Prim.Native.Nat.{ℕ, suc, _+_, _-_, _<_, _≤_}
+use mathlib.Core.Bool.{true, false}
+use mathlib.Core.List.{List, [], _∷_, List·Memᴰ·head}
+use Prim.Native.Nat.{ℕ, _+_, _-_, _<_, _≤_}
 use native.Mathlib.Numerals.{add-one}
 use native.Mathlib.Omega.{arith}
 use lib.ListN.{length, getD, drop, drop-of-length-le}
 use lib.Seq.{drop-cons}
-use Rattle.rules.specs.Lists.{snoc, fold, when}
+use Rattle.rules.specs.Lists.{fold}
 use Rattle.rules.specs.Catalogue.{Catalogue, nameOf}
-use Rattle.rules.specs.Variables.{Origin, known, withVariables, partOrigin}
+use Rattle.rules.specs.Variables.{known, withVariables, partOrigin}
 use Rattle.rules.specs.Opening.{Opening, trackedOf}
 use Rattle.rules.specs.Encoding.{joins, origins}
-use Rattle.rules.specs.State.{State, Run, emit}
-use Rattle.rules.proofs.Each.{Each, each-imp, each-snoc, when-cases}
+use Rattle.rules.specs.State.{State, Run}
+use Rattle.rules.proofs.Each.{each-imp, each-snoc, when-cases}
 use Rattle.rules.proofs.Effects.{emit-leaves}
 use Rattle.rules.proofs.Grows.{withVariables-prefix, prefix-length}
 use Rattle.rules.proofs.Places.{keeps-variable, withVariables-known}
@@ -29,8 +29,8 @@ use Rattle.marked.specs.Marked.{listed, Marked}
 use Rattle.marked.proofs.Laws.{length-listed, at-low}
 use Rattle.encoder.specs.declared.Counters.{Counters}
 use Rattle.encoder.specs.declared.Run as code
-use Rattle.encoder.specs.Held.{runOf, openingOf, stateOf, Good, LongEnough}
-use Rattle.encoder.specs.Did.{Widens, onOpening}
+use Rattle.encoder.specs.Held.{runOf, openingOf, stateOf, LongEnough}
+use Rattle.encoder.specs.Did.{Widens, onOpening, Beside}
 use Rattle.encoder.proofs.Did.{widens-fold}
 use Rattle.goals.specs.Goals.{AllKnown}
 use Rattle.binary_encoding.specs.Joining.{Makes, GoodOf, tracking, MakesOf, joinStep, joinIf, joinName, joinNames, CanJoin}
@@ -83,6 +83,14 @@ pub record Ready (k : Counts) (t : List ℕ) (l : Limits) (r : code.Run) (n₀ :
 pub of-named : {k : Counts} {t : List ℕ} {l : Limits} {n : Counters} {st : ℕ → List ℕ} {cl : List ℕ} → GoodOf k t l n st cl → Marked 8 9 (n .named) st
 of-named (GoodOf.good m u g) = g .state .named
 
+pub of-after : {k : Counts} {t : List ℕ} {l : Limits} (F : Catalogue → State → State) {n n′ : Counters} {st st′ : ℕ → List ℕ} {cl cl′ : List ℕ} → GoodOf k t l n st cl
+    → MakesOf k t l F n st cl n′ st′ cl′ → GoodOf k t l n′ st′ cl′
+of-after F (GoodOf.good m u g) d = GoodOf.good m u (makes-good (d .is m u) g)
+
+pub of-beside : {k : Counts} {t : List ℕ} {l : Limits} (F : Catalogue → State → State) {n n′ : Counters} {st st′ : ℕ → List ℕ} {cl cl′ : List ℕ} → GoodOf k t l n st cl
+    → MakesOf k t l F n st cl n′ st′ cl′ → Beside (n .first) st st′
+of-beside F (GoodOf.good m u g) d = d .is m u .is .is [] .beside g
+
 record Shown (before : ℕ) (qs : List ℕ) (n : Counters) (st : ℕ → List ℕ) : Type 0 where
   older : before ≤ n .variables
   known : AllKnown (variables (n .variables) st) (listed (n .tracked) 10 st)
@@ -90,15 +98,13 @@ record Shown (before : ℕ) (qs : List ℕ) (n : Counters) (st : ℕ → List �
 
 module _ {k : Counts} {t : List ℕ} {l : Limits} {r : code.Run} {n₀ : Counters} {b₀ cl₀ b cl : List ℕ} {n : Counters} (x : Ready k t l r n₀ b₀ cl₀ b cl n)
     (F : Catalogue → State → State) {n′ : Counters} (b′ : List ℕ) {cl′ : List ℕ} (d : MakesOf k t l F n (held l b) cl n′ (held l b′) cl′) where
-  good-after : GoodOf k t l n (held l b) cl → GoodOf k t l n′ (held l b′) cl′
-  good-after (GoodOf.good m u g) = GoodOf.good m u (makes-good (d .is m u) g)
-
   module _ (w : (c : Catalogue) (s : State) → Fine (r .before) (listed (n .named) 8 (held l b)) s → Fine (r .before) (listed (n .named) 8 (held l b)) (F c s)) (f : n′ .full ≡ false) where
     fine-after : GoodOf k t l n (held l b) cl → Shown (r .before) (listed (n .named) 8 (held l b)) n′ (held l b′)
     unfolding stateOf openingOf
     fine-after (GoodOf.good m u g) =
         let c = catalogue k m u t in
-        let before : Fine (r .before) (listed (n .named) 8 (held l b)) (stateNow c l n (held l b) cl) = record { older = omega (arith, x .can .older, variables.count (n .variables) (held l b)); known = x .can .known; named = refl } in
+        let before : Fine (r .before) (listed (n .named) 8 (held l b)) (stateNow c l n (held l b) cl)
+        = record { older = omega (arith, x .can .older, variables.count (n .variables) (held l b)); known = x .can .known; named = refl } in
         let after = rw (← makes-state (d .is m u) g f) at (w c (stateNow c l n (held l b) cl) before) in
         record { older = omega (arith, after .older, variables.count (n′ .variables) (held l b′)); known = after .known; list = after .named }
 
@@ -107,13 +113,13 @@ module _ {k : Counts} {t : List ℕ} {l : Limits} {r : code.Run} {n₀ : Counter
         let y = fine-after (x .good) in
         record {
           areas = areas-then (x .areas) s s′;
-          good = good-after (x .good);
+          good = of-after F (x .good) d;
           can = record { going = f; number = x .can .number; older = y .older; known = y .known };
           list = y .list ∙ x .list;
         }
 
     pub ready-count : n′ .named ≡ n .named
-    ready-count = sym (length-listed (of-named (good-after (x .good)))) ∙ (ap length (fine-after (x .good) .list) ∙ length-listed (of-named (x .good)))
+    ready-count = sym (length-listed (of-named (of-after F (x .good) d))) ∙ (ap length (fine-after (x .good) .list) ∙ length-listed (of-named (x .good)))
 
 -- ---- the named parts of one name
 
@@ -152,7 +158,8 @@ module _ {k : Counts} {t : List ℕ} {l : Limits} {r : code.Run} {name : ℕ} {n
     stepped : (m u : List ℕ) → Folded (catalogue k m u t) l (λ q. joinIf (runOf r) name q (catalogue k m u t)) (listed (n₀ .named) 8 (held l b₀)) (drop (i + 1) (listed (n .named) 8 (held l b)))
         n₀ (held l b₀) cl₀ n′ (held l b′) cl′
     stepped m u =
-        let left : drop i (listed (n .named) 8 (held l b)) ≡ p ∷ drop (i + 1) (listed (n .named) 8 (held l b)) = drop-cons (listed (n .named) 8 (held l b)) i 0 (omega (arith, length-listed (of-named (x .ready .good)))) ∙ rw (add-one i, ← e) in
+        let ps = listed (n .named) 8 (held l b) in
+        let left : drop i ps ≡ p ∷ drop (i + 1) ps = drop-cons ps i 0 (omega (arith, length-listed (of-named (x .ready .good)))) ∙ rw (add-one i, ← e) in
         folded-step (rw left at (x .did m u)) (d .is m u)
 
     pub parting-stop : n′ .full ≡ true → MakesOf k t l (joinName (runOf r) name) n₀ (held l b₀) cl₀ n′ (held l b′) cl′
@@ -199,7 +206,8 @@ module _ {k : Counts} {t : List ℕ} {l : Limits} {r : code.Run} {names : ℕ} {
     stepped-name : (m u : List ℕ) → Folded (catalogue k m u t) l (λ y. joinName (runOf r) y (catalogue k m u t)) (listed names 14 (held l b₀)) (drop (i + 1) (listed names 14 (held l b)))
         n₀ (held l b₀) cl₀ n′ (held l b′) cl′
     stepped-name m u =
-        let left : drop i (listed names 14 (held l b)) ≡ name ∷ drop (i + 1) (listed names 14 (held l b)) = drop-cons (listed names 14 (held l b)) i 0 (omega (arith, length-listed (x .marked))) ∙ rw (add-one i, ← e) in
+        let ns = listed names 14 (held l b) in
+        let left : drop i ns ≡ name ∷ drop (i + 1) ns = drop-cons ns i 0 (omega (arith, length-listed (x .marked))) ∙ rw (add-one i, ← e) in
         folded-step (rw left at (x .did m u)) (d .is m u)
 
     pub naming-stop : n′ .full ≡ true → MakesOf k t l (joinNames (runOf r) (listed names 14 (held l b₀))) n₀ (held l b₀) cl₀ n′ (held l b′) cl′
@@ -207,9 +215,9 @@ module _ {k : Counts} {t : List ℕ} {l : Limits} {r : code.Run} {names : ℕ} {
 
     pub naming-step : n′ .full ≡ false → length b′ ≡ length b → length cl′ ≡ length cl → Naming k t l r names n₀ b₀ cl₀ b′ cl′ n′ (i + 1)
     naming-step f s s′ =
-        let hand = d .is [] [] .is .is [] .hand in
+        let beside = of-beside (joinName (runOf r) name) (x .ready .good) d in
         record {
           ready = ready-after (x .ready) (joinName (runOf r) name) b′ d (joinName-fine (runOf r) name) f s s′;
-          marked = hand .marked names (x .marked);
-          did = λ m u. rw (hand .list names (x .marked)) (stepped-name m u);
+          marked = beside .marked names (x .marked);
+          did = λ m u. rw (beside .list names (x .marked)) (stepped-name m u);
         }

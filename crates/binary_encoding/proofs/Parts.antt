@@ -1,11 +1,10 @@
 -- The tracked parts of a name, one after another, with a clause for each.
-use mathlib.Core.Path.{_≡_, refl, sym, _∙_, ap}
+use mathlib.Core.Path.{_≡_, refl, sym, _∙_}
 use mathlib.Core.Bool.{Bool, true, false}
-use mathlib.Core.List.{List, [], _∷_, _++_, map}
-use Prim.Native.Nat.{ℕ, suc, _+_, _-_, _<_, _≤_, zero-le}
+use mathlib.Core.List.{List, [], _∷_, map}
+use Prim.Native.Nat.{ℕ, _+_, _-_, _<_, _≤_, zero-le}
 use native.Mathlib.Numerals.{add-one}
 use native.Mathlib.Omega.{arith}
-use lib.Dec.{eqb}
 use lib.ListN.{length, getD, drop, drop-of-length-le}
 use lib.Seq.{drop-cons}
 use borrow.Author.Tests.{eq-eqb, ne-eqb, lt-ltb}
@@ -13,7 +12,7 @@ use Rattle.rules.specs.Lists.{filter}
 use Rattle.rules.specs.Literal.{Literal}
 use Rattle.rules.specs.Clause.{Clause, forbid, anyOne}
 use Rattle.rules.specs.AtMostOne.{bit, agrees, helperClauses}
-use Rattle.rules.specs.Catalogue.{noPart, Catalogue}
+use Rattle.rules.specs.Catalogue.{noPart}
 use Rattle.rules.specs.Variables.{Origin, known, partOrigin, partVariable}
 use Rattle.rules.proofs.Each.{each-at}
 use Rattle.tables.specs.declared.Counts.{Counts}
@@ -206,9 +205,6 @@ module _ {k : Counts} {t : List ℕ} {l : Limits} {r : Run} {name y j : ℕ} {n�
     pub helping-stop : n′ .full ≡ true → AddsAll l r (helperClauses y j 0 (variablesOf k t n₀ (held l b₀) name)) n₀ (held l b₀) cl₀ n′ (held l b′) cl′
     helping-stop f = walking-stop (x .walk) (helperClauses y j (i + 1)) b′ h a (next-helper y j i (variableAt n (held l b) at)) f
 
-    pub helping-next : Marked 10 11 (n′ .tracked) (held l b′)
-    helping-next = some-tracked (some-after (x .walk .good) a)
-
     pub helping-step : {at′ : ℕ} → n′ .full ≡ false → length b′ ≡ length b → length cl′ ≡ length cl → NextOf k t name (listed (n′ .tracked) 10 (held l b′)) (at + 1) at′
         → Helping k t l r name y j n₀ b₀ cl₀ b′ cl′ n′ (i + 1) at′
     helping-step f s s′ u =
@@ -240,9 +236,6 @@ module _ {k : Counts} {t : List ℕ} {l : Limits} {r : Run} {name y : ℕ} {n₀
   module _ {n′ : Counters} (b′ : List ℕ) {cl′ : List ℕ} (h : at < n .tracked) (a : Adds l r (anyOne y (variableAt n (held l b) at)) n (held l b) cl n′ (held l b′) cl′) where
     pub linking-stop : n′ .full ≡ true → AddsAll l r (anyClauses y (variablesOf k t n₀ (held l b₀) name)) n₀ (held l b₀) cl₀ n′ (held l b′) cl′
     linking-stop f = walking-stop (x .walk) (anyClauses y) b′ h a (next-any y (variableAt n (held l b) at)) f
-
-    pub linking-next : Marked 10 11 (n′ .tracked) (held l b′)
-    linking-next = some-tracked (some-after (x .walk .good) a)
 
     pub linking-step : {at′ : ℕ} → n′ .full ≡ false → length b′ ≡ length b → length cl′ ≡ length cl → NextOf k t name (listed (n′ .tracked) 10 (held l b′)) (at + 1) at′
         → Linking k t l r name y n₀ b₀ cl₀ b′ cl′ n′ at′

@@ -1,8 +1,8 @@
 -- Steps one after another, and what they leave as it was.
 use mathlib.Core.Path.{_≡_, refl, sym, _∙_, ap}
-use mathlib.Core.Bool.{Bool, true, false, true≢false}
+use mathlib.Core.Bool.{true, false, true≢false}
 use mathlib.Core.List.{List, [], _∷_, _++_, append-nil, append-assoc}
-use Prim.Native.Nat.{ℕ, _≤_}
+use Prim.Native.Nat.{ℕ}
 use lib.ListN.{length}
 use Rattle.rules.specs.Lists.{snoc, fold}
 use Rattle.rules.specs.Clause.{Clause}
@@ -26,8 +26,8 @@ use Rattle.marked.proofs.Laws.{length-listed}
 use Rattle.encoder.specs.declared.Counters.{Counters}
 use Rattle.encoder.specs.declared.Run as code
 use Rattle.encoder.specs.Held.{runOf, Reading, openingOf, stateOf, Good, LongEnough}
-use Rattle.encoder.specs.Did.{Widens, Did, PlainDid}
-use Rattle.encoder.proofs.Did.{widens-same, widens-fold, did-nothing, did-idle, did-as, did-then, did-stop}
+use Rattle.encoder.specs.Did.{Widens, PlainDid}
+use Rattle.encoder.proofs.Did.{widens-same, widens-fold, did-nothing, did-as, did-then, did-stop}
 use Rattle.encoder.proofs.Widening.{addVariable-widens, addClause-widens}
 use Rattle.clauses.specs.Adding.{CanAdd, Adds}
 use Rattle.clauses.proofs.Adding.{good-can-add}
@@ -75,10 +75,6 @@ pub alone-mapped : {l : Limits} {n : Counters} {st : ℕ → List ℕ} → GoodA
 alone-mapped (GoodAlone.alone c cl g) = g .state .mapped
 
 -- ---- variables
-
-module _ {l : Limits} {os : List Origin} {n n′ : Counters} {st st′ : ℕ → List ℕ} where
-  pub alone-names : GoodAlone l n st → NamesAll l os n st n′ st′ → GoodAlone l n′ st′
-  alone-names (GoodAlone.alone c cl g) d = GoodAlone.alone c cl (d .is c .is cl [] .good g)
 
 pub alone-named : {l : Limits} (o : Origin) {n n′ : Counters} {st st′ : ℕ → List ℕ} → GoodAlone l n st → PlainDid l (λ c v. addVariable o) n st n′ st′ → GoodAlone l n′ st′
 alone-named o (GoodAlone.alone c cl g) d = GoodAlone.alone c cl (d .is c .is cl [] .good g)
@@ -253,22 +249,15 @@ pub record Same (n : Counters) (st : ℕ → List ℕ) (n′ : Counters) (st′ 
   pub tracked : listed (n′ .tracked) 10 st′ ≡ listed (n .tracked) 10 st
   pub named : listed (n′ .named) 8 st′ ≡ listed (n .named) 8 st
 
-module _ {n : Counters} {st : ℕ → List ℕ} where
-  pub same-start : Same n st n st
-  same-start = record { variables = refl; tracked = refl; named = refl }
+module _ {n n′ : Counters} {st st′ : ℕ → List ℕ} (a : Same n st n′ st′) where
+  pub same-then : {n″ : Counters} {st″ : ℕ → List ℕ} → Same n′ st′ n″ st″ → Same n st n″ st″
+  same-then b = record { variables = b .variables ∙ a .variables; tracked = b .tracked ∙ a .tracked; named = b .named ∙ a .named }
 
-  pub same-then : {n′ n″ : Counters} {st′ st″ : ℕ → List ℕ} → Same n st n′ st′ → Same n′ st′ n″ st″ → Same n st n″ st″
-  same-then a b = record { variables = b .variables ∙ a .variables; tracked = b .tracked ∙ a .tracked; named = b .named ∙ a .named }
+  pub same-count : n′ .variables ≡ n .variables
+  same-count = sym (variables.count (n′ .variables) st′) ∙ (ap length (a .variables) ∙ variables.count (n .variables) st)
 
-  module _ {n′ : Counters} {st′ : ℕ → List ℕ} (a : Same n st n′ st′) where
-    pub same-count : n′ .variables ≡ n .variables
-    same-count = sym (variables.count (n′ .variables) st′) ∙ (ap length (a .variables) ∙ variables.count (n .variables) st)
-
-    pub same-tracked : Marked 10 11 (n .tracked) st → Marked 10 11 (n′ .tracked) st′ → n′ .tracked ≡ n .tracked
-    same-tracked k k′ = sym (length-listed k′) ∙ (ap length (a .tracked) ∙ length-listed k)
-
-    pub same-named : Marked 8 9 (n .named) st → Marked 8 9 (n′ .named) st′ → n′ .named ≡ n .named
-    same-named k k′ = sym (length-listed k′) ∙ (ap length (a .named) ∙ length-listed k)
+  pub same-tracked : Marked 10 11 (n .tracked) st → Marked 10 11 (n′ .tracked) st′ → n′ .tracked ≡ n .tracked
+  same-tracked k k′ = sym (length-listed k′) ∙ (ap length (a .tracked) ∙ length-listed k)
 
 -- an added clause leaves them
 module _ (r : Run) where
@@ -317,8 +306,8 @@ module _ {l : Limits} {n n′ : Counters} {st st′ : ℕ → List ℕ} {cl cl�
   pub some-all : {r : code.Run} {ks : List Clause} → GoodSome l n st cl → AddsAll l r ks n st cl n′ st′ cl′ → GoodSome l n′ st′ cl′
   some-all (GoodSome.some c g) a = GoodSome.some c (makes-good (a .is c) g)
 
-
-pub known-same : {n n′ : Counters} {st st′ : ℕ → List ℕ} → Same n st n′ st′ → AllKnown (variables (n .variables) st) (listed (n .tracked) 10 st) → AllKnown (variables (n′ .variables) st′) (listed (n′ .tracked) 10 st′)
+pub known-same : {n n′ : Counters} {st st′ : ℕ → List ℕ} → Same n st n′ st′ → AllKnown (variables (n .variables) st) (listed (n .tracked) 10 st)
+    → AllKnown (variables (n′ .variables) st′) (listed (n′ .tracked) 10 st′)
 known-same s k = rw (s .variables, s .tracked) k
 
 -- ---- areas that a call has changed

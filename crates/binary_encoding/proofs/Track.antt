@@ -1,9 +1,9 @@
 -- A part is tracked; the parts named for tracking are forgotten; their names become the list at hand.
 use mathlib.Core.Path.{_≡_, refl, sym, _∙_, ap}
 use mathlib.Core.Logic.{⊎-elim}
-use mathlib.Core.Bool.{Bool, true, false}
+use mathlib.Core.Bool.{true, false}
 use mathlib.Core.List.{List, [], _∷_, _++_, map}
-use Prim.Native.Nat.{ℕ, suc, _+_, _-_, _<_, _≤_, zero-le}
+use Prim.Native.Nat.{ℕ, _+_, _-_, _<_, _≤_}
 use native.Mathlib.Numerals.{add-one}
 use native.Mathlib.Omega.{arith}
 use lib.Dec.{eqb}
@@ -25,7 +25,7 @@ use Rattle.regions.specs.Regions.{stored}
 use Rattle.state.specs.declared.Limits.{Limits}
 use Rattle.state.specs.Layout.{held, Fits}
 use Rattle.state.specs.Changed.{Changed}
-use Rattle.state.proofs.Changed.{stored-here, stored-other, changed-none, changed-stored, changed-then, changed-within}
+use Rattle.state.proofs.Changed.{stored-here, changed-none, changed-stored, changed-then, changed-within}
 use Rattle.state.proofs.Sizes.{length-fixed}
 use Rattle.variable_map.proofs.Laws.{variables-kept}
 use Rattle.decision_tracker.proofs.Laws.{decisions-kept}
@@ -36,7 +36,7 @@ use Rattle.encoder.specs.Held.{Reading, openingOf, stateOf, Good}
 use Rattle.encoder.specs.Did.{onOpening, Did}
 use Rattle.encoder.proofs.Counted as counted
 use Rattle.encoder.proofs.Frames.{good-kept, list-kept, line-kept}
-use Rattle.encoder.proofs.Did.{did-made, hand-kept}
+use Rattle.encoder.proofs.Did.{did-made, beside-kept}
 use Rattle.encoder.proofs.Widening.{Lengthens, widens-opening}
 use Rattle.goals.specs.Goals.{noted, Notes, Gathers}
 use Rattle.binary_encoding.specs.Joining.{partName, ofName, namesOf, NamesLow, tracking, Tracks, forgetNamed, Forgets}
@@ -111,10 +111,13 @@ module _ (k : Counts) (t : List ℕ) (l : Limits) (n : Counters) (b : List ℕ) 
         here : eqb j name ≡ true → getD (set (held l b 12) name (i + 1)) j 0 ≡ length (trackedOf (catalogue k m u t) j (listed (n .tracked) 10 (held l b) ++ (p ∷ [])))
         here z =
             let is : j ≡ nameOf (catalogue k m u t) p = eqb-true j name z ∙ (sym q ∙ sym (name-held k m u t p)) in
-            let now : i ≡ length (trackedOf (catalogue k m u t) j (listed (n .tracked) 10 (held l b))) = rw (eqb-true j name z) (e ∙ ap length (of-name-held k m u t name (listed (n .tracked) 10 (held l b)))) in
+            let c = catalogue k m u t in
+            let ps = listed (n .tracked) 10 (held l b) in
+            let now : i ≡ length (trackedOf c j ps) = rw (eqb-true j name z) (e ∙ ap length (of-name-held k m u t name ps)) in
             let room : j < length (held l b 12) = rw (length-fixed l b 12 (omega arith) f) h in
-            let more : trackedOf (catalogue k m u t) j (listed (n .tracked) 10 (held l b) ++ (p ∷ [])) ≡ trackedOf (catalogue k m u t) j (listed (n .tracked) 10 (held l b)) ++ (p ∷ []) = rw is (own-name (catalogue k m u t) (listed (n .tracked) 10 (held l b)) p) in
-            rw (← eqb-true j name z, more) (getD-set-same (held l b 12) j (i + 1) 0 room ∙ (ap (λ (y : ℕ). y + 1) now ∙ (add-one _ ∙ sym (unfold snoc in length-snoc (trackedOf (catalogue k m u t) j (listed (n .tracked) 10 (held l b))) p))))
+            let more : trackedOf c j (ps ++ (p ∷ [])) ≡ trackedOf c j ps ++ (p ∷ []) = rw is (own-name c ps p) in
+            rw (← eqb-true j name z, more)
+            (getD-set-same (held l b 12) j (i + 1) 0 room ∙ (ap (λ (y : ℕ). y + 1) now ∙ (add-one _ ∙ sym (unfold snoc in length-snoc (trackedOf c j ps) p))))
 
         there : eqb j name ≡ false → getD (set (held l b 12) name (i + 1)) j 0 ≡ length (trackedOf (catalogue k m u t) j (listed (n .tracked) 10 (held l b) ++ (p ∷ [])))
         there z =
@@ -135,7 +138,7 @@ module _ (k : Counts) (t : List ℕ) (l : Limits) (n : Counters) (b : List ℕ) 
 
       tracked-did : Did (catalogue k m u t) l (λ v. onOpening (tracking p)) n (held l b) cl wt (withTracked count n) st″ cl wt
       tracked-did =
-          did-made (λ v. widens-opening (tracking p) (tracking-lengthens p)) refl (unfold any in hand-kept ch refl refl) refl refl (λ j. refl) tracked-good (λ g. tracked-state)
+          did-made (λ v. widens-opening (tracking p) (tracking-lengthens p)) refl (λ g. unfold any in beside-kept ch refl refl refl) refl refl (λ j. refl) tracked-good (λ g. tracked-state)
 
   pub tracked-pushed : Tracks k t l p n (held l b) (withTracked count n) st″
   tracked-pushed = record { is = λ m u. record { is = λ cl wt. tracked-did m u cl wt } }
@@ -161,7 +164,7 @@ module _ (l : Limits) (n : Counters) {st st′ : ℕ → List ℕ} (x : Emptied 
 
     forgotten-did : Did c l (λ v. onOpening forgetNamed) n st cl wt (counted.withNamed 0 n) st′ cl wt
     forgotten-did =
-        did-made (λ v. widens-opening forgetNamed forget-lengthens) refl (unfold any in hand-kept (x .others) refl refl) refl refl (λ j. refl) forgotten-good (λ g. forgotten-state)
+        did-made (λ v. widens-opening forgetNamed forget-lengthens) refl (λ g. unfold any in beside-kept (x .others) refl refl refl) refl refl (λ j. refl) forgotten-good (λ g. forgotten-state)
 
   pub forgotten : Forgets l n st (counted.withNamed 0 n) st′
   forgotten = record { is = λ c. record { is = λ cl wt. forgotten-did c cl wt } }

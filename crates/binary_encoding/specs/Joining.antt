@@ -1,17 +1,17 @@
 -- Parts that join their names and one-of-name variables that are linked, one after another.
 use mathlib.Core.Path.{_≡_}
-use mathlib.Core.Bool.{Bool, true, false, not, _&&_}
+use mathlib.Core.Bool.{true, false, not, _&&_}
 use mathlib.Core.List.{List, [], _∷_, _++_, map}
 use Prim.Native.Nat.{ℕ, suc, _+_, _<_, _≤_}
 use lib.Dec.{eqb, ltb}
 use lib.ListN.{length, getD, take, drop}
-use Rattle.rules.specs.Lists.{filter, elem, snoc, fold, when, listIf, upTo, distinct}
+use Rattle.rules.specs.Lists.{filter, elem, snoc, concatMap, fold, when, listIf, upTo, distinct}
 use Rattle.rules.specs.Clause.{Clause, anyOne}
 use Rattle.rules.specs.AtMostOne.{helpersFor, helpersClauses, partClauses}
-use Rattle.rules.specs.Catalogue.{noPart, Catalogue, nameOf}
-use Rattle.rules.specs.Variables.{Origin, one, forbid, known, variableOf, partOrigin, partVariable}
+use Rattle.rules.specs.Catalogue.{root, noPart, Catalogue, nameOf}
+use Rattle.rules.specs.Variables.{Origin, chosen, one, forbid, known, variableOf, partOrigin, partVariable}
 use Rattle.rules.specs.Opening.{Opening, setNamed, setTracked, trackedOf}
-use Rattle.rules.specs.Encoding.{joins, links}
+use Rattle.rules.specs.Encoding.{joins}
 use Rattle.rules.specs.State.{State, Run, emit}
 use Rattle.rules.specs.Run.{nameIfOne}
 use Rattle.rules.proofs.Each.{Each}
@@ -139,6 +139,10 @@ oneClauses before vs n x = listIf (ltb (variableOf vs (one n)) before) (anyOne (
 unfoldable pub anyClauses : ℕ → List ℕ → List Clause
 anyClauses y xs = map (anyOne y) xs
 
+-- variable y, if it is one-of-name, for each of the parts ps of that name
+unfoldable pub linkClauses : Counts → (t : List ℕ) → List Origin → ℕ → List ℕ → List Clause
+linkClauses k t vs y ps = concatMap (λ name. anyClauses y (map (partVariable vs) (ofName k t name ps))) (nameIfOne (getD vs y (chosen root)))
+
 -- all clauses of a part of variable x behind xs
 unfoldable pub trackedClauses : ℕ → List Origin → (name x i : ℕ) (ys xs : List ℕ) → List Clause
 trackedClauses before vs n x i ys xs = (newHelperClauses i ys xs ++ partClauses x i 0 ys) ++ oneClauses before vs n x
@@ -184,13 +188,6 @@ forgetNamed o = setNamed [] o
 -- no part is named any more
 pub record Forgets (l : Limits) (n : Counters) (st : ℕ → List ℕ) (n′ : Counters) (st′ : ℕ → List ℕ) : Type 0 where
   pub is : (c : Catalogue) → StateDid c l (λ v. onOpening forgetNamed) n st n′ st′
-
-unfoldable pub linkStep : Run → ℕ → Catalogue → State → State
-linkStep r n c s = emit c r (links n (trackedOf c n (s .opening .tracked))) s
-
--- an origin that is one-of-name is linked
-unfoldable pub linkIf : Run → Origin → Catalogue → State → State
-linkIf r o c s = fold (λ n. linkStep r n c) (nameIfOne o) s
 
 -- ---- what is asked
 

@@ -7,16 +7,13 @@ use state::Limits;
 use tables::Counts;
 ghost use mathlib.Core.Path.{_≡_};
 ghost use mathlib.Core.Bool.{false};
-ghost use mathlib.Core.List.{[], _∷_, _++_, map};
+ghost use mathlib.Core.List.{[], _∷_, _++_};
 ghost use Prim.Native.Nat.{_+_, _<_, _≤_};
 ghost use lib.ListN.{length, getD};
-ghost use Rattle.rules.specs.Lists.{elem, fold, distinct};
+ghost use Rattle.rules.specs.Lists.{elem};
 ghost use Rattle.rules.specs.AtMostOne.{agrees, helpersFor, helperClauses, partClauses};
 ghost use Rattle.rules.specs.AtMostOne as rules;
 ghost use Rattle.rules.specs.Clause.{anyOne};
-ghost use Rattle.rules.specs.Catalogue.{root, nameOf};
-ghost use Rattle.rules.specs.Opening.{trackedOf};
-ghost use Rattle.rules.specs.Variables.{chosen};
 ghost use Rattle.rules.specs.Run.{joinAll, linkAll};
 ghost use Rattle.rules.proofs.WellFormed.{WellFormed};
 ghost use Rattle.tables.specs.Tables.{Laid};
@@ -25,12 +22,11 @@ ghost use Rattle.catalogue.specs.Reading.{Kept};
 ghost use Rattle.state.specs.Layout.{held, Fits};
 ghost use Rattle.variable_map.specs.Mapping.{variables, Mapped};
 ghost use Rattle.marked.specs.Marked.{listed, Marked};
-ghost use Rattle.encoder.specs.Held.{runOf, LongEnough, GoodState, Good};
+ghost use Rattle.encoder.specs.Held.{runOf, LongEnough, Good};
 ghost use Rattle.encoder.specs.Did.{ClausesDid};
 ghost use Rattle.clauses.specs.Adding.{Adds};
 ghost use Rattle.goals.specs.Goals.{AllKnown, Gathers};
-
-ghost use Rattle.binary_encoding.specs.Joining.{AddsAll, NamesAll, GoodOf, GoodSome, GoodAlone, Holds, helpersIn, firstHelpers, joinOrigins, helperVariables, HelpersKnown, HelpersBelow, partName, ofName, namesOf, NamesLow, variablesOf, variableAt, IsAt, NextOf, newHelperClauses, oneClauses, anyClauses, trackedClauses, joinedClauses, Tracks, MakesOf, trackWith, joinStep, joinIf, joinName, joinNames, Forgets, linkIf, CanJoin, CanAddPart, CanLink};
+ghost use Rattle.binary_encoding.specs.Joining.{AddsAll, NamesAll, GoodOf, GoodSome, GoodAlone, Holds, helpersIn, firstHelpers, joinOrigins, helperVariables, HelpersKnown, HelpersBelow, partName, ofName, namesOf, NamesLow, variablesOf, variableAt, IsAt, NextOf, newHelperClauses, oneClauses, anyClauses, linkClauses, trackedClauses, joinedClauses, Tracks, MakesOf, trackWith, joinStep, joinIf, joinName, joinNames, Forgets, CanJoin, CanAddPart, CanLink};
 
 // A name's helper variables: the first `count` of ten.
 pub struct Tracker {
@@ -158,7 +154,16 @@ fn tracked_variable(s: &[u8], l: Limits, n: Counters, at: usize) -> u16
 // ---- the clauses of a part that joins
 
 // Part x agrees with helper y, which has the value b.
-fn agree(s: &mut [u8], clauses: &mut [u8], l: Limits, n: Counters, r: Run, x: u16, y: u16, b: bool) -> Counters
+fn agree(
+    s: &mut [u8],
+    clauses: &mut [u8],
+    l: Limits,
+    n: Counters,
+    r: Run,
+    x: u16,
+    y: u16,
+    b: bool,
+) -> Counters
     requires { ⌜ Fits l (length (now s)) ⌝ }
     requires { ⌜ GoodSome l n (held l (now s)) (now clauses) ⌝ }
     requires { ⌜ LongEnough l (length (now clauses)) 16384 ⌝ }
@@ -169,7 +174,17 @@ fn agree(s: &mut [u8], clauses: &mut [u8], l: Limits, n: Counters, r: Run, x: u1
 }
 
 // Helper y, for bit j, and the tracked part at a place, which is part i of its name.
-fn helper_clause(s: &mut [u8], clauses: &mut [u8], l: Limits, n: Counters, r: Run, y: u16, j: usize, i: u16, at: usize) -> Counters
+fn helper_clause(
+    s: &mut [u8],
+    clauses: &mut [u8],
+    l: Limits,
+    n: Counters,
+    r: Run,
+    y: u16,
+    j: usize,
+    i: u16,
+    at: usize,
+) -> Counters
     requires { ⌜ Fits l (length (now s)) ⌝ }
     requires { ⌜ GoodSome l n (held l (now s)) (now clauses) ⌝ }
     requires { ⌜ LongEnough l (length (now clauses)) 16384 ⌝ }
@@ -182,7 +197,18 @@ fn helper_clause(s: &mut [u8], clauses: &mut [u8], l: Limits, n: Counters, r: Ru
 }
 
 // Helper y, for bit j: a clause for each tracked part of the name.
-fn helper_clauses(t: &[u8], k: Counts, s: &mut [u8], clauses: &mut [u8], l: Limits, n: Counters, r: Run, name: u16, y: u16, j: usize) -> Counters
+fn helper_clauses(
+    t: &[u8],
+    k: Counts,
+    s: &mut [u8],
+    clauses: &mut [u8],
+    l: Limits,
+    n: Counters,
+    r: Run,
+    name: u16,
+    y: u16,
+    j: usize,
+) -> Counters
     requires { ⌜ Laid k (length (now t)) ⌝ }
     requires { ⌜ Fits l (length (now s)) ⌝ }
     requires { ⌜ GoodSome l n (held l (now s)) (now clauses) ⌝ }
@@ -206,7 +232,16 @@ fn helper_clauses(t: &[u8], k: Counts, s: &mut [u8], clauses: &mut [u8], l: Limi
 }
 
 // Part x, which is part i, agrees with each helper.
-fn part_clauses(s: &mut [u8], clauses: &mut [u8], l: Limits, n: Counters, r: Run, x: u16, i: u16, tracker: Tracker) -> Counters
+fn part_clauses(
+    s: &mut [u8],
+    clauses: &mut [u8],
+    l: Limits,
+    n: Counters,
+    r: Run,
+    x: u16,
+    i: u16,
+    tracker: Tracker,
+) -> Counters
     requires { ⌜ Fits l (length (now s)) ⌝ }
     requires { ⌜ GoodSome l n (held l (now s)) (now clauses) ⌝ }
     requires { ⌜ LongEnough l (length (now clauses)) 16384 ⌝ }
@@ -225,7 +260,15 @@ fn part_clauses(s: &mut [u8], clauses: &mut [u8], l: Limits, n: Counters, r: Run
 }
 
 // The any clause of part x, if the one-of-name variable is older than the run.
-fn one_clause(s: &mut [u8], clauses: &mut [u8], l: Limits, n: Counters, r: Run, name: u16, x: u16) -> Counters
+fn one_clause(
+    s: &mut [u8],
+    clauses: &mut [u8],
+    l: Limits,
+    n: Counters,
+    r: Run,
+    name: u16,
+    x: u16,
+) -> Counters
     requires { ⌜ Fits l (length (now s)) ⌝ }
     requires { ⌜ GoodSome l n (held l (now s)) (now clauses) ⌝ }
     requires { ⌜ LongEnough l (length (now clauses)) 16384 ⌝ }
@@ -244,7 +287,18 @@ fn one_clause(s: &mut [u8], clauses: &mut [u8], l: Limits, n: Counters, r: Run, 
 }
 
 // A helper that the i parts before this one did not need has a clause for each of them.
-fn new_helper(t: &[u8], k: Counts, s: &mut [u8], clauses: &mut [u8], l: Limits, n: Counters, r: Run, name: u16, i: u16, tracker: Tracker) -> Counters
+fn new_helper(
+    t: &[u8],
+    k: Counts,
+    s: &mut [u8],
+    clauses: &mut [u8],
+    l: Limits,
+    n: Counters,
+    r: Run,
+    name: u16,
+    i: u16,
+    tracker: Tracker,
+) -> Counters
     requires { ⌜ Laid k (length (now t)) ⌝ }
     requires { ⌜ Fits l (length (now s)) ⌝ }
     requires { ⌜ GoodSome l n (held l (now s)) (now clauses) ⌝ }
@@ -262,7 +316,19 @@ fn new_helper(t: &[u8], k: Counts, s: &mut [u8], clauses: &mut [u8], l: Limits, 
 }
 
 // A part of variable x is added behind the i parts that are tracked of its name: the tracker goes through by value.
-fn add_tracked(t: &[u8], k: Counts, s: &mut [u8], clauses: &mut [u8], l: Limits, n: Counters, r: Run, name: u16, x: u16, i: u16, tracker: Tracker) -> Counters
+fn add_tracked(
+    t: &[u8],
+    k: Counts,
+    s: &mut [u8],
+    clauses: &mut [u8],
+    l: Limits,
+    n: Counters,
+    r: Run,
+    name: u16,
+    x: u16,
+    i: u16,
+    tracker: Tracker,
+) -> Counters
     requires { ⌜ Laid k (length (now t)) ⌝ }
     requires { ⌜ Fits l (length (now s)) ⌝ }
     requires { ⌜ GoodSome l n (held l (now s)) (now clauses) ⌝ }
@@ -297,7 +363,19 @@ fn name_join(s: &mut [u8], l: Limits, n: Counters, name: u16, p: u16, h: usize) 
 }
 
 // The clauses of part p, which has a variable as the h helpers have.
-fn join_clauses(t: &[u8], k: Counts, s: &mut [u8], clauses: &mut [u8], l: Limits, n: Counters, r: Run, name: u16, p: u16, i: u16, h: usize) -> Counters
+fn join_clauses(
+    t: &[u8],
+    k: Counts,
+    s: &mut [u8],
+    clauses: &mut [u8],
+    l: Limits,
+    n: Counters,
+    r: Run,
+    name: u16,
+    p: u16,
+    i: u16,
+    h: usize,
+) -> Counters
     requires { ⌜ Laid k (length (now t)) ⌝ }
     requires { ⌜ Fits l (length (now s)) ⌝ }
     requires { ⌜ GoodSome l n (held l (now s)) (now clauses) ⌝ }
@@ -312,7 +390,16 @@ fn join_clauses(t: &[u8], k: Counts, s: &mut [u8], clauses: &mut [u8], l: Limits
 }
 
 // Part p of this name is tracked, behind i others of it.
-fn push_tracked(t: &[u8], k: Counts, s: &mut [u8], l: Limits, n: Counters, name: u16, p: u16, i: u16) -> Counters
+fn push_tracked(
+    t: &[u8],
+    k: Counts,
+    s: &mut [u8],
+    l: Limits,
+    n: Counters,
+    name: u16,
+    p: u16,
+    i: u16,
+) -> Counters
     requires { ⌜ Fits l (length (now s)) ⌝ }
     requires { ⌜ Marked 10 11 (n .tracked) (held l (now s)) ⌝ }
     requires { ⌜ (p < 1024) × (i < 1024) × (partName k (now t) p ≡ name) ⌝ }
@@ -328,7 +415,19 @@ fn push_tracked(t: &[u8], k: Counts, s: &mut [u8], l: Limits, n: Counters, name:
 }
 
 // Part p, which has a variable as the h helpers have, gets its clauses and is tracked.
-fn join_named(t: &[u8], k: Counts, s: &mut [u8], clauses: &mut [u8], l: Limits, n: Counters, r: Run, name: u16, p: u16, i: u16, h: usize) -> Counters
+fn join_named(
+    t: &[u8],
+    k: Counts,
+    s: &mut [u8],
+    clauses: &mut [u8],
+    l: Limits,
+    n: Counters,
+    r: Run,
+    name: u16,
+    p: u16,
+    i: u16,
+    h: usize,
+) -> Counters
     requires { ⌜ Laid k (length (now t)) ⌝ }
     requires { ⌜ Fits l (length (now s)) ⌝ }
     requires { ⌜ GoodSome l n (held l (now s)) (now clauses) ⌝ }
@@ -345,7 +444,17 @@ fn join_named(t: &[u8], k: Counts, s: &mut [u8], clauses: &mut [u8], l: Limits, 
     push_tracked(t, k, s, l, m, name, p, i)
 }
 
-fn join(t: &[u8], k: Counts, s: &mut [u8], clauses: &mut [u8], l: Limits, n: Counters, r: Run, name: u16, p: u16) -> Counters
+fn join(
+    t: &[u8],
+    k: Counts,
+    s: &mut [u8],
+    clauses: &mut [u8],
+    l: Limits,
+    n: Counters,
+    r: Run,
+    name: u16,
+    p: u16,
+) -> Counters
     requires { ⌜ Laid k (length (now t)) ⌝ }
     requires { ⌜ Fits l (length (now s)) ⌝ }
     requires { ⌜ GoodOf k (now t) l n (held l (now s)) (now clauses) ⌝ }
@@ -365,7 +474,17 @@ fn join(t: &[u8], k: Counts, s: &mut [u8], clauses: &mut [u8], l: Limits, n: Cou
 }
 
 // Part p joins if it is of this name and not tracked.
-fn join_if(t: &[u8], k: Counts, s: &mut [u8], clauses: &mut [u8], l: Limits, n: Counters, r: Run, name: u16, p: u16) -> Counters
+fn join_if(
+    t: &[u8],
+    k: Counts,
+    s: &mut [u8],
+    clauses: &mut [u8],
+    l: Limits,
+    n: Counters,
+    r: Run,
+    name: u16,
+    p: u16,
+) -> Counters
     requires { ⌜ Laid k (length (now t)) ⌝ }
     requires { ⌜ NamesLow k (now t) ⌝ }
     requires { ⌜ Fits l (length (now s)) ⌝ }
@@ -387,7 +506,16 @@ fn join_if(t: &[u8], k: Counts, s: &mut [u8], clauses: &mut [u8], l: Limits, n: 
 // ---- all that join
 
 // The named parts of one name.
-fn join_name(t: &[u8], k: Counts, s: &mut [u8], clauses: &mut [u8], l: Limits, n: Counters, r: Run, name: u16) -> Counters
+fn join_name(
+    t: &[u8],
+    k: Counts,
+    s: &mut [u8],
+    clauses: &mut [u8],
+    l: Limits,
+    n: Counters,
+    r: Run,
+    name: u16,
+) -> Counters
     requires { ⌜ Laid k (length (now t)) ⌝ }
     requires { ⌜ NamesLow k (now t) ⌝ }
     requires { ⌜ Fits l (length (now s)) ⌝ }
@@ -410,7 +538,16 @@ fn join_name(t: &[u8], k: Counts, s: &mut [u8], clauses: &mut [u8], l: Limits, n
 }
 
 // The names at hand.
-fn join_names(t: &[u8], k: Counts, s: &mut [u8], clauses: &mut [u8], l: Limits, n: Counters, r: Run, names: usize) -> Counters
+fn join_names(
+    t: &[u8],
+    k: Counts,
+    s: &mut [u8],
+    clauses: &mut [u8],
+    l: Limits,
+    n: Counters,
+    r: Run,
+    names: usize,
+) -> Counters
     requires { ⌜ Laid k (length (now t)) ⌝ }
     requires { ⌜ NamesLow k (now t) ⌝ }
     requires { ⌜ Fits l (length (now s)) ⌝ }
@@ -465,7 +602,17 @@ fn forget_named(s: &mut [u8], l: Limits, n: Counters) -> Counters
 }
 
 // The named parts join, name by name as first named.
-pub fn join_all(marks: &[u8], unions: &[u8], t: &[u8], k: Counts, s: &mut [u8], clauses: &mut [u8], l: Limits, n: Counters, r: Run) -> Counters
+pub fn join_all(
+    marks: &[u8],
+    unions: &[u8],
+    t: &[u8],
+    k: Counts,
+    s: &mut [u8],
+    clauses: &mut [u8],
+    l: Limits,
+    n: Counters,
+    r: Run,
+) -> Counters
     requires { ⌜ Kept k (now marks) (now unions) (now t) ⌝ }
     requires { ⌜ WellFormed (catalogue k (now marks) (now unions) (now t)) ⌝ }
     requires { ⌜ Fits l (length (now s)) ⌝ }
@@ -484,7 +631,15 @@ pub fn join_all(marks: &[u8], unions: &[u8], t: &[u8], k: Counts, s: &mut [u8], 
 // ---- new one-of-name variables
 
 // One-of-name y for the tracked part at a place.
-fn any_clause(s: &mut [u8], clauses: &mut [u8], l: Limits, n: Counters, r: Run, y: u16, at: usize) -> Counters
+fn any_clause(
+    s: &mut [u8],
+    clauses: &mut [u8],
+    l: Limits,
+    n: Counters,
+    r: Run,
+    y: u16,
+    at: usize,
+) -> Counters
     requires { ⌜ Fits l (length (now s)) ⌝ }
     requires { ⌜ GoodSome l n (held l (now s)) (now clauses) ⌝ }
     requires { ⌜ LongEnough l (length (now clauses)) 16384 ⌝ }
@@ -497,7 +652,17 @@ fn any_clause(s: &mut [u8], clauses: &mut [u8], l: Limits, n: Counters, r: Run, 
 }
 
 // One-of-name y for each tracked part of the name.
-fn any_clauses(t: &[u8], k: Counts, s: &mut [u8], clauses: &mut [u8], l: Limits, n: Counters, r: Run, name: u16, y: u16) -> Counters
+fn any_clauses(
+    t: &[u8],
+    k: Counts,
+    s: &mut [u8],
+    clauses: &mut [u8],
+    l: Limits,
+    n: Counters,
+    r: Run,
+    name: u16,
+    y: u16,
+) -> Counters
     requires { ⌜ Laid k (length (now t)) ⌝ }
     requires { ⌜ Fits l (length (now s)) ⌝ }
     requires { ⌜ GoodSome l n (held l (now s)) (now clauses) ⌝ }
@@ -519,14 +684,23 @@ fn any_clauses(t: &[u8], k: Counts, s: &mut [u8], clauses: &mut [u8], l: Limits,
 }
 
 // Variable y is linked if it is one-of-name.
-fn link_if(t: &[u8], k: Counts, s: &mut [u8], clauses: &mut [u8], l: Limits, n: Counters, r: Run, y: usize) -> Counters
+fn link_if(
+    t: &[u8],
+    k: Counts,
+    s: &mut [u8],
+    clauses: &mut [u8],
+    l: Limits,
+    n: Counters,
+    r: Run,
+    y: usize,
+) -> Counters
     requires { ⌜ Laid k (length (now t)) ⌝ }
     requires { ⌜ Fits l (length (now s)) ⌝ }
-    requires { ⌜ GoodOf k (now t) l n (held l (now s)) (now clauses) ⌝ }
+    requires { ⌜ GoodSome l n (held l (now s)) (now clauses) ⌝ }
     requires { ⌜ LongEnough l (length (now clauses)) 16384 ⌝ }
     requires { ⌜ CanLink n (held l (now s)) ⌝ }
     requires { ⌜ y < n .variables ⌝ }
-    ensures { λ m. ⌜ MakesOf k (now (t .entry)) l (linkIf (runOf r) (getD (variables (n .variables) (held l (now (s .entry)))) y (chosen root))) n (held l (now (s .entry))) (now (clauses .entry)) m (held l (now (s .exit))) (now (clauses .exit)) ⌝ }
+    ensures { λ m. ⌜ AddsAll l r (linkClauses k (now (t .entry)) (variables (n .variables) (held l (now (s .entry)))) y (listed (n .tracked) 10 (held l (now (s .entry))))) n (held l (now (s .entry))) (now (clauses .entry)) m (held l (now (s .exit))) (now (clauses .exit)) ⌝ }
 {
     let o = variable_map::origin_at(s, l, n.variables, y);
     if o.kind == 3 {
@@ -536,7 +710,17 @@ fn link_if(t: &[u8], k: Counts, s: &mut [u8], clauses: &mut [u8], l: Limits, n: 
 }
 
 // The one-of-name variables that the run made, in order of making.
-pub fn link_all(marks: &[u8], unions: &[u8], t: &[u8], k: Counts, s: &mut [u8], clauses: &mut [u8], l: Limits, n: Counters, r: Run) -> Counters
+pub fn link_all(
+    marks: &[u8],
+    unions: &[u8],
+    t: &[u8],
+    k: Counts,
+    s: &mut [u8],
+    clauses: &mut [u8],
+    l: Limits,
+    n: Counters,
+    r: Run,
+) -> Counters
     requires { ⌜ Kept k (now marks) (now unions) (now t) ⌝ }
     requires { ⌜ Fits l (length (now s)) ⌝ }
     requires { ⌜ Good (catalogue k (now marks) (now unions) (now t)) l n (held l (now s)) (now clauses) [] ⌝ }

@@ -1,4 +1,5 @@
 pub mod Hand
+pub mod Released
 pub mod Counting
 pub mod Parts
 pub mod Decided

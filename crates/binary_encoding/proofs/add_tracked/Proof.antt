@@ -1,3 +1,4 @@
+-- `binary_encoding::add_tracked` adds all clauses of a part that joins.
 use borrow.Author.Needs.{needs}
 use Rattle.binary_encoding.proofs.Steps.{fits-same, long-same}
 use Rattle.binary_encoding.proofs.Clauses.{tracked-first, tracked-second, tracked-older, tracked-all}

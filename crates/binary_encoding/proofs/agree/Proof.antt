@@ -1,3 +1,4 @@
+-- `binary_encoding::agree` adds one clause of a part and a helper.
 use borrow.Author.Needs.{needs}
 use Rattle.clauses.proofs.Added.{made-exists}
 use Rattle.binary_encoding.proofs.Parts.{agree-added}

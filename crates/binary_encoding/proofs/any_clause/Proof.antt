@@ -1,3 +1,4 @@
+-- `binary_encoding::any_clause` adds the any clause of a one-of-name variable and the tracked part at a place.
 use borrow.Author.Needs.{needs}
 use Rattle.binary_encoding.proofs.Steps.{some-mapped, some-tracked, some-can-add}
 use Rattle.binary_encoding.proofs.Parts.{any-added}

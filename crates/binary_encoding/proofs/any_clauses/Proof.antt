@@ -1,3 +1,4 @@
+-- `binary_encoding::any_clauses` adds the any clauses of a one-of-name variable. The invariant: the parts before `at` have theirs.
 use borrow.Author.Needs.{needs}
 use Prim.Native.Nat.{_-_}
 use Rattle.binary_encoding.proofs.Steps.{some-tracked, some-after}

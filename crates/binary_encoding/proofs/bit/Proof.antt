@@ -1,3 +1,4 @@
+-- `binary_encoding::bit`: is bit j of a number set?
 use borrow.Author.Needs.{needs}
 use Rattle.binary_encoding.proofs.Helpers.{power-some, bit-is}
 use Rattle.binary_encoding.proofs.bit.Statement.{statement}

@@ -1,3 +1,4 @@
+-- `binary_encoding::forget_named` empties the list of named parts.
 use borrow.Author.Needs.{needs}
 use Rattle.binary_encoding.proofs.Track.{forgotten}
 use Rattle.binary_encoding.proofs.forget_named.Statement.{statement}

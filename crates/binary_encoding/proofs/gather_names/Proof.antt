@@ -1,3 +1,4 @@
+-- `binary_encoding::gather_names` gathers the names of the named parts. The invariant: what is left of the list's making is the whole of it.
 use borrow.Author.Needs.{needs}
 use Prim.Native.Nat.{_-_}
 use Rattle.binary_encoding.proofs.Track.{Gathering, gather-start, gather-low, gather-step, gather-end}

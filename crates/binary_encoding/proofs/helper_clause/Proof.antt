@@ -1,3 +1,4 @@
+-- `binary_encoding::helper_clause` adds the clause of a helper and the tracked part at a place.
 use borrow.Author.Needs.{needs}
 use Rattle.binary_encoding.proofs.Parts.{helper-added}
 use Rattle.binary_encoding.proofs.Steps.{some-mapped, some-tracked}

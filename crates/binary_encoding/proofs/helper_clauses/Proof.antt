@@ -1,3 +1,4 @@
+-- `binary_encoding::helper_clauses` adds a helper's clauses for the tracked parts of a name. The invariant: the parts before `at` have theirs.
 use borrow.Author.Needs.{needs}
 use Prim.Native.Nat.{_-_}
 use Rattle.binary_encoding.proofs.Steps.{some-tracked, some-after}

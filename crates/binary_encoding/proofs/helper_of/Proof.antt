@@ -1,3 +1,4 @@
+-- `binary_encoding::helper_of` looks up a helper.
 use borrow.Author.Needs.{needs}
 use Rattle.binary_encoding.proofs.Clauses.{helper-is}
 use Rattle.binary_encoding.proofs.helper_of.Statement.{statement}

@@ -1,3 +1,4 @@
+-- `binary_encoding::helpers_for`: how many helpers k tracked parts have. The invariant: fewer than h are too few.
 use borrow.Author.Needs.{needs}
 use Prim.Native.Nat.{_-_}
 use Rattle.binary_encoding.proofs.Helpers.{Fewer, fewer-start, fewer-found, fewer-step, fewer-end}

@@ -1,3 +1,4 @@
+-- `binary_encoding::join` lets a part join its name.
 use borrow.Author.Needs.{needs}
 use native.Mathlib.Omega.{arith}
 use Rattle.binary_encoding.proofs.Joins.{count-is, count-few, helpers-few, named-can, named-can-add, named-new, join-stop, join-done}

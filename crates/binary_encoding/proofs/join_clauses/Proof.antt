@@ -1,3 +1,4 @@
+-- `binary_encoding::join_clauses` adds all clauses of a part that has a variable.
 use borrow.Author.Needs.{needs}
 use Rattle.goals.proofs.Decided.{part-in-tables}
 use Rattle.binary_encoding.proofs.Clauses.{few-helpers, part-below, helpers-below, joined-all}

@@ -1,3 +1,4 @@
+-- `binary_encoding::join_name` lets the named parts of one name join. The invariant: the first i did.
 use borrow.Author.Needs.{needs}
 use Prim.Native.Nat.{_-_}
 use Rattle.binary_encoding.proofs.Names.{Parting, parting-start, parting-low, parting-stop, parting-step, parting-end}

@@ -1,3 +1,4 @@
+-- `binary_encoding::join_named` adds the clauses of a part and tracks it.
 use borrow.Author.Needs.{needs}
 use Rattle.binary_encoding.proofs.Joins.{track-marked, track-count, track-new, track-stop, track-done}
 use Rattle.binary_encoding.proofs.join_named.Statement.{statement}

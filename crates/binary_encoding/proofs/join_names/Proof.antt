@@ -1,3 +1,4 @@
+-- `binary_encoding::join_names` lets the named parts of the names at hand join. The invariant: those of the first i names did.
 use borrow.Author.Needs.{needs}
 use Prim.Native.Nat.{_-_}
 use Rattle.binary_encoding.proofs.Names.{Naming, naming-start, naming-stop, naming-step, naming-end}

@@ -1,3 +1,4 @@
+-- `binary_encoding::name_helpers` gives the first h helpers of a name their variables. The invariant: the first j have theirs.
 use borrow.Author.Needs.{needs}
 use Prim.Native.Nat.{_-_}
 use Rattle.binary_encoding.proofs.Steps.{alone-mapped}

@@ -1,3 +1,4 @@
+-- `binary_encoding::name_join` gives a part and the first h helpers of its name their variables.
 use borrow.Author.Needs.{needs}
 use Rattle.goals.proofs.Decided.{part-in-tables}
 use Rattle.binary_encoding.proofs.Helpers.{joins-named}

@@ -1,3 +1,4 @@
+-- `binary_encoding::new_helper` adds the clauses of a helper that the earlier parts did not need.
 use borrow.Author.Needs.{needs}
 use Rattle.binary_encoding.proofs.Clauses.{helper-below, new-helper-none, new-helper-one}
 use Rattle.binary_encoding.proofs.new_helper.Statement.{statement}

@@ -1,3 +1,4 @@
+-- `binary_encoding::next_of` finds the next tracked part of a name. The invariant: none was passed.
 use borrow.Author.Needs.{needs}
 use Prim.Native.Nat.{_-_}
 use Rattle.state.specs.Layout.{held}

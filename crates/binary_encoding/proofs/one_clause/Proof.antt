@@ -1,3 +1,4 @@
+-- `binary_encoding::one_clause` adds a part's any clause if the one-of-name variable is older than the run.
 use borrow.Author.Needs.{needs}
 use Rattle.binary_encoding.proofs.Clauses.{one-in-tables, one-below, one-none, one-newer, one-older}
 use Rattle.binary_encoding.proofs.Steps.{some-mapped, some-can-add}

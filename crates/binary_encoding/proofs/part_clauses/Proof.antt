@@ -1,3 +1,4 @@
+-- `binary_encoding::part_clauses` adds a part's clauses for the helpers. The invariant: the first j have theirs.
 use borrow.Author.Needs.{needs}
 use Prim.Native.Nat.{_-_}
 use Rattle.binary_encoding.proofs.Clauses.{helper-below, Agreeing, agreeing-start, agreeing-step, agreeing-end}

@@ -1,3 +1,4 @@
+-- `binary_encoding::push_tracked` lists a part as tracked and counts it.
 use borrow.Author.Needs.{needs}
 use Rattle.binary_encoding.proofs.Track.{track-free, tracked-pushed}
 use Rattle.binary_encoding.proofs.push_tracked.Statement.{statement}

@@ -1,3 +1,4 @@
+-- `binary_encoding::tracked_variable` looks up the variable of the tracked part at a place.
 use borrow.Author.Needs.{needs}
 use Rattle.binary_encoding.proofs.Parts.{place-low, place-is}
 use Rattle.binary_encoding.proofs.tracked_variable.Statement.{statement}

@@ -1,3 +1,4 @@
+-- `binary_encoding::tracker_of` collects the variables of the first h helpers. The invariant: the first j are in.
 use borrow.Author.Needs.{needs}
 use Prim.Native.Nat.{_-_}
 use Rattle.state.specs.Layout.{held}

@@ -1,3 +1,4 @@
+-- `binary_encoding::with_helper` puts one helper more into a tracker.
 use borrow.Author.Needs.{needs}
 use Rattle.binary_encoding.proofs.Helpers.{held-more}
 use Rattle.binary_encoding.proofs.with_helper.Statement.{statement}

@@ -3,7 +3,8 @@ use borrow.Author.Needs.{needs}
 use Rattle.firing.proofs.Required.{goal-given}
 use Rattle.parts.proofs.Steps.{fits-same}
 use Rattle.handling.proofs.Steps.{hand-later}
-use Rattle.handling.proofs.Serving.{gathered, good-hand, requirement-served}
+use Rattle.goals.proofs.Released.{good-hand}
+use Rattle.handling.proofs.Serving.{gathered, requirement-served}
 use Rattle.handling.proofs.serve_requirement.Statement.{statement}
 use Rattle.handling.proofs.serve_requirement.Tie as tie
 
