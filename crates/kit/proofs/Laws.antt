@@ -193,10 +193,9 @@ gives-refused n at number place f e =
     let z : number ≡ 0 → ⊥ = λ q. numbered n at (refusalOf f) (ap (λ (x : ℕ × ℕ). x .0) (sym e) ∙ q) in
     record { is = rw (← e); means = rw (← e, ne-eqb number 0 z) }
 
-pub told-sheet : (n : ℕ) (read : Read) (at : ℕ) (k : Counts) → read ≡ Read.Sheet at k
-    → Gives (record { number = 0; place = 0; length = 0; variables = 0; clauses = 0 }) (toldOf n read)
+pub told-sheet : (n : ℕ) (read : Read) (at : ℕ) (k : Counts) (r : Answer) → read ≡ Read.Sheet at k → Gives r (accepts 0 0 0) → Gives r (toldOf n read)
 unfolding toldOf
-told-sheet n read at k e = rw e (gives-accepts 0 0 0)
+told-sheet n read at k r e g = rw e g
 
 pub told-refused : (n : ℕ) (read : Read) (f : Refusal) (at : ℕ) (r : Answer) → read ≡ Read.Refused f at
     → Gives r (refuses ((numberAndPlace n at (refusalOf f)) .0) ((numberAndPlace n at (refusalOf f)) .1)) → Gives r (toldOf n read)

@@ -29,7 +29,7 @@ use Rattle.kit.specs.declared.Limits.{Limits}
 use Rattle.kit.specs.declared.Lent.{Lent}
 use Rattle.kit.specs.Checking.{limitsOf, lentOf, termsOf, Gives, Long, Zeroed, fourLimits}
 use Rattle.kit.specs.Running.{LendsAll, Runs, Ran}
-use Rattle.kit.proofs.Laws.{gives-accepts, same-fits}
+use Rattle.kit.proofs.Laws.{same-fits}
 
 -- the limits, as the code below takes them
 abbrev pub stateLimits : Limits → state.Limits
@@ -80,9 +80,9 @@ enough l x m u t c s w b h e f =
 
 -- ---- answers
 
-pub accepted-told : (n l v c : ℕ) {o : Outcome} → o ≡ Accepted l v c → Gives (record { number = 0; place = 0; length = l; variables = v; clauses = c }) (told n o)
+pub accepted-told : (n : ℕ) {l v c : ℕ} {o : Outcome} {r : Answer} → o ≡ Accepted l v c → Gives r (accepts l v c) → Gives r (told n o)
 unfolding told
-accepted-told n l v c e = rw e (gives-accepts l v c)
+accepted-told n e g = rw e g
 
 pub refused-told : (n : ℕ) {o : Outcome} {f : Refusal} {at : ℕ} {r : Answer} → o ≡ Refused f at
     → Gives r (refuses ((numberAndPlace n at (refusalOf f)) .0) ((numberAndPlace n at (refusalOf f)) .1)) → Gives r (told n o)
