@@ -45,12 +45,19 @@ join-all-requires c κs =
     let p = (c .before .before .before .before .before .before .before .before .before .before .before .before .before .before .before .before .before .before .before .before .before .before .before .before .before .before .pre) in
     let begun = (c .before .before .before .before .before .before .before .before .before .before .before .before .before .before .before .begin-run) in
     let served = (c .before .before .before .before .before .before .before .before .before .serve-line) in
-    let fits = fits-same (begun .kept .1 .1 .1 .1 .0) (p .1 .0) in
-    (p .0 .kept,
-    (p .0 .formed,
-    (fits-same (served .kept .1 .1 .1 .1 .0) fits,
-    (good-waiting _ (served .ensures .good),
-    (long-alone (served .kept .1 .1 .1 .1 .1 .0) (p .1 .1 .1 .0), (can-join (record { number = refl; before = refl }) (length-line _ _ fits) (begun .ensures) (served .ensures) (c .before .before .if1 .left) (p .1 .1 .0), served .ensures .hand))))))
+    let fits = fits-same (begun .kept .1 .1 .1 .1 .0) (p .1 .0) in (
+      p .0 .kept,
+      (
+        p .0 .formed,
+        (
+          fits-same (served .kept .1 .1 .1 .1 .0) fits,
+          (
+            good-waiting _ (served .ensures .good),
+            (long-alone (served .kept .1 .1 .1 .1 .1 .0) (p .1 .1 .1 .0), (can-join (record { number = refl; before = refl }) (length-line _ _ fits) (begun .ensures) (served .ensures) (c .before .before .if1 .left) (p .1 .1 .0), served .ensures .hand)),
+          ),
+        ),
+      ),
+    )
 
 same-length-4 : tie.Need-same-length-4
 same-length-4 c = (c .before .before .before .before .before .join-all .kept .1 .1 .1 .1 .0) ∙ ((c .before .before .before .before .before .before .before .before .before .before .before .before .before .before .before .serve-line .kept .1 .1 .1 .1 .0) ∙ (c .before .before .before .before .before .before .before .before .before .before .before .before .before .before .before .before .before .before .before .before .before .begin-run .kept .1 .1 .1 .1 .0))
@@ -74,12 +81,19 @@ link-all-requires c κs =
     let begun = (c .before .before .before .before .before .before .before .before .before .before .before .before .before .before .before .before .before .before .before .before .before .before .before .begin-run) in
     let served = (c .before .before .before .before .before .before .before .before .before .before .before .before .before .before .before .before .before .serve-line) in
     let joined = (c .before .before .before .before .before .before .before .join-all) in
-    let fits = fits-same (begun .kept .1 .1 .1 .1 .0) (p .1 .0) in
-    (p .0 .kept,
-    (fits-same (joined .kept .1 .1 .1 .1 .0 ∙ served .kept .1 .1 .1 .1 .0) fits,
-    (good-waiting _ (joined-good (record { number = refl; before = refl }) (length-line _ _ fits) (begun .ensures) (served .ensures) (c .before .before .before .before .before .before .before .before .before .before .if1 .left) (joined .ensures)),
-    (long-alone (joined .kept .1 .1 .1 .1 .1 .0 ∙ served .kept .1 .1 .1 .1 .1 .0) (p .1 .1 .1 .0),
-    can-link (record { number = refl; before = refl }) (length-line _ _ fits) (begun .ensures) (served .ensures) (c .before .before .before .before .before .before .before .before .before .before .if1 .left) (joined .ensures) (c .before .before .if2 .left) (p .1 .1 .0)))))
+    let fits = fits-same (begun .kept .1 .1 .1 .1 .0) (p .1 .0) in (
+      p .0 .kept,
+      (
+        fits-same (joined .kept .1 .1 .1 .1 .0 ∙ served .kept .1 .1 .1 .1 .0) fits,
+        (
+          good-waiting _ (joined-good (record { number = refl; before = refl }) (length-line _ _ fits) (begun .ensures) (served .ensures) (c .before .before .before .before .before .before .before .before .before .before .if1 .left) (joined .ensures)),
+          (
+            long-alone (joined .kept .1 .1 .1 .1 .1 .0 ∙ served .kept .1 .1 .1 .1 .1 .0) (p .1 .1 .1 .0),
+            can-link (record { number = refl; before = refl }) (length-line _ _ fits) (begun .ensures) (served .ensures) (c .before .before .before .before .before .before .before .before .before .before .if1 .left) (joined .ensures) (c .before .before .if2 .left) (p .1 .1 .0),
+          ),
+        ),
+      ),
+    )
 
 same-length-7 : tie.Need-same-length-7
 same-length-7 c =
