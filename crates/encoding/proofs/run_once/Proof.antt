@@ -18,7 +18,11 @@ begin-run-requires : tie.Need-begin-run-requires
 begin-run-requires c κs = search needs
 
 serve-line-requires : tie.Need-serve-line-requires
-serve-line-requires c κs = let p = (c .before .before .before .before .before .before .before .before .before .before .before .before .before .before .before .before .pre) in let fits = fits-same (c .before .before .before .before .before .begin-run .kept .1 .1 .1 .1 .0) (p .1 .0) in (p .0, (fits, ((c .before .before .before .before .before .begin-run .ensures .good), (p .1 .1 .1 .0, (((c .before .before .before .before .before .begin-run .ensures .hand), search needs), line-begun (record { number = refl; before = refl }) (length-line _ _ fits) (c .before .before .before .before .before .begin-run .ensures) (p .1 .1 .0))))))
+serve-line-requires c κs =
+    let p = (c .before .before .before .before .before .before .before .before .before .before .before .before .before .before .before .before .pre) in
+    let begun = (c .before .before .before .before .before .begin-run) in
+    let fits = fits-same (begun .kept .1 .1 .1 .1 .0) (p .1 .0) in
+    (p .0, (fits, (begun .ensures .good, (p .1 .1 .1 .0, ((begun .ensures .hand, search needs), line-begun (record { number = refl; before = refl }) (length-line _ _ fits) (begun .ensures) (p .1 .1 .0))))))
 
 same-length : tie.Need-same-length
 same-length c = (c .before .before .before .before .before .before .before .serve-line .kept .1 .1 .1 .1 .0) ∙ (c .before .before .before .before .before .before .before .before .before .before .before .before .before .begin-run .kept .1 .1 .1 .1 .0)
@@ -30,10 +34,30 @@ same-length-3 : tie.Need-same-length-3
 same-length-3 c = (c .before .before .before .before .before .before .before .serve-line .kept .1 .1 .1 .1 .1 .1 .0)
 
 returns : tie.Need-returns
-returns c = line-over (record { number = refl; before = refl }) (length-line _ _ (fits-same (c .before .before .before .before .before .before .before .before .before .before .before .before .before .begin-run .kept .1 .1 .1 .1 .0) (c .before .before .before .before .before .before .before .before .before .before .before .before .before .before .before .before .before .before .before .before .before .before .before .before .pre .1 .0))) (c .before .before .before .before .before .before .before .before .before .before .before .before .before .begin-run .ensures) (c .before .before .before .before .before .before .before .serve-line .ensures) (c .if1 .taken)
+returns c =
+    let p = (c .before .before .before .before .before .before .before .before .before .before .before .before .before .before .before .before .before .before .before .before .before .before .before .before .pre) in
+    let begun = (c .before .before .before .before .before .before .before .before .before .before .before .before .before .begin-run) in
+    let fits = fits-same (begun .kept .1 .1 .1 .1 .0) (p .1 .0) in
+    line-over (record { number = refl; before = refl }) (length-line _ _ fits) (begun .ensures) (c .before .before .before .before .before .before .before .serve-line .ensures) (c .if1 .taken)
 
 join-all-requires : tie.Need-join-all-requires
-join-all-requires c κs = let p = (c .before .before .before .before .before .before .before .before .before .before .before .before .before .before .before .before .before .before .before .before .before .before .before .before .before .before .pre) in (p .0 .kept, (p .0 .formed, (fits-same ((c .before .before .before .before .before .before .before .before .before .serve-line .kept .1 .1 .1 .1 .0) ∙ (c .before .before .before .before .before .before .before .before .before .before .before .before .before .before .before .begin-run .kept .1 .1 .1 .1 .0)) (p .1 .0), (good-waiting _ (c .before .before .before .before .before .before .before .before .before .serve-line .ensures .good), (long-alone (c .before .before .before .before .before .before .before .before .before .serve-line .kept .1 .1 .1 .1 .1 .0) (p .1 .1 .1 .0), (can-join (record { number = refl; before = refl }) (length-line _ _ (fits-same (c .before .before .before .before .before .before .before .before .before .before .before .before .before .before .before .begin-run .kept .1 .1 .1 .1 .0) (c .before .before .before .before .before .before .before .before .before .before .before .before .before .before .before .before .before .before .before .before .before .before .before .before .before .before .pre .1 .0))) (c .before .before .before .before .before .before .before .before .before .before .before .before .before .before .before .begin-run .ensures) (c .before .before .before .before .before .before .before .before .before .serve-line .ensures) (c .before .before .if1 .left) (p .1 .1 .0), (c .before .before .before .before .before .before .before .before .before .serve-line .ensures .hand)))))))
+join-all-requires c κs =
+    let p = (c .before .before .before .before .before .before .before .before .before .before .before .before .before .before .before .before .before .before .before .before .before .before .before .before .before .before .pre) in
+    let begun = (c .before .before .before .before .before .before .before .before .before .before .before .before .before .before .before .begin-run) in
+    let served = (c .before .before .before .before .before .before .before .before .before .serve-line) in
+    let fits = fits-same (begun .kept .1 .1 .1 .1 .0) (p .1 .0) in (
+      p .0 .kept,
+      (
+        p .0 .formed,
+        (
+          fits-same (served .kept .1 .1 .1 .1 .0) fits,
+          (
+            good-waiting _ (served .ensures .good),
+            (long-alone (served .kept .1 .1 .1 .1 .1 .0) (p .1 .1 .1 .0), (can-join (record { number = refl; before = refl }) (length-line _ _ fits) (begun .ensures) (served .ensures) (c .before .before .if1 .left) (p .1 .1 .0), served .ensures .hand)),
+          ),
+        ),
+      ),
+    )
 
 same-length-4 : tie.Need-same-length-4
 same-length-4 c = (c .before .before .before .before .before .join-all .kept .1 .1 .1 .1 .0) ∙ ((c .before .before .before .before .before .before .before .before .before .before .before .before .before .before .before .serve-line .kept .1 .1 .1 .1 .0) ∙ (c .before .before .before .before .before .before .before .before .before .before .before .before .before .before .before .before .before .before .before .before .before .begin-run .kept .1 .1 .1 .1 .0))
@@ -45,13 +69,37 @@ same-length-6 : tie.Need-same-length-6
 same-length-6 c = (c .before .before .before .before .before .before .before .before .before .before .before .before .before .before .before .serve-line .kept .1 .1 .1 .1 .1 .1 .0)
 
 returns-2 : tie.Need-returns-2
-returns-2 c = join-over (record { number = refl; before = refl }) (length-line _ _ (fits-same (c .before .before .before .before .before .before .before .before .before .before .before .before .before .before .before .before .before .before .before .before .before .begin-run .kept .1 .1 .1 .1 .0) (c .before .before .before .before .before .before .before .before .before .before .before .before .before .before .before .before .before .before .before .before .before .before .before .before .before .before .before .before .before .before .before .before .pre .1 .0))) (c .before .before .before .before .before .before .before .before .before .before .before .before .before .before .before .before .before .before .before .before .before .begin-run .ensures) (c .before .before .before .before .before .before .before .before .before .before .before .before .before .before .before .serve-line .ensures) (c .before .before .before .before .before .before .before .before .if1 .left) (c .before .before .before .before .before .join-all .ensures) (c .if2 .taken)
+returns-2 c =
+    let p = (c .before .before .before .before .before .before .before .before .before .before .before .before .before .before .before .before .before .before .before .before .before .before .before .before .before .before .before .before .before .before .before .before .pre) in
+    let begun = (c .before .before .before .before .before .before .before .before .before .before .before .before .before .before .before .before .before .before .before .before .before .begin-run) in
+    let fits = fits-same (begun .kept .1 .1 .1 .1 .0) (p .1 .0) in
+    join-over (record { number = refl; before = refl }) (length-line _ _ fits) (begun .ensures) (c .before .before .before .before .before .before .before .before .before .before .before .before .before .before .before .serve-line .ensures) (c .before .before .before .before .before .before .before .before .if1 .left) (c .before .before .before .before .before .join-all .ensures) (c .if2 .taken)
 
 link-all-requires : tie.Need-link-all-requires
-link-all-requires c κs = let p = (c .before .before .before .before .before .before .before .before .before .before .before .before .before .before .before .before .before .before .before .before .before .before .before .before .before .before .before .before .before .before .before .before .before .before .pre) in (p .0 .kept, (fits-same ((c .before .before .before .before .before .before .before .join-all .kept .1 .1 .1 .1 .0) ∙ ((c .before .before .before .before .before .before .before .before .before .before .before .before .before .before .before .before .before .serve-line .kept .1 .1 .1 .1 .0) ∙ (c .before .before .before .before .before .before .before .before .before .before .before .before .before .before .before .before .before .before .before .before .before .before .before .begin-run .kept .1 .1 .1 .1 .0))) (p .1 .0), (good-waiting _ (joined-good (record { number = refl; before = refl }) (length-line _ _ (fits-same (c .before .before .before .before .before .before .before .before .before .before .before .before .before .before .before .before .before .before .before .before .before .before .before .begin-run .kept .1 .1 .1 .1 .0) (c .before .before .before .before .before .before .before .before .before .before .before .before .before .before .before .before .before .before .before .before .before .before .before .before .before .before .before .before .before .before .before .before .before .before .pre .1 .0))) (c .before .before .before .before .before .before .before .before .before .before .before .before .before .before .before .before .before .before .before .before .before .before .before .begin-run .ensures) (c .before .before .before .before .before .before .before .before .before .before .before .before .before .before .before .before .before .serve-line .ensures) (c .before .before .before .before .before .before .before .before .before .before .if1 .left) (c .before .before .before .before .before .before .before .join-all .ensures)), (long-alone ((c .before .before .before .before .before .before .before .join-all .kept .1 .1 .1 .1 .1 .0) ∙ (c .before .before .before .before .before .before .before .before .before .before .before .before .before .before .before .before .before .serve-line .kept .1 .1 .1 .1 .1 .0)) (p .1 .1 .1 .0), can-link (record { number = refl; before = refl }) (length-line _ _ (fits-same (c .before .before .before .before .before .before .before .before .before .before .before .before .before .before .before .before .before .before .before .before .before .before .before .begin-run .kept .1 .1 .1 .1 .0) (c .before .before .before .before .before .before .before .before .before .before .before .before .before .before .before .before .before .before .before .before .before .before .before .before .before .before .before .before .before .before .before .before .before .before .pre .1 .0))) (c .before .before .before .before .before .before .before .before .before .before .before .before .before .before .before .before .before .before .before .before .before .before .before .begin-run .ensures) (c .before .before .before .before .before .before .before .before .before .before .before .before .before .before .before .before .before .serve-line .ensures) (c .before .before .before .before .before .before .before .before .before .before .if1 .left) (c .before .before .before .before .before .before .before .join-all .ensures) (c .before .before .if2 .left) (p .1 .1 .0)))))
+link-all-requires c κs =
+    let p = (c .before .before .before .before .before .before .before .before .before .before .before .before .before .before .before .before .before .before .before .before .before .before .before .before .before .before .before .before .before .before .before .before .before .before .pre) in
+    let begun = (c .before .before .before .before .before .before .before .before .before .before .before .before .before .before .before .before .before .before .before .before .before .before .before .begin-run) in
+    let served = (c .before .before .before .before .before .before .before .before .before .before .before .before .before .before .before .before .before .serve-line) in
+    let joined = (c .before .before .before .before .before .before .before .join-all) in
+    let fits = fits-same (begun .kept .1 .1 .1 .1 .0) (p .1 .0) in (
+      p .0 .kept,
+      (
+        fits-same (joined .kept .1 .1 .1 .1 .0 ∙ served .kept .1 .1 .1 .1 .0) fits,
+        (
+          good-waiting _ (joined-good (record { number = refl; before = refl }) (length-line _ _ fits) (begun .ensures) (served .ensures) (c .before .before .before .before .before .before .before .before .before .before .if1 .left) (joined .ensures)),
+          (
+            long-alone (joined .kept .1 .1 .1 .1 .1 .0 ∙ served .kept .1 .1 .1 .1 .1 .0) (p .1 .1 .1 .0),
+            can-link (record { number = refl; before = refl }) (length-line _ _ fits) (begun .ensures) (served .ensures) (c .before .before .before .before .before .before .before .before .before .before .if1 .left) (joined .ensures) (c .before .before .if2 .left) (p .1 .1 .0),
+          ),
+        ),
+      ),
+    )
 
 same-length-7 : tie.Need-same-length-7
-same-length-7 c = (c .before .before .before .before .link-all .kept .1 .1 .1 .1 .0) ∙ ((c .before .before .before .before .before .before .before .before .before .before .before .before .join-all .kept .1 .1 .1 .1 .0) ∙ ((c .before .before .before .before .before .before .before .before .before .before .before .before .before .before .before .before .before .before .before .before .before .before .serve-line .kept .1 .1 .1 .1 .0) ∙ (c .before .before .before .before .before .before .before .before .before .before .before .before .before .before .before .before .before .before .before .before .before .before .before .before .before .before .before .before .begin-run .kept .1 .1 .1 .1 .0)))
+same-length-7 c =
+    let served = (c .before .before .before .before .before .before .before .before .before .before .before .before .before .before .before .before .before .before .before .before .before .before .serve-line) in
+    let joined = (c .before .before .before .before .before .before .before .before .before .before .before .before .join-all) in
+    (c .before .before .before .before .link-all .kept .1 .1 .1 .1 .0) ∙ (joined .kept .1 .1 .1 .1 .0 ∙ (served .kept .1 .1 .1 .1 .0 ∙ (c .before .before .before .before .before .before .before .before .before .before .before .before .before .before .before .before .before .before .before .before .before .before .before .before .before .before .before .before .begin-run .kept .1 .1 .1 .1 .0)))
 
 same-length-8 : tie.Need-same-length-8
 same-length-8 c = (c .before .before .before .before .link-all .kept .1 .1 .1 .1 .1 .0) ∙ ((c .before .before .before .before .before .before .before .before .before .before .before .before .join-all .kept .1 .1 .1 .1 .1 .0) ∙ (c .before .before .before .before .before .before .before .before .before .before .before .before .before .before .before .before .before .before .before .before .before .before .serve-line .kept .1 .1 .1 .1 .1 .0))
@@ -60,7 +108,11 @@ same-length-9 : tie.Need-same-length-9
 same-length-9 c = (c .before .before .before .before .before .before .before .before .before .before .before .before .before .before .before .before .before .before .before .before .before .before .serve-line .kept .1 .1 .1 .1 .1 .1 .0)
 
 returns-3 : tie.Need-returns-3
-returns-3 c = ran (record { number = refl; before = refl }) (length-line _ _ (fits-same (c .before .before .before .before .before .before .before .before .before .before .before .before .before .before .before .before .before .before .before .before .before .before .before .before .before .before .before .before .begin-run .kept .1 .1 .1 .1 .0) (c .before .before .before .before .before .before .before .before .before .before .before .before .before .before .before .before .before .before .before .before .before .before .before .before .before .before .before .before .before .before .before .before .before .before .before .before .before .before .before .pre .1 .0))) (c .before .before .before .before .before .before .before .before .before .before .before .before .before .before .before .before .before .before .before .before .before .before .before .before .before .before .before .before .begin-run .ensures) (c .before .before .before .before .before .before .before .before .before .before .before .before .before .before .before .before .before .before .before .before .before .before .serve-line .ensures) (c .before .before .before .before .before .before .before .before .before .before .before .before .before .before .before .if1 .left) (c .before .before .before .before .before .before .before .before .before .before .before .before .join-all .ensures) (c .before .before .before .before .before .before .before .if2 .left) (c .before .before .before .before .link-all .ensures)
+returns-3 c =
+    let p = (c .before .before .before .before .before .before .before .before .before .before .before .before .before .before .before .before .before .before .before .before .before .before .before .before .before .before .before .before .before .before .before .before .before .before .before .before .before .before .before .pre) in
+    let begun = (c .before .before .before .before .before .before .before .before .before .before .before .before .before .before .before .before .before .before .before .before .before .before .before .before .before .before .before .before .begin-run) in
+    let fits = fits-same (begun .kept .1 .1 .1 .1 .0) (p .1 .0) in
+    ran (record { number = refl; before = refl }) (length-line _ _ fits) (begun .ensures) (c .before .before .before .before .before .before .before .before .before .before .before .before .before .before .before .before .before .before .before .before .before .before .serve-line .ensures) (c .before .before .before .before .before .before .before .before .before .before .before .before .before .before .before .if1 .left) (c .before .before .before .before .before .before .before .before .before .before .before .before .join-all .ensures) (c .before .before .before .before .before .before .before .if2 .left) (c .before .before .before .before .link-all .ensures)
 
 pub run-once-spec : {M : Type 1} → statement M
 run-once-spec =
