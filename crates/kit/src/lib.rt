@@ -8,9 +8,11 @@ ghost use Prim.Native.Nat.{_+_, _*_, _<_, _≤_};
 ghost use lib.ListN.{length};
 ghost use Rattle.rules.specs.Refusals.{numberAndPlace};
 ghost use Rattle.rules.specs.Limits.{within, allowed, covers, needed, fits};
-ghost use Rattle.rules.specs.Job.{refuses, workArea};
+ghost use Rattle.rules.specs.Job.{accepts, refuses, workArea};
 ghost use Rattle.refusal.specs.Refusing.{refusalOf};
 ghost use Rattle.kit.specs.Checking.{Ceilings, limitsOf, lentOf, termsOf, toldOf, Gives, Zeroed, Long, CatalogueChecked, Lends, Checked, fourLimits, Served};
+ghost use Rattle.kit.specs.Running.{LendsAll, Runs, Ran};
+ghost use Rattle.outcome.specs.Outcomes as outcomes;
 
 // What a call answers: 0 or the number of a refusal, and its place; the listing's length, the variables and the clauses.
 #[repr(C)]
@@ -108,6 +110,18 @@ pub fn lends_enough(l: Limits, lent: Lent) -> bool
 
 // ---- answers
 
+fn accepted(length: usize, variables: usize, clauses: usize) -> Answer
+    ensures { λ r. ⌜ Gives r (accepts length variables clauses) ⌝ }
+{
+    Answer {
+        number: 0,
+        place: 0,
+        length: length as u64,
+        variables: variables as u64,
+        clauses: clauses as u64,
+    }
+}
+
 // The refusal of the record at `at`, in a job of this length.
 fn refused(length: usize, at: usize, refusal: Refusal) -> Answer
     ensures { λ r. ⌜ Gives r (refuses ((numberAndPlace length at (refusalOf refusal)) .0) ((numberAndPlace length at (refusalOf refusal)) .1)) ⌝ }
@@ -127,13 +141,7 @@ fn told(length: usize, read: Read) -> Answer
     ensures { λ r. ⌜ Gives r (toldOf length read) ⌝ }
 {
     match read {
-        Read::Sheet { at: _, counts: _ } => Answer {
-            number: 0,
-            place: 0,
-            length: 0,
-            variables: 0,
-            clauses: 0,
-        },
+        Read::Sheet { at: _, counts: _ } => accepted(0, 0, 0),
         Read::Refused { refusal, at } => refused(length, at, refusal),
     }
 }
@@ -234,19 +242,14 @@ pub extern "C" fn kit_check(
 
 // What is answered of a job's outcome.
 fn told_outcome(length: usize, outcome: Outcome) -> Answer
+    ensures { λ r. ⌜ Gives r (outcomes.told length outcome) ⌝ }
 {
     match outcome {
         Outcome::Accepted {
             length: bytes,
             variables,
             clauses,
-        } => Answer {
-            number: 0,
-            place: 0,
-            length: bytes as u64,
-            variables: variables as u64,
-            clauses: clauses as u64,
-        },
+        } => accepted(bytes, variables, clauses),
         Outcome::Refused { refusal, at } => refused(length, at, refusal),
     }
 }
@@ -263,6 +266,8 @@ fn run_within(
     w: &mut [u8],
     out: &mut [u8],
 ) -> Answer
+    requires { ⌜ LendsAll lent (now marks) (now unions) (now t) (now clauses) (now s) (now w) ⌝ }
+    ensures { λ r. ⌜ Runs (now (job .entry)) (termsOf (limitsOf l) (lentOf lent) (length (now (out .entry)))) r (now (out .entry)) (now (out .exit)) ⌝ }
 {
     if lends_enough(l, lent) {
         if 65536 < job.len() {
@@ -296,6 +301,9 @@ pub extern "C" fn kit_run(
     deferred: &mut [u8],
     listing: &mut [u8],
 ) -> Answer
+    ensures { λ r. ⌜ Ran (now (job .entry)) (fourLimits variables clauses literals waiting) r
+        (now (marks .entry)) (now (unions .entry)) (now (catalogue .entry)) (now (store .entry)) (now (state .entry)) (now (deferred .entry)) (now (listing .entry))
+        (now (marks .exit)) (now (unions .exit)) (now (catalogue .exit)) (now (store .exit)) (now (state .exit)) (now (deferred .exit)) (now (listing .exit)) ⌝ }
 {
     let l = Limits {
         variables,
