@@ -1,5 +1,5 @@
 # make test: everything that is tested and proved; the last line is that of `rt ci`.
-# The targets but demo set our listing beside the Rust's; host/README.md says what is where.
+# The other targets but demo set our listing beside the Rust's; host/README.md says what is where.
 SEED ?= 1
 COUNT ?= 20000
 HOST_RUN = host/with-reference cargo run --quiet --release
@@ -23,5 +23,5 @@ record:
 
 # The listing of examples/scanning-arch.job, as the proved program prints it.
 demo:
-	@rt check kitlist
+	@rt check kitlist >&2
 	@target/bin/kitlist < examples/scanning-arch.bytes
