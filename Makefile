@@ -1,21 +1,32 @@
-# make test: everything that is tested and proved; the last line is that of `rt ci`.
-# The other targets set our listing beside the Rust's; host/README.md says what is where.
+# make test: everything that is proved and tested; the last line is that of `rt ci`.
+# The other targets but demo set our listing beside the Rust's; host/README.md says what is where.
+SHELL = /bin/bash
+.SHELLFLAGS = -o pipefail -c
 SEED ?= 1
 COUNT ?= 20000
-HOST_RUN = host/with-reference cargo run --quiet --release --package compare
+HOST_RUN = host/with-reference cargo run --quiet --release
 
-.PHONY: test host-test compare record
+.PHONY: test host-test compare record demo
 
-test: host-test
-	rt ci
+# `rt ci` proves everything from nothing; the host tests link what it built, and its last line is said again at the end.
+test:
+	@rt ci | tee ci.log
+	@host/test
+	@tail -n 1 ci.log
 
 host-test:
 	@host/test
 
-# Our listing beside the Rust's on COUNT generated jobs.
+# The listing of the proved library beside the Rust's on COUNT generated jobs.
 compare:
-	@$(HOST_RUN) --bin compare -- random $(SEED) $(COUNT)
+	@rt staticlib kit
+	@$(HOST_RUN) --package kit --bin compare -- kit random $(SEED) $(COUNT)
 
 # The recorded jobs and the listings of the examples, made again with the Rust's answers.
 record:
-	@$(HOST_RUN) --bin record
+	@$(HOST_RUN) --package compare --bin record
+
+# The listing of examples/scanning-arch.job, as the proved program prints it.
+demo:
+	@rt check kitlist >&2
+	@target/bin/kitlist < examples/scanning-arch.bytes

@@ -1,14 +1,30 @@
-// A job carried out: its catalogue's areas, the encoder's state, and the sheet from the first sheet record on.
+// A sheet carried out, from the encoder's state at the start.
+use commands::Outcome;
 use encoder::Counters;
 use reader::Record;
 use refusal::Refusal;
-use sheet::Outcome;
 use solver::Stored;
 use state::Limits;
 use tables::Counts;
+ghost use mathlib.Core.Path.{_≡_};
+ghost use Prim.Native.Nat.{_*_, _<_, _≤_};
+ghost use lib.ListN.{length, replicate};
+ghost use Rattle.rules.specs.State as rules;
+ghost use Rattle.rules.proofs.Reached.{Given};
+ghost use Rattle.cache.specs.Areas.{catalogue};
+ghost use Rattle.catalogue.specs.Walking.{UpToSheet};
+ghost use Rattle.state.specs.Layout.{held, Fits};
+ghost use Rattle.encoder.specs.Held.{LongEnough};
+ghost use Rattle.goals.specs.Goals.{Catalogued};
+ghost use Rattle.encoding.specs.Running.{Holds, Reaches};
+ghost use Rattle.carried.specs.Carrying.{Started, StepDid, SheetDid};
 
-// Variable 0 is the root; clause 0, install, is stored at the start.
+// Variable 0 is the root; clause 0, install, is stored at the start. The state area is zero.
 pub fn start(s: &mut [u8], clauses: &mut [u8], l: Limits) -> Counters
+    requires { ⌜ Fits l (length (now s)) ⌝ }
+    requires { ⌜ now s ≡ replicate (length (now s)) 0 ⌝ }
+    requires { ⌜ (0 < l .variables) × (0 < l .clauses) × (l .clauses * 20 ≤ length (now clauses)) ⌝ }
+    ensures { λ n. ⌜ Started l n (held l (now (s .exit))) (now (clauses .exit)) ⌝ }
 {
     let variables = variable_map::start(s, l);
     let install = Stored {
@@ -54,7 +70,25 @@ pub enum Step {
     Refused(Refusal),
 }
 
-fn carry_record(job: &[u8], at: usize, marks: &[u8], unions: &[u8], t: &[u8], k: Counts, s: &mut [u8], clauses: &mut [u8], w: &mut [u8], l: Limits, n: Counters) -> Step
+fn carry_record(
+    job: &[u8],
+    at: usize,
+    marks: &[u8],
+    unions: &[u8],
+    t: &[u8],
+    k: Counts,
+    s: &mut [u8],
+    clauses: &mut [u8],
+    w: &mut [u8],
+    l: Limits,
+    n: Counters,
+) -> Step
+    requires { ⌜ (at < length (now job)) × (length (now job) ≤ 65536) ⌝ }
+    requires { ⌜ Catalogued k (now marks) (now unions) (now t) ⌝ }
+    requires { ⌜ Fits l (length (now s)) ⌝ }
+    requires { ⌜ Reaches (catalogue k (now marks) (now unions) (now t)) l n (held l (now s)) (now clauses) (now w) ⌝ }
+    requires { ⌜ LongEnough l (length (now clauses)) (length (now w)) × (n .runs < 65535) ⌝ }
+    ensures { λ r. ⌜ StepDid (catalogue k (now (marks .entry)) (now (unions .entry)) (now (t .entry))) l (now (job .entry)) at n (held l (now (s .entry))) (now (clauses .entry)) (now (w .entry)) r (held l (now (s .exit))) (now (clauses .exit)) (now (w .exit)) ⌝ }
 {
     let next = at + 1 + reader::body_length(job[at]) as usize;
     match reader::record_at(job, at, true) {
@@ -69,7 +103,28 @@ fn carry_record(job: &[u8], at: usize, marks: &[u8], unions: &[u8], t: &[u8], k:
     }
 }
 
-pub fn carry_sheet(job: &[u8], from: usize, marks: &[u8], unions: &[u8], t: &[u8], k: Counts, s: &mut [u8], clauses: &mut [u8], w: &mut [u8], l: Limits, n: Counters) -> Sheet
+// The records from `from` on, the first of which is of a sheet.
+pub fn carry_sheet(
+    job: &[u8],
+    from: usize,
+    marks: &[u8],
+    unions: &[u8],
+    t: &[u8],
+    k: Counts,
+    s: &mut [u8],
+    clauses: &mut [u8],
+    w: &mut [u8],
+    l: Limits,
+    n: Counters,
+) -> Sheet
+    requires { ⌜ length (now job) ≤ 65536 ⌝ }
+    requires { ⌜ Catalogued k (now marks) (now unions) (now t) ⌝ }
+    requires { ⌜ UpToSheet (now job) from k (now marks) (now unions) (now t) ⌝ }
+    requires { ⌜ Given (catalogue k (now marks) (now unions) (now t)) ⌝ }
+    requires { ⌜ Fits l (length (now s)) ⌝ }
+    requires { ⌜ LongEnough l (length (now clauses)) (length (now w)) ⌝ }
+    requires { ⌜ Holds (catalogue k (now marks) (now unions) (now t)) l rules.start n (held l (now s)) (now clauses) (now w) ⌝ }
+    ensures { λ r. ⌜ SheetDid (catalogue k (now (marks .entry)) (now (unions .entry)) (now (t .entry))) l (now (job .entry)) from r (held l (now (s .exit))) (now (clauses .exit)) (now (w .exit)) ⌝ }
 {
     let mut at = from;
     let mut m = n;

@@ -18,33 +18,21 @@ use Rattle.rules.proofs.Room as rules
 use Rattle.rules.proofs.Grows.{stays-above, linkAll-grows}
 use Rattle.rules.proofs.Forgotten.{forget, forget-above, joinAll-forgets, linkAll-forgets}
 use Rattle.state.specs.declared.Limits.{Limits}
-use Rattle.state.proofs.Rows.{length-rows}
 use Rattle.variable_map.proofs.Laws.{count}
 use Rattle.line.specs.Line.{queued}
-use Rattle.entries.specs.Entries.{rowAt, drawnIn}
+use Rattle.entries.specs.Entries.{drawnIn}
 use Rattle.encoder.specs.declared.Counters.{Counters}
 use Rattle.encoder.specs.Held.{Reading, taskIn, openingOf, stateOf}
 use Rattle.encoder.specs.Did.{limitsOf, beyond}
-use Rattle.encoding.specs.Running.{Holds, taken}
-use Rattle.encoding.proofs.Points.{only-first}
-use Rattle.encoding.proofs.Point.{Point, taken-is, point-end}
+use Rattle.serving.specs.Line.{readingOf, taken, Point}
+use Rattle.serving.proofs.Points.{only-first}
+use Rattle.serving.proofs.Point.{taken-is, point-end}
+use Rattle.encoding.specs.Running.{Holds}
+use Rattle.encoding.proofs.Begin.{held-drawn, held-count}
 
 -- ---- the beginning
 
--- the run's tasks are read by what is decided true and drawn in the state in which it begins
-abbrev pub readingOf : State → Reading
-readingOf s = record { truth = decidedTrue s; drawn = s .opening .drawn }
-
 module _ {c : Catalogue} {l : Limits} {s : State} {n : Counters} {st : ℕ → List ℕ} {cl wt : List ℕ} (h : Holds c l s n st cl wt) where
-  -- the drawn entries, and how many
-  pub held-drawn : drawnIn l (n .drawn) wt ≡ s .opening .drawn
-  unfolding stateOf openingOf
-  held-drawn = ap (λ (u : State). u .opening .drawn) (h .is (readingOf s))
-
-  pub held-count : n .drawn ≡ length (s .opening .drawn)
-  unfolding drawnIn
-  held-count = sym (length-rows (λ i. rowAt wt (l .waiting + i)) (n .drawn)) ∙ ap length held-drawn
-
   -- the run by the counters
   pub held-run : (level : ℕ) → _≡_ {A = Run} (record { number = n .runs + 1; level = level; before = n .variables }) (runFrom level s)
   unfolding stateOf
@@ -53,6 +41,10 @@ module _ {c : Catalogue} {l : Limits} {s : State} {n : Counters} {st : ℕ → L
       let number : n .runs ≡ s .runs = ap (λ (u : State). u .runs) e in
       let before : n .variables ≡ length (s .variables) = sym (count (n .variables) st) ∙ ap (λ (u : State). length (u .variables)) e in
       rw (add-one, number, before)
+
+  -- its drawn entries
+  pub held-entries : drawnIn l (length (s .opening .drawn)) wt ≡ s .opening .drawn
+  held-entries = rw (held-count h) at (held-drawn h)
 
 -- the line begins at 0
 first-line : (c : Catalogue) (l : Limits) (s₀ : State) (v : Reading) (n : Counters) (st : ℕ → List ℕ) (cl wt : List ℕ)
@@ -88,7 +80,8 @@ any-reading c l v v′ n st cl wt = taken-is c l v n st cl wt ∙ (unfold stateO
 
 module _ {c : Catalogue} {l : Limits} {level : ℕ} {r : Run} {s₀ : State} {v : Reading} {head : ℕ} {n : Counters} {st : ℕ → List ℕ} {cl wt : List ℕ}
     (p : Point c l level r s₀ v head n st cl wt) (h : head ≡ n .tail) {s : State} (e : s ≡ forget (p .at)) where
-  joined : joinAll c r s ≡ forget (joinAll c r (p .at))
+  -- the joining does not look at what is forgotten
+  pub joined : joinAll c r s ≡ forget (joinAll c r (p .at))
   joined = ap (joinAll c r) e ∙ joinAll-forgets c r (p .at)
 
   -- the joining and the new clauses lead to the state after the run

@@ -2,10 +2,10 @@
 use mathlib.Core.Path.{_≡_}
 use mathlib.Core.Bool.{true, false}
 use mathlib.Core.List.{List, [], _∷_}
-use Prim.Native.Nat.{ℕ, suc, _+_, _≤_}
+use Prim.Native.Nat.{ℕ, suc, _+_}
 use Rattle.rules.specs.Lists.{fold}
 use Rattle.rules.specs.Catalogue.{Catalogue}
-use Rattle.rules.specs.Opening.{Opening, openOwner}
+use Rattle.rules.specs.Opening.{Opening, setAdded, openOwner}
 use Rattle.rules.specs.State.{State}
 use Rattle.rules.specs.Run.{begun, runOnce}
 use Rattle.rules.specs.Limits.{above}
@@ -18,6 +18,7 @@ use Rattle.marked.specs.Marked.{Marked}
 use Rattle.encoder.specs.declared.Counters.{Counters}
 use Rattle.encoder.specs.Held.{Reading, taskIn, stateOf, Good}
 use Rattle.encoder.specs.Did.{limitsOf}
+use Rattle.owners.specs.Owners.{GoodAlone}
 use Rattle.firing.specs.Firing.{queued}
 use Rattle.serving.specs.Line.{readingOf}
 
@@ -37,12 +38,20 @@ pub record Reaches (c : Catalogue) (l : Limits) (n : Counters) (st : ℕ → Lis
 
 -- ---- a run begins
 
+-- what holds between two steps of the state area, with some catalogue: for a step that does not read it
+pub record GoodSome (l : Limits) (n : Counters) (st : ℕ → List ℕ) : Type 0 where
+  pub catalogue : Catalogue
+  pub good : GoodAlone catalogue l n st
+
 -- each of these entries is a disjunct of a requirement
 pub record AllGiven (c : Catalogue) (es : List (ℕ × ℕ)) : Type 0 where
   pub given : Each (Entry c) es
 
 unfoldable pub openAdded : Opening → Opening
 openAdded o = fold openOwner (o .added) o
+
+unfoldable pub forgetAdded : Opening → Opening
+forgetAdded o = setAdded [] o
 
 -- the drawn entries ds, the first of which is entry e
 unfoldable pub fireFrom : Catalogue → Reading → ℕ → List (ℕ × ℕ) → Opening → Opening

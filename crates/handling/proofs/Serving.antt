@@ -43,7 +43,7 @@ module _ (c : Catalogue) (r : Run) (q : ℕ) (is : List ℕ) where
   unfolding serving
   serving-forgot s = serveTask-forgets c r (requirement q is) s ∙ sym (handled-served c r q is (forget s) refl refl)
 
-  serving-widens : (s : State) → Widens s (serving c r (requirement q is) s)
+  pub serving-widens : (s : State) → Widens s (serving c r (requirement q is) s)
   serving-widens s = rw (serving-forgot s) (from (handled-widens c r q is (forget s)))
     where
       from : {u : State} → Widens (forget s) u → Widens s u

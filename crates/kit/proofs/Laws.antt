@@ -161,9 +161,9 @@ module _ (l : Limits) (x : Lent) where
 
 -- ---- answers
 
-pub gives-accepted : Gives (record { number = 0; place = 0; length = 0; variables = 0; clauses = 0 }) (accepts 0 0 0)
+pub gives-accepts : (l v c : ℕ) → Gives (record { number = 0; place = 0; length = l; variables = v; clauses = c }) (accepts l v c)
 unfolding numbersOf answerOf answerBy
-gives-accepted = record { is = refl; means = refl }
+gives-accepts l v c = record { is = refl; means = refl }
 
 -- no refusal has the number 0
 numbered : (n at : ℕ) (f : refusals.Refusal) → (numberAndPlace n at f) .0 ≡ 0 → ⊥
@@ -193,10 +193,9 @@ gives-refused n at number place f e =
     let z : number ≡ 0 → ⊥ = λ q. numbered n at (refusalOf f) (ap (λ (x : ℕ × ℕ). x .0) (sym e) ∙ q) in
     record { is = rw (← e); means = rw (← e, ne-eqb number 0 z) }
 
-pub told-sheet : (n : ℕ) (read : Read) (at : ℕ) (k : Counts) → read ≡ Read.Sheet at k
-    → Gives (record { number = 0; place = 0; length = 0; variables = 0; clauses = 0 }) (toldOf n read)
+pub told-sheet : (n : ℕ) (read : Read) (at : ℕ) (k : Counts) (r : Answer) → read ≡ Read.Sheet at k → Gives r (accepts 0 0 0) → Gives r (toldOf n read)
 unfolding toldOf
-told-sheet n read at k e = rw e gives-accepted
+told-sheet n read at k r e g = rw e g
 
 pub told-refused : (n : ℕ) (read : Read) (f : Refusal) (at : ℕ) (r : Answer) → read ≡ Read.Refused f at
     → Gives r (refuses ((numberAndPlace n at (refusalOf f)) .0) ((numberAndPlace n at (refusalOf f)) .1)) → Gives r (toldOf n read)
@@ -252,7 +251,7 @@ catalogue-told job m u t read r x g z = rw (told-is z job read m u t x) g
 -- ---- check, on the catalogue's three areas
 
 -- whatever the listing area's length
-same-fits : (l : rules.Limits) (lent : List ℕ) (listing : ℕ) → fits (termsOf l lent listing) ≡ fits (termsOf l lent 0)
+pub same-fits : (l : rules.Limits) (lent : List ℕ) (listing : ℕ) → fits (termsOf l lent listing) ≡ fits (termsOf l lent 0)
 unfolding fits termsOf
 same-fits l lent listing = refl
 

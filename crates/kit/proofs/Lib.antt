@@ -1,1 +1,3 @@
 pub mod Laws
+pub mod Running
+pub mod Program

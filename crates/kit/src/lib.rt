@@ -8,7 +8,7 @@ ghost use Prim.Native.Nat.{_+_, _*_, _<_, _≤_};
 ghost use lib.ListN.{length};
 ghost use Rattle.rules.specs.Refusals.{numberAndPlace};
 ghost use Rattle.rules.specs.Limits.{within, allowed, covers, needed, fits};
-ghost use Rattle.rules.specs.Job.{refuses, workArea};
+ghost use Rattle.rules.specs.Job.{accepts, refuses, workArea};
 ghost use Rattle.refusal.specs.Refusing.{refusalOf};
 ghost use Rattle.kit.specs.Checking.{Ceilings, limitsOf, lentOf, termsOf, toldOf, Gives, Zeroed, Long, CatalogueChecked, Lends, Checked, fourLimits, Served};
 ghost use Rattle.kit.specs.Running.{LendsAll, Runs, Ran};
@@ -110,6 +110,18 @@ pub fn lends_enough(l: Limits, lent: Lent) -> bool
 
 // ---- answers
 
+fn accepted(length: usize, variables: usize, clauses: usize) -> Answer
+    ensures { λ r. ⌜ Gives r (accepts length variables clauses) ⌝ }
+{
+    Answer {
+        number: 0,
+        place: 0,
+        length: length as u64,
+        variables: variables as u64,
+        clauses: clauses as u64,
+    }
+}
+
 // The refusal of the record at `at`, in a job of this length.
 fn refused(length: usize, at: usize, refusal: Refusal) -> Answer
     ensures { λ r. ⌜ Gives r (refuses ((numberAndPlace length at (refusalOf refusal)) .0) ((numberAndPlace length at (refusalOf refusal)) .1)) ⌝ }
@@ -129,13 +141,7 @@ fn told(length: usize, read: Read) -> Answer
     ensures { λ r. ⌜ Gives r (toldOf length read) ⌝ }
 {
     match read {
-        Read::Sheet { at: _, counts: _ } => Answer {
-            number: 0,
-            place: 0,
-            length: 0,
-            variables: 0,
-            clauses: 0,
-        },
+        Read::Sheet { at: _, counts: _ } => accepted(0, 0, 0),
         Read::Refused { refusal, at } => refused(length, at, refusal),
     }
 }
@@ -243,13 +249,7 @@ fn told_outcome(length: usize, outcome: Outcome) -> Answer
             length: bytes,
             variables,
             clauses,
-        } => Answer {
-            number: 0,
-            place: 0,
-            length: bytes as u64,
-            variables: variables as u64,
-            clauses: clauses as u64,
-        },
+        } => accepted(bytes, variables, clauses),
         Outcome::Refused { refusal, at } => refused(length, at, refusal),
     }
 }

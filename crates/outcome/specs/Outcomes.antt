@@ -7,11 +7,13 @@ use Rattle.rules.specs.Catalogue.{Catalogue}
 use Rattle.rules.specs.Refusals.{numberAndPlace, unlessAny}
 use Rattle.rules.specs.State.{State}
 use Rattle.rules.specs.Limits.{Terms}
-use Rattle.rules.specs.Job.{accepts, refuses, answerOf, printed, ending, endedBy}
+use Rattle.rules.specs.Job.{Progress, accepts, refuses, answerOf, printed, ending, endedBy}
 use Rattle.rules.specs.Job as rules
 use Rattle.refusal.specs.Refusing.{refusalOf}
 use Rattle.state.specs.declared.Limits.{Limits}
 use Rattle.encoder.specs.declared.Counters.{Counters}
+use Rattle.encoder.specs.Did.{limitsOf}
+use Rattle.carried.specs.Carrying.{endFrom}
 use Rattle.encoding.specs.Running.{Holds}
 use Rattle.outcome.specs.declared.Outcome.{Outcome}
 use Rattle.outcome.specs.declared.Outcome.the-variants.{Accepted, Refused}
@@ -36,3 +38,7 @@ pub record Prints (c : Catalogue) (l : Limits) (n : Counters) (st : ℕ → List
 pub record Finishes (c : Catalogue) (l : Limits) (n : Counters) (st : ℕ → List ℕ) (cl wt : List ℕ) (r : Outcome) (out out′ : List ℕ) : Type 0 where
   pub is : (s : State) → Holds c l s n st cl wt → (t : Terms) (job : List ℕ) → t .listing ≡ length out
       → Comes job (endedBy t job c (unlessAny (ending t job c s) s)) r out out′
+
+-- a job from byte `at` on, where the definitions' walk has come to p
+pub record RunsFrom (l : Limits) (job : List ℕ) (at : ℕ) (p : Progress) (r : Outcome) (out out′ : List ℕ) : Type 0 where
+  pub is : (t : Terms) → t .limits ≡ limitsOf l → t .listing ≡ length out → Comes job (endFrom t job at p) r out out′

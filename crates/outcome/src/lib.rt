@@ -7,15 +7,20 @@ use state::Limits;
 use tables::Counts;
 ghost use mathlib.Core.Path.{_≡_};
 ghost use mathlib.Core.List.{[]};
+ghost use Prim.Native.Nat.{_<_, _≤_};
 ghost use lib.ListN.{length};
+ghost use Rattle.rules.specs.Catalogue.{emptyCatalogue};
+ghost use Rattle.rules.specs.Job.{reading};
+ghost use Rattle.rules.proofs.Reached.{Given};
 ghost use Rattle.cache.specs.Areas.{catalogue};
+ghost use Rattle.catalogue.specs.Walking.{UpToSheet};
 ghost use Rattle.state.specs.Layout.{held, Fits};
 ghost use Rattle.encoder.specs.Held.{LongEnough};
 ghost use Rattle.goals.specs.Goals.{Catalogued};
 ghost use Rattle.encoding.specs.Running.{Reaches};
 ghost use Rattle.text.specs.Text.{Addressable};
 ghost use Rattle.listing.specs.Listed.{Lists};
-ghost use Rattle.outcome.specs.Outcomes.{Prints, Finishes};
+ghost use Rattle.outcome.specs.Outcomes.{Prints, Finishes, RunsFrom};
 
 // What a job comes to.
 pub enum Outcome {
@@ -88,6 +93,14 @@ fn finish(marks: &[u8], unions: &[u8], t: &[u8], k: Counts, s: &[u8], clauses: &
 
 // The sheet from its first record on, and the end.
 fn run_sheet(job: &[u8], from: usize, marks: &[u8], unions: &[u8], t: &[u8], k: Counts, s: &mut [u8], clauses: &mut [u8], w: &mut [u8], l: Limits, out: &mut [u8]) -> Outcome
+    requires { ⌜ length (now job) ≤ 65536 ⌝ }
+    requires { ⌜ Catalogued k (now marks) (now unions) (now t) ⌝ }
+    requires { ⌜ UpToSheet (now job) from k (now marks) (now unions) (now t) ⌝ }
+    requires { ⌜ Given (catalogue k (now marks) (now unions) (now t)) ⌝ }
+    requires { ⌜ Fits l (length (now s)) ⌝ }
+    requires { ⌜ LongEnough l (length (now clauses)) (length (now w)) ⌝ }
+    requires { ⌜ (0 < l .variables) × (0 < l .clauses) ⌝ }
+    ensures { λ r. ⌜ RunsFrom l (now (job .entry)) from (reading (catalogue k (now (marks .entry)) (now (unions .entry)) (now (t .entry)))) r (now (out .entry)) (now (out .exit)) ⌝ }
 {
     words::clear(s);
     let n = carried::start(s, clauses, l);
@@ -98,6 +111,11 @@ fn run_sheet(job: &[u8], from: usize, marks: &[u8], unions: &[u8], t: &[u8], k: 
 }
 
 pub fn run(job: &[u8], marks: &mut [u8], unions: &mut [u8], t: &mut [u8], s: &mut [u8], clauses: &mut [u8], w: &mut [u8], l: Limits, out: &mut [u8]) -> Outcome
+    requires { ⌜ (65536 ≤ length (now marks)) × (52428 ≤ length (now unions)) × (50696 ≤ length (now t)) × (length (now job) ≤ 65536) ⌝ }
+    requires { ⌜ Fits l (length (now s)) ⌝ }
+    requires { ⌜ LongEnough l (length (now clauses)) (length (now w)) ⌝ }
+    requires { ⌜ (0 < l .variables) × (0 < l .clauses) ⌝ }
+    ensures { λ r. ⌜ RunsFrom l (now (job .entry)) 0 (reading emptyCatalogue) r (now (out .entry)) (now (out .exit)) ⌝ }
 {
     match catalogue::read_catalogue(job, marks, unions, t) {
         Read::Sheet { at, counts } => run_sheet(job, at, marks, unions, t, counts, s, clauses, w, l, out),

@@ -121,7 +121,7 @@ not-item Kind.run b i h e = not-one (cc)
 not-item Kind.decide b i h e = not-one (cc)
 not-item Kind.undo b i h e = not-one (cc)
 
-no-item : (b : ℕ) (rest : List ℕ) (i : Item) → read true b rest ≡ ok (catalogue i) → ⊥
+pub no-item : (b : ℕ) (rest : List ℕ) (i : Item) → read true b rest ≡ ok (catalogue i) → ⊥
 unfolding read kindOf
 no-item b rest i e = go (ofSheet b) (lookUp b kinds) (λ k h. looked-up rightClass b kinds k table h) e
   where

@@ -1,6 +1,8 @@
+pub mod Fired
+pub mod Tasks
 pub mod Served
-pub mod Lined
 pub mod Points
 pub mod Point
 pub mod Behind
 pub mod Passing
+pub mod Line

@@ -1,4 +1,4 @@
--- The same loop where the tasks that a task queues are counted with those still in the line (`passed`): the line then needs no premise of its own.
+-- The task at the head of the line served: the areas hold the next point of the run, or the run would end above a limit.
 use mathlib.Core.Path.{_≡_, refl, sym, _∙_, ap}
 use mathlib.Core.Bool.{true, false}
 use mathlib.Core.List.{List, [], _++_, map, append-nil}
@@ -29,51 +29,30 @@ use Rattle.encoder.specs.Held.{Reading, taskIn, openingOf, stateOf, Good}
 use Rattle.encoder.specs.Did.{limitsOf, roomOf, beyond, Did}
 use Rattle.encoder.proofs.Frames.{good-kept}
 use Rattle.owners.specs.Owners.{serving}
-use Rattle.encoding.specs.Serving.{servedAs}
-use Rattle.encoding.specs.Running.{taken}
-use Rattle.encoding.proofs.Served.{served-is}
-use Rattle.encoding.proofs.Points.{only-first, truth-at, step-room}
-use Rattle.encoding.proofs.Behind.{behindAll, serveTask-behind}
-use Rattle.encoding.proofs.Point.{Point, taken-is, serves-one, now-first}
+use Rattle.serving.specs.Serving.{servedAs}
+use Rattle.serving.specs.Line.{from, taken, Point, Serves}
+use Rattle.serving.proofs.Served.{served-is}
+use Rattle.serving.proofs.Points.{only-first, truth-at, step-room}
+use Rattle.serving.proofs.Behind.{behindAll, serveTask-behind}
+use Rattle.serving.proofs.Point.{taken-is, serves-one, now-first}
 
--- the task at `head` is taken from the line
-unfoldable pub passed : ℕ → Counters → Counters
-passed head n =
-    record {
-      variables = n .variables;
-      clauses = n .clauses;
-      literals = n .literals;
-      decisions = n .decisions;
-      owners = n .owners;
-      names = n .names;
-      several = n .several;
-      added = n .added;
-      named = n .named;
-      tracked = n .tracked;
-      waiting = n .waiting;
-      drawn = n .drawn;
-      first = head + 1;
-      tail = n .tail;
-      runs = n .runs;
-      full = n .full;
-    }
-
--- the task at `head` was served
-pub record Passes (c : Catalogue) (l : Limits) (r : Run) (drawn head : ℕ) (n : Counters) (st : ℕ → List ℕ) (cl wt : List ℕ)
-    (n′ : Counters) (st′ : ℕ → List ℕ) (cl′ wt′ : List ℕ) : Type 0 where
-  pub did : Did c l (λ v. servedAs c r (drawnIn l drawn wt) v (taskOf (lineAt head st))) (passed head n) st cl wt n′ st′ cl′ wt′
-
-pub good-passed : {c : Catalogue} {l : Limits} {head : ℕ} {n : Counters} {st : ℕ → List ℕ} {cl wt : List ℕ} → head < n .tail → Good c l n st cl wt
-    → Good c l (passed head n) st cl wt
-unfolding passed any
-good-passed {head = head} {n = n} {st = st} h g =
+pub good-from : {c : Catalogue} {l : Limits} {head : ℕ} {n : Counters} {st : ℕ → List ℕ} {cl wt : List ℕ} → head < n .tail → Good c l n st cl wt
+    → Good c l (from (head + 1) n) st cl wt
+unfolding from any
+good-from {head = head} {n = n} {st = st} h g =
     let b : head + 1 ≤ n .tail = omega arith in
     good-kept (changed-none [] st) g (search) refl refl refl refl refl (g .entries)
 
-passed-is : (c : Catalogue) (l : Limits) (v : Reading) (head : ℕ) (n : Counters) (st : ℕ → List ℕ) (cl wt : List ℕ)
-    → stateOf c l v (passed head n) st cl wt ≡ behindAll (map (taskIn c v) (queued (head + 1) (n .tail) st)) (stateOf c l v (taken n) st cl wt)
-unfolding stateOf openingOf taken passed
-passed-is c l v head n st cl wt = rw (queued-none (n .tail) st, append-nil (map (taskIn c v) (queued (head + 1) (n .tail) st)))
+-- served by its number
+pub served-next : {c : Catalogue} {l : Limits} (r : Run) {drawn : ℕ} (head x : ℕ) {n : Counters} {st : ℕ → List ℕ} {cl wt : List ℕ}
+    {n′ : Counters} {st′ : ℕ → List ℕ} {cl′ wt′ : List ℕ} → x ≡ lineAt head st
+    → Did c l (λ v. servedAs c r (drawnIn l drawn wt) v (taskOf x)) (from (head + 1) n) st cl wt n′ st′ cl′ wt′ → Serves c l r drawn head n st cl wt n′ st′ cl′ wt′
+served-next r head x e d = record { did = rw (← e) d }
+
+from-is : (c : Catalogue) (l : Limits) (v : Reading) (head : ℕ) (n : Counters) (st : ℕ → List ℕ) (cl wt : List ℕ)
+    → stateOf c l v (from (head + 1) n) st cl wt ≡ behindAll (map (taskIn c v) (queued (head + 1) (n .tail) st)) (stateOf c l v (taken n) st cl wt)
+unfolding stateOf openingOf taken from
+from-is c l v head n st cl wt = rw (queued-none (n .tail) st, append-nil (map (taskIn c v) (queued (head + 1) (n .tail) st)))
 
 module _ {c : Catalogue} {l : Limits} {level : ℕ} {s₀ : State} {v : Reading} {head : ℕ} {n : Counters} {st : ℕ → List ℕ} {cl wt : List ℕ}
     (p : Point c l level (runFrom level s₀) s₀ v head n st cl wt) (h : head < n .tail) (g : Good c l n st cl wt) where
@@ -84,22 +63,22 @@ module _ {c : Catalogue} {l : Limits} {level : ℕ} {s₀ : State} {v : Reading}
   abbrev served : State
   served = serveTask c (runFrom level s₀) (taskIn c v (lineAt head st)) (p .at)
 
-  before-is : stateOf c l v (passed head n) st cl wt ≡ behindAll rest (forget (p .at))
-  before-is = passed-is c l v head n st cl wt ∙ ap (behindAll rest) (p .is)
+  before-is : stateOf c l v (from (head + 1) n) st cl wt ≡ behindAll rest (forget (p .at))
+  before-is = from-is c l v head n st cl wt ∙ ap (behindAll rest) (p .is)
 
-  truth-before : v .truth ≡ decidedTrue (stateOf c l v (passed head n) st cl wt)
+  truth-before : v .truth ≡ decidedTrue (stateOf c l v (from (head + 1) n) st cl wt)
   truth-before = p .truth ∙ (sym (truth-at l (p .given) (p .reached) level (p .after)) ∙ (unfold decidedTrue in refl ∙ ap decidedTrue (sym before-is)))
 
   module _ {drawn : ℕ} {n′ : Counters} {st′ : ℕ → List ℕ} {cl′ wt′ : List ℕ} (e : drawn ≡ length (v .drawn)) (f : n .full ≡ false)
-      (k : Passes c l (runFrom level s₀) drawn head n st cl wt n′ st′ cl′ wt′) where
+      (k : Serves c l (runFrom level s₀) drawn head n st cl wt n′ st′ cl′ wt′) where
     entries-now : drawnIn l drawn wt ≡ v .drawn
     entries-now = rw e (p .entries)
 
-    not-full : (passed head n) .full ≡ false
-    unfolding passed
+    not-full : (from (head + 1) n) .full ≡ false
+    unfolding from
     not-full = f
 
-    served-behind : servedAs c (runFrom level s₀) (drawnIn l drawn wt) v (taskOf (lineAt head st)) (stateOf c l v (passed head n) st cl wt)
+    served-behind : servedAs c (runFrom level s₀) (drawnIn l drawn wt) v (taskOf (lineAt head st)) (stateOf c l v (from (head + 1) n) st cl wt)
         ≡ behindAll rest (forget served)
     served-behind =
         let run = runFrom level s₀ in
@@ -112,12 +91,12 @@ module _ {c : Catalogue} {l : Limits} {level : ℕ} {s₀ : State} {v : Reading}
         ∙ (ap forget (serveTask-behind rest c run task (forget (p .at))) ∙ ap (behindAll rest) (sym (serveTask-forgets c run task (p .at)))))
 
     over-here : n′ .full ≡ true → above (limitsOf l) (runOnce c level s₀) ≡ true
-    unfolding beyond roomOf passed above
+    unfolding beyond roomOf from above
     over-here full =
         let run = runFrom level s₀ in
         let a = now-first p h g in
-        let b : beyond l (roomOf l (passed head n)) (behindAll rest (forget served)) ≡ true = rw served-behind at (k .did .over (good-passed h g) not-full full v) in
-        let room = step-room l (p .given) (p .reached) level v (p .truth) (drawnIn l drawn wt) entries-now (lineAt head st) (forget (p .at)) a refl in
+        let b : beyond l (roomOf l (from (head + 1) n)) (behindAll rest (forget served)) ≡ true = rw served-behind at (k .did .over (good-from h g) not-full full v) in
+        let room = step-room l (p .given) (p .reached) level a in
         let few : length (rest ++ served .opening .line) ≤ 3649 + l .waiting - (head + 1) = omega (arith, length-append rest (served .opening .line), room) in
         stays-above (limitsOf l) (task-grows (p .given) (p .reached) level a same)
         (only-first (above (limitsOf l) served) _ _ b (le-ltb (3649 + l .waiting - (head + 1)) (length (rest ++ served .opening .line)) few)
@@ -125,10 +104,10 @@ module _ {c : Catalogue} {l : Limits} {level : ℕ} {s₀ : State} {v : Reading}
 
     module _ (f′ : n′ .full ≡ false) (size′ : length (st′ 20) ≡ 3649 + l .waiting) where
       state-is : stateOf c l v n′ st′ cl′ wt′ ≡ behindAll rest (forget served)
-      state-is = k .did .done (good-passed h g) not-full f′ v ∙ served-behind
+      state-is = k .did .done (good-from h g) not-full f′ v ∙ served-behind
 
       first-is : n′ .first ≡ head + 1
-      unfolding passed
+      unfolding from
       first-is = k .did .first
 
       line-is : map (taskIn c v) (queued (head + 1) (n′ .tail) st′) ≡ rest ++ served .opening .line
@@ -154,7 +133,7 @@ module _ {c : Catalogue} {l : Limits} {level : ℕ} {s₀ : State} {v : Reading}
 
 module _ {c : Catalogue} {l : Limits} {level : ℕ} {r : Run} {s₀ : State} {v : Reading} {head : ℕ} {n : Counters} {st : ℕ → List ℕ} {cl wt : List ℕ}
     (p : Point c l level r s₀ v head n st cl wt) {drawn : ℕ} {n′ : Counters} {st′ : ℕ → List ℕ} {cl′ wt′ : List ℕ} (e : drawn ≡ length (v .drawn))
-    (g : Good c l n st cl wt) (f : n .full ≡ false) (h : head < n .tail) (k : Passes c l r drawn head n st cl wt n′ st′ cl′ wt′) where
+    (g : Good c l n st cl wt) (f : n .full ≡ false) (h : head < n .tail) (k : Serves c l r drawn head n st cl wt n′ st′ cl′ wt′) where
   -- a task served leads to the next point
   pub pass-step : n′ .full ≡ false → length (st′ 20) ≡ 3649 + l .waiting → Point c l level r s₀ v (head + 1) n′ st′ cl′ wt′
   pass-step f′ size′ = rw (p .run) (next-here (rw (p .run) at p) h g e f (rw (p .run) at k) f′ size′)

@@ -1,8 +1,8 @@
 -- A task by its number: what the code does with it (`servedAs`) is what the run does with the task behind the number, but for what is forgotten.
 use mathlib.Core.Path.{_≡_, refl, sym, _∙_, ap}
-use mathlib.Core.Bool.{Bool, true, false, not}
+use mathlib.Core.Bool.{Bool, true, false}
 use mathlib.Core.List.{List, [], _∷_, append-nil}
-use Prim.Native.Nat.{ℕ, zero, suc, _+_, _-_, _<_, _≤_}
+use Prim.Native.Nat.{ℕ, zero, suc, _<_, _≤_}
 use native.Mathlib.Decide.{decLt}
 use native.Mathlib.Omega.{arith}
 use lib.Dec.{eqb}
@@ -14,24 +14,22 @@ use Rattle.rules.specs.Items.{ceiling}
 use Rattle.rules.specs.Variables.{withVariables}
 use Rattle.rules.specs.Opening as opening
 use Rattle.rules.specs.Opening.{Opening, queue, openName, openNames, rangesOf, fire, serveCondition, serve}
-use Rattle.rules.specs.Encoding.{served, origins, taskOrigins, clauses, taskClauses}
+use Rattle.rules.specs.Encoding.{origins, taskOrigins, clauses, taskClauses}
 use Rattle.rules.specs.State.{State, setOpening, decidedTrue, Run, effects, emit}
 use Rattle.rules.specs.Run.{serveTask}
 use Rattle.rules.proofs.WellFormed.{OwnerGiven, WellFormed}
 use Rattle.rules.proofs.Valid as rules
 use Rattle.rules.proofs.Forgotten.{fold-commutes, unless-commutes, erased, forget}
-use Rattle.rules.proofs.Capped.{addWaitings-is}
 use Rattle.marked.specs.Marked.{ownerBy, ownerOf}
 use Rattle.line.specs.declared.Task.{Task}
 use Rattle.line.specs.declared.Task.the-variants.{Owner, Name, Condition, Requirement, Constraint, Drawn}
 use Rattle.line.specs.Tasks.{taskOf}
-use Rattle.line.proofs.Tasks.{task-requirement}
 use Rattle.entries.specs.Entries.{noEntry}
 use Rattle.encoder.specs.Held.{Reading, firedNow, drawnTask, noSuch, taskFrom, taskIn}
-use Rattle.encoder.specs.Did.{onOpening}
 use Rattle.owners.specs.Owners.{serving}
-use Rattle.firing.specs.Firing.{queued, queuedIf, conditionServed}
-use Rattle.encoding.specs.Serving.{servedFired, servedDrawn, servedAs, Given, TaskGiven}
+use Rattle.firing.specs.Firing.{conditionServed}
+use Rattle.firing.proofs.Callers.{served-condition}
+use Rattle.serving.specs.Serving.{servedFired, servedDrawn, servedAs, Given, TaskGiven}
 
 -- ---- what was handled and fired, if nothing, stays nothing where a condition is served
 
@@ -59,28 +57,10 @@ condition-alone : (c : Catalogue) (r : Run) (q : ℕ) (s : State)
 unfolding serveTask emit origins taskOrigins withVariables clauses taskClauses effects serve fold
 condition-alone c r q s = rw (append-nil (s .clauses))
 
--- the requirement's task, read by what was decided when the run began
-fired-task : (c : Catalogue) (v : Reading) (q : ℕ) → q < 1024 → taskIn c v (2113 + q) ≡ opening.requirement q (firedNow c (v .truth) q)
-unfolding taskIn taskFrom
-fired-task c v q h =
-    let e : 2113 + q - 2113 ≡ q = omega arith in
-    rw (← task-requirement (2113 + q) (omega arith) (omega arith), e)
-
-queued-is : (c : Catalogue) (q : ℕ) (is : List ℕ) (o : Opening) → queuedIf c q (opening.requirement q is) is o ≡ fire c q is o
-unfolding queuedIf queued fire
-queued-is c q [] o = refl
-queued-is c q (i ∷ is) o = refl
-
 module _ (c : Catalogue) (r : Run) (v : Reading) (s : State) (t : v .truth ≡ decidedTrue s) where
   condition-is : (q : ℕ) → q < 1024 → forget s ≡ s → conditionServed c v q s ≡ serving c r (opening.condition q) s
-  condition-is q h z = as-served ∙ kept
+  condition-is q h z = served-condition c q v s h (ap (λ f. firedNow c f q) t) ∙ kept
     where
-      as-served : conditionServed c v q s ≡ setOpening (serveCondition c (decidedTrue s) q (s .opening)) s
-      as-served =
-          unfold conditionServed serveCondition onOpening firedNow in
-          rw (fired-task c v q h, t, addWaitings-is)
-          (ap (λ o. setOpening o s) (unfold firedNow in queued-is c q (firedNow c (decidedTrue s) q) _))
-
       kept : setOpening (serveCondition c (decidedTrue s) q (s .opening)) s ≡ serving c r (opening.condition q) s
       kept =
           unfold serving in

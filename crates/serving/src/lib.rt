@@ -24,7 +24,18 @@ ghost use Rattle.serving.specs.Line.{Serves, Begun, LineServed};
 // ---- tasks
 
 // Requirement q is handled for the disjuncts that hold now.
-fn serve_fired(marks: &[u8], unions: &[u8], t: &[u8], k: Counts, s: &mut [u8], clauses: &mut [u8], l: Limits, n: Counters, r: Run, q: usize) -> Counters
+fn serve_fired(
+    marks: &[u8],
+    unions: &[u8],
+    t: &[u8],
+    k: Counts,
+    s: &mut [u8],
+    clauses: &mut [u8],
+    l: Limits,
+    n: Counters,
+    r: Run,
+    q: usize,
+) -> Counters
     requires { ⌜ Catalogued k (now marks) (now unions) (now t) ⌝ }
     requires { ⌜ Fits l (length (now s)) ⌝ }
     requires { ⌜ Good (catalogue k (now marks) (now unions) (now t)) l n (held l (now s)) (now clauses) [] ⌝ }
@@ -35,14 +46,39 @@ fn serve_fired(marks: &[u8], unions: &[u8], t: &[u8], k: Counts, s: &mut [u8], c
 {
     let it = tables::requirement_at(t, k, q);
     if it.condition == 65535 {
-        return handling::serve_requirement(marks, unions, t, k, s, clauses, l, n, r, q, firing::none());
+        return handling::serve_requirement(
+            marks,
+            unions,
+            t,
+            k,
+            s,
+            clauses,
+            l,
+            n,
+            r,
+            q,
+            firing::none(),
+        );
     }
     let is = firing::judged(marks, unions, t, k, s, l, n, q, true);
     handling::serve_requirement(marks, unions, t, k, s, clauses, l, n, r, q, is)
 }
 
 // Entry e of the `drawn` ones is handled.
-fn serve_drawn(marks: &[u8], unions: &[u8], t: &[u8], k: Counts, s: &mut [u8], clauses: &mut [u8], w: &[u8], l: Limits, n: Counters, r: Run, drawn: usize, e: usize) -> Counters
+fn serve_drawn(
+    marks: &[u8],
+    unions: &[u8],
+    t: &[u8],
+    k: Counts,
+    s: &mut [u8],
+    clauses: &mut [u8],
+    w: &[u8],
+    l: Limits,
+    n: Counters,
+    r: Run,
+    drawn: usize,
+    e: usize,
+) -> Counters
     requires { ⌜ Catalogued k (now marks) (now unions) (now t) ⌝ }
     requires { ⌜ Fits l (length (now s)) ⌝ }
     requires { ⌜ Good (catalogue k (now marks) (now unions) (now t)) l n (held l (now s)) (now clauses) [] ⌝ }
@@ -55,11 +91,36 @@ fn serve_drawn(marks: &[u8], unions: &[u8], t: &[u8], k: Counts, s: &mut [u8], c
 {
     let entry = entries::drawn_at(w, l, drawn, e);
     let is = firing::pushed(firing::none(), entry.disjunct);
-    handling::serve_requirement(marks, unions, t, k, s, clauses, l, n, r, entry.requirement as usize, is)
+    handling::serve_requirement(
+        marks,
+        unions,
+        t,
+        k,
+        s,
+        clauses,
+        l,
+        n,
+        r,
+        entry.requirement as usize,
+        is,
+    )
 }
 
 // The task of this number; `drawn` entries were drawn when the run began.
-fn serve_task(marks: &[u8], unions: &[u8], t: &[u8], k: Counts, s: &mut [u8], clauses: &mut [u8], w: &mut [u8], l: Limits, n: Counters, r: Run, drawn: usize, number: u16) -> Counters
+fn serve_task(
+    marks: &[u8],
+    unions: &[u8],
+    t: &[u8],
+    k: Counts,
+    s: &mut [u8],
+    clauses: &mut [u8],
+    w: &mut [u8],
+    l: Limits,
+    n: Counters,
+    r: Run,
+    drawn: usize,
+    number: u16,
+) -> Counters
     requires { ⌜ Catalogued k (now marks) (now unions) (now t) ⌝ }
     requires { ⌜ Fits l (length (now s)) ⌝ }
     requires { ⌜ Good (catalogue k (now marks) (now unions) (now t)) l n (held l (now s)) (now clauses) (now w) ⌝ }
@@ -74,15 +135,52 @@ fn serve_task(marks: &[u8], unions: &[u8], t: &[u8], k: Counts, s: &mut [u8], cl
         Task::Name(name) => names::serve_name(marks, unions, t, k, s, clauses, l, n, r, name),
         Task::Condition(q) => firing::serve_condition(marks, unions, t, k, s, w, l, n, q),
         Task::Requirement(q) => serve_fired(marks, unions, t, k, s, clauses, l, n, r, q as usize),
-        Task::Constraint(i) => constraints::serve_constraint(marks, unions, t, k, s, clauses, l, n, r, i as usize),
-        Task::Drawn(e) => serve_drawn(marks, unions, t, k, s, clauses, w, l, n, r, drawn, e as usize),
+        Task::Constraint(i) => constraints::serve_constraint(
+            marks,
+            unions,
+            t,
+            k,
+            s,
+            clauses,
+            l,
+            n,
+            r,
+            i as usize,
+        ),
+        Task::Drawn(e) => serve_drawn(
+            marks,
+            unions,
+            t,
+            k,
+            s,
+            clauses,
+            w,
+            l,
+            n,
+            r,
+            drawn,
+            e as usize,
+        ),
     }
 }
 
 // ---- the line
 
 // The task at `head` is taken from the line; what it queues goes behind.
-fn serve_next(marks: &[u8], unions: &[u8], t: &[u8], k: Counts, s: &mut [u8], clauses: &mut [u8], w: &mut [u8], l: Limits, n: Counters, r: Run, drawn: usize, head: usize) -> Counters
+fn serve_next(
+    marks: &[u8],
+    unions: &[u8],
+    t: &[u8],
+    k: Counts,
+    s: &mut [u8],
+    clauses: &mut [u8],
+    w: &mut [u8],
+    l: Limits,
+    n: Counters,
+    r: Run,
+    drawn: usize,
+    head: usize,
+) -> Counters
     requires { ⌜ Catalogued k (now marks) (now unions) (now t) ⌝ }
     requires { ⌜ Fits l (length (now s)) ⌝ }
     requires { ⌜ Good (catalogue k (now marks) (now unions) (now t)) l n (held l (now s)) (now clauses) (now w) ⌝ }
@@ -99,7 +197,19 @@ fn serve_next(marks: &[u8], unions: &[u8], t: &[u8], k: Counts, s: &mut [u8], cl
 }
 
 // The whole line.
-pub fn serve_line(marks: &[u8], unions: &[u8], t: &[u8], k: Counts, s: &mut [u8], clauses: &mut [u8], w: &mut [u8], l: Limits, n: Counters, r: Run, drawn: usize) -> Counters
+pub fn serve_line(
+    marks: &[u8],
+    unions: &[u8],
+    t: &[u8],
+    k: Counts,
+    s: &mut [u8],
+    clauses: &mut [u8],
+    w: &mut [u8],
+    l: Limits,
+    n: Counters,
+    r: Run,
+    drawn: usize,
+) -> Counters
     requires { ⌜ Catalogued k (now marks) (now unions) (now t) ⌝ }
     requires { ⌜ Fits l (length (now s)) ⌝ }
     requires { ⌜ Good (catalogue k (now marks) (now unions) (now t)) l n (held l (now s)) (now clauses) (now w) ⌝ }

@@ -6,13 +6,34 @@ use refusal::Refusal;
 use refusal::Thing;
 use state::Limits;
 use tables::Counts;
+ghost use Prim.Native.Nat.{_<_};
+ghost use lib.ListN.{length};
+ghost use Rattle.rules.specs.Records as rules;
+ghost use Rattle.cache.specs.Areas.{catalogue};
+ghost use Rattle.state.specs.Layout.{held, Fits};
+ghost use Rattle.encoder.specs.Held.{LongEnough};
+ghost use Rattle.goals.specs.Goals.{Catalogued};
+ghost use Rattle.reader.specs.Reading.{commandOf};
+ghost use Rattle.encoding.specs.Running.{Reaches};
+ghost use Rattle.sheet.specs.Sheet.{CommandDid};
 
-fn draw(marks: &[u8], unions: &[u8], t: &[u8], k: Counts, s: &mut [u8], clauses: &mut [u8], w: &mut [u8], l: Limits, n: Counters, c: u16) -> Outcome
+fn draw(
+    marks: &[u8],
+    unions: &[u8],
+    t: &[u8],
+    k: Counts,
+    s: &mut [u8],
+    clauses: &mut [u8],
+    w: &mut [u8],
+    l: Limits,
+    n: Counters,
+    c: u16,
+) -> Outcome
     requires { ⌜ Catalogued k (now marks) (now unions) (now t) ⌝ }
     requires { ⌜ Fits l (length (now s)) ⌝ }
     requires { ⌜ Reaches (catalogue k (now marks) (now unions) (now t)) l n (held l (now s)) (now clauses) (now w) ⌝ }
     requires { ⌜ LongEnough l (length (now clauses)) (length (now w)) × (n .runs < 65535) ⌝ }
-    ensures { λ r. ⌜ CommandDid (catalogue k (now (marks .entry)) (now (unions .entry)) (now (t .entry))) l (Command.draw c) n (held l (now (s .entry))) (now (clauses .entry)) (now (w .entry)) r (held l (now (s .exit))) (now (clauses .exit)) (now (w .exit)) ⌝ }
+    ensures { λ r. ⌜ CommandDid (catalogue k (now (marks .entry)) (now (unions .entry)) (now (t .entry))) l (rules.Command.draw c) n (held l (now (s .entry))) (now (clauses .entry)) (now (w .entry)) r (held l (now (s .exit))) (now (clauses .exit)) (now (w .exit)) ⌝ }
 {
     if (c as usize) < k.conditions {
         return Outcome::Carried(commands::draw(marks, unions, t, k, s, w, l, n, c));
@@ -20,12 +41,23 @@ fn draw(marks: &[u8], unions: &[u8], t: &[u8], k: Counts, s: &mut [u8], clauses:
     Outcome::Refused(Refusal::Missing(Thing::Condition, 1))
 }
 
-fn run(marks: &[u8], unions: &[u8], t: &[u8], k: Counts, s: &mut [u8], clauses: &mut [u8], w: &mut [u8], l: Limits, n: Counters, level: u16) -> Outcome
+fn run(
+    marks: &[u8],
+    unions: &[u8],
+    t: &[u8],
+    k: Counts,
+    s: &mut [u8],
+    clauses: &mut [u8],
+    w: &mut [u8],
+    l: Limits,
+    n: Counters,
+    level: u16,
+) -> Outcome
     requires { ⌜ Catalogued k (now marks) (now unions) (now t) ⌝ }
     requires { ⌜ Fits l (length (now s)) ⌝ }
     requires { ⌜ Reaches (catalogue k (now marks) (now unions) (now t)) l n (held l (now s)) (now clauses) (now w) ⌝ }
     requires { ⌜ LongEnough l (length (now clauses)) (length (now w)) × (n .runs < 65535) ⌝ }
-    ensures { λ r. ⌜ CommandDid (catalogue k (now (marks .entry)) (now (unions .entry)) (now (t .entry))) l (Command.run level) n (held l (now (s .entry))) (now (clauses .entry)) (now (w .entry)) r (held l (now (s .exit))) (now (clauses .exit)) (now (w .exit)) ⌝ }
+    ensures { λ r. ⌜ CommandDid (catalogue k (now (marks .entry)) (now (unions .entry)) (now (t .entry))) l (rules.Command.run level) n (held l (now (s .entry))) (now (clauses .entry)) (now (w .entry)) r (held l (now (s .exit))) (now (clauses .exit)) (now (w .exit)) ⌝ }
 {
     if commands::too_low(s, l, n, level) {
         return Outcome::Refused(Refusal::LevelLow);
@@ -37,7 +69,18 @@ fn run(marks: &[u8], unions: &[u8], t: &[u8], k: Counts, s: &mut [u8], clauses: 
     Outcome::Carried(m)
 }
 
-pub fn carry_out(marks: &[u8], unions: &[u8], t: &[u8], k: Counts, s: &mut [u8], clauses: &mut [u8], w: &mut [u8], l: Limits, n: Counters, command: Command) -> Outcome
+pub fn carry_out(
+    marks: &[u8],
+    unions: &[u8],
+    t: &[u8],
+    k: Counts,
+    s: &mut [u8],
+    clauses: &mut [u8],
+    w: &mut [u8],
+    l: Limits,
+    n: Counters,
+    command: Command,
+) -> Outcome
     requires { ⌜ Catalogued k (now marks) (now unions) (now t) ⌝ }
     requires { ⌜ Fits l (length (now s)) ⌝ }
     requires { ⌜ Reaches (catalogue k (now marks) (now unions) (now t)) l n (held l (now s)) (now clauses) (now w) ⌝ }
@@ -48,7 +91,11 @@ pub fn carry_out(marks: &[u8], unions: &[u8], t: &[u8], k: Counts, s: &mut [u8],
         Command::Add(owner) => commands::add(k, s, l, n, owner),
         Command::Draw(c) => draw(marks, unions, t, k, s, clauses, w, l, n, c),
         Command::Run(level) => run(marks, unions, t, k, s, clauses, w, l, n, level),
-        Command::Decide { variable, value, level } => commands::decide(s, l, n, variable, value, level),
+        Command::Decide {
+            variable,
+            value,
+            level,
+        } => commands::decide(s, l, n, variable, value, level),
         Command::Undo(level) => commands::undo(s, l, n, level),
     }
 }

@@ -12,6 +12,11 @@ pub fn model() -> PathBuf {
     repository().join("../shared/model")
 }
 
+/// The program that replays recorded jobs.
+pub fn replay() -> PathBuf {
+    repository().join("crates/replay")
+}
+
 /// The texts of the examples.
 pub fn examples() -> Vec<PathBuf> {
     let directory = fs::read_dir(repository().join("examples")).expect("examples");

@@ -23,6 +23,8 @@ const GENERATED: usize = 120;
 const GENERATED_SEED: u64 = 4;
 const MOST_BYTES: usize = 260;
 const MOST_LISTING: usize = 1_200;
+/// No longer job is replayed: so all of them together fit into 64 KiB.
+const MOST_REPLAYED: usize = 4_096;
 
 pub fn jobs() -> Vec<RecordedJob> {
     let mut jobs = witnesses();
@@ -31,6 +33,23 @@ pub fn jobs() -> Vec<RecordedJob> {
     jobs.extend(ceilings());
     jobs.extend(generated());
     jobs
+}
+
+/// What the program `replay` reads, and what it prints: the recorded jobs that are run as `kitlist`
+/// runs them, each behind its length in four bytes, and their answers.
+pub fn replay<'a>(
+    answered: impl Iterator<Item = (&'a RecordedJob, &'a Answer)>,
+) -> (Vec<u8>, String) {
+    let (mut input, mut output) = (Vec::new(), String::new());
+    for (RecordedJob { request, .. }, answer) in answered {
+        let job = &request.job;
+        if job.len() <= MOST_REPLAYED && *request == Request::kitlist(job.clone()) {
+            input.extend((job.len() as u32).to_le_bytes());
+            input.extend(job);
+            output += &answer.to_string();
+        }
+    }
+    (input, output)
 }
 
 fn kitlist(name: impl Into<String>, job: Vec<u8>) -> RecordedJob {

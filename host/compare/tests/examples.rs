@@ -1,4 +1,4 @@
-//! The examples: their texts give the listings that stand beside them.
+//! The examples: their texts give the bytes and the listings that stand beside them.
 
 use std::fs;
 
@@ -22,10 +22,11 @@ const WORDS: [&str; 9] = [
 ];
 
 #[test]
-fn texts_give_their_listings() {
+fn texts_give_their_bytes_and_listings() {
     for file in paths::examples() {
         let text = fs::read_to_string(&file).expect("a text");
         let job = text::read(&text, &mut Rust).unwrap_or_else(|error| panic!("{error}"));
+        assert_eq!(fs::read(file.with_extension("bytes")).expect("a job"), job);
         let listing = fs::read_to_string(file.with_extension("listing")).expect("a listing");
         let printed = Rust.answer(&Request::kitlist(job.clone())).to_string();
         assert_eq!(printed, listing, "{}", file.display());

@@ -40,6 +40,15 @@ fn the_list_is_what_record_makes() {
 }
 
 #[test]
+fn replay_reads_and_prints_what_is_recorded() {
+    let (jobs, requests) = (read_jobs(&recorded("jobs.txt")), requests());
+    let (input, output) = recording::replay(jobs.iter().zip(&Rust.answers(&requests)));
+    assert!(input.len() <= 65_536);
+    assert!(fs::read(paths::replay().join("stdin")).expect("stdin") == input);
+    assert_eq!(fs::read_to_string(paths::replay().join("stdout")).expect("stdout"), output);
+}
+
+#[test]
 fn witnesses_have_the_answers_that_stand_beside_them() {
     let answers = read_answers(&recorded("answers.txt"));
     let mut witnesses = 0;

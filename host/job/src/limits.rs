@@ -1,4 +1,4 @@
-//! The four limits of a job, their ceilings, and those of `kitlist`.
+//! The four limits of a job, their ceilings, and those of `kitlist` and of a branch.
 
 /// A job is at most this long.
 pub const JOB_CEILING: usize = 65_536;
@@ -17,6 +17,9 @@ impl Limits {
 
     pub const KITLIST: Limits =
         Limits { variables: 1_024, clauses: 2_048, condition_literals: 1_024, waiting: 256 };
+
+    pub const BRANCH: Limits =
+        Limits { variables: 256, clauses: 512, condition_literals: 256, waiting: 64 };
 
     pub fn from_array(values: [u32; 4]) -> Self {
         let [variables, clauses, condition_literals, waiting] = values;

@@ -2,8 +2,8 @@
 
 use job::limits::Limits;
 
-/// Bytes behind each area that a call must leave as they are.
-const GUARD: usize = 64;
+/// So many bytes behind each area must stay as they are.
+pub const GUARD: usize = 64;
 const GUARD_BYTE: u8 = 0xA5;
 
 pub struct Areas {

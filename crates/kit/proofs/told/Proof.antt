@@ -7,6 +7,9 @@ use Rattle.kit.proofs.told.Tie as tie
 enum-told : tie.Need-enum-told
 enum-told c = search needs
 
+accepted-requires : tie.Need-accepted-requires
+accepted-requires c κs = search needs
+
 enum-known-read : tie.Need-enum-known-read
 enum-known-read c = search needs
 
@@ -20,4 +23,6 @@ returns-2 : tie.Need-returns-2
 returns-2 c = search (needs, told-refused)
 
 pub told-spec : {M : Type 1} → statement M
-told-spec = tie.close (tie.spec enum-told enum-known-read refused-requires returns returns-2)
+told-spec =
+    tie.close
+    (tie.spec enum-told accepted-requires enum-known-read refused-requires returns returns-2)

@@ -1,5 +1,5 @@
-//! Makes recorded/jobs.txt, recorded/answers.txt and the listings of the examples again, with the
-//! Rust's answers.
+//! Makes recorded/jobs.txt, recorded/answers.txt, what `replay` reads and prints, and the bytes and
+//! listings of the examples again, with the Rust's answers.
 
 use std::fs;
 
@@ -30,6 +30,9 @@ fn record_jobs() {
     fs::write(directory.join("jobs.txt"), HEADING.to_string() + &lines).expect("jobs.txt");
     fs::write(directory.join("answers.txt"), answers_text(jobs.iter().zip(&answers)))
         .expect("answers.txt");
+    let (input, output) = recording::replay(jobs.iter().zip(&answers));
+    fs::write(paths::replay().join("stdin"), input).expect("stdin");
+    fs::write(paths::replay().join("stdout"), output).expect("stdout");
     println!("{} jobs recorded", jobs.len());
 }
 
@@ -38,6 +41,7 @@ fn record_examples() {
         let text = fs::read_to_string(&file).expect("a text");
         let job = text::read(&text, &mut Rust)
             .unwrap_or_else(|error| panic!("{}, {error}", file.display()));
+        fs::write(file.with_extension("bytes"), &job).expect("a job");
         let listing = Rust.answer(&Request::kitlist(job)).to_string();
         fs::write(file.with_extension("listing"), listing).expect("a listing");
     }

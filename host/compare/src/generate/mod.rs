@@ -3,6 +3,7 @@
 pub mod catalogue;
 pub mod damaged;
 pub mod edges;
+pub mod limits;
 pub mod sheet;
 pub mod short;
 
@@ -18,6 +19,12 @@ use crate::random::Random;
 /// So many jobs under a seed.
 pub fn random(seed: u64, count: usize) -> impl Iterator<Item = Request> {
     (0..).flat_map(move |at| step(seed, at)).take(count)
+}
+
+/// As [`random`], most of them under other limits or with other listing areas.
+pub fn varied(seed: u64, count: usize) -> impl Iterator<Item = Request> {
+    let jobs = random(seed, count).zip(0..);
+    jobs.map(move |(request, at)| limits::varied(&mut Random::new(!seed, at), request))
 }
 
 /// The jobs of one step; a step that damages a job gives many.

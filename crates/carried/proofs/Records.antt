@@ -1,0 +1,156 @@
+-- One record of a sheet: a step of the definitions' walk, or its refusal.
+use mathlib.Core.Path.{_≡_, refl, sym, _∙_, ap}
+use mathlib.Core.Bool.{Bool, true, not, _||_}
+use mathlib.Core.List.{List}
+use Prim.Native.Nat.{ℕ, _+_, _-_, _<_, _≤_}
+use native.Mathlib.Omega.{arith}
+use lib.Dec.{leb}
+use lib.ListN.{length, getD, drop, length-drop}
+use borrow.Author.Tests.{leb-true}
+use Rattle.rules.specs.Compute.{computing}
+use Rattle.rules.specs.Lists.{all}
+use Rattle.rules.specs.Catalogue.{Catalogue}
+use Rattle.rules.specs.Refusals.{ok, refuse, numberAndPlace}
+use Rattle.rules.specs.Refusals as rules
+use Rattle.rules.specs.Records.{Kind, kinds, kindOf, ofSheet, Command, sheet, read}
+use Rattle.rules.specs.State.{State}
+use Rattle.rules.specs.Limits.{Terms}
+use Rattle.rules.specs.Sheet.{commandRefusals, carriedOut, carryOut}
+use Rattle.rules.specs.Job.{carrying, stopped, bodyOf, walk, afterCommand, afterRecord, runStep, startsSheet, refused, ended}
+use Rattle.rules.proofs.KindTable.{not-one, looked-up}
+use Rattle.rules.proofs.WalkLaws.{walk-record, walk-still, read-ok, read-sheet, run-reads}
+use Rattle.rules.proofs.Reached.{unlessAny-ok, Given, Reached, command, no-item}
+use Rattle.refusal.specs.declared.Refusal.{Refusal}
+use Rattle.refusal.specs.Refusing.{refusalOf}
+use Rattle.reader.specs.declared.Item.{Item}
+use Rattle.reader.specs.declared.Command as code
+use Rattle.reader.specs.declared.Record.{Record}
+use Rattle.reader.specs.declared.Record.the-variants as R
+use Rattle.reader.specs.Reading.{itemOf, commandOf, resultOf, bodyLength}
+use Rattle.reader.proofs.Laws.{body-read}
+use Rattle.state.specs.declared.Limits.{Limits}
+use Rattle.encoder.specs.declared.Counters.{Counters}
+use Rattle.encoder.specs.Did.{limitsOf}
+use Rattle.encoding.specs.Running.{Holds}
+use Rattle.commands.specs.declared.Outcome.{Outcome}
+use Rattle.commands.specs.declared.Outcome.the-variants as outcome
+use Rattle.sheet.specs.Sheet.{CommandDid}
+use Rattle.carried.specs.declared.Step.the-variants as Step
+use Rattle.carried.specs.Carrying.{endFrom, Passed, StepDid}
+
+-- ---- a sheet record has three bytes or more
+
+abbrev long : ℕ × Kind × ℕ → Bool
+long e = not (ofSheet (e .0)) || leb 2 (e .2)
+
+table : all long kinds ≡ true
+unfolding computing
+table = refl
+
+-- its body
+sheet-body : (b : ℕ) (rest : List ℕ) (o : Command) → read true b rest ≡ ok (sheet o) → 2 ≤ bodyOf (kindOf b)
+unfolding kindOf bodyOf startsSheet
+sheet-body b rest o e =
+    let r = read-ok true b rest (sheet o) e in
+    let s : ofSheet b ≡ true = rw (r .found) at (read-sheet true b rest o e) in
+    let t : (not (ofSheet b) || leb 2 (r .body)) ≡ true = looked-up long b kinds (r .kind, r .body) table (r .found) in
+    rw (r .found) (leb-true 2 (r .body) (rw s at t))
+
+-- ---- by the definitions
+
+-- a command that is carried out reaches a state
+then-reached : {l : _} {c : Catalogue} {s s′ : State} → Reached l c s → (o : Command) → carryOut l c o s ≡ ok s′ → Reached l c s′
+unfolding carryOut
+then-reached {l} {c} {s} {s′} r o e = let p = unlessAny-ok (commandRefusals l c o s) (carriedOut l c o s) s′ e in rw (p .1) at (command r o (p .0))
+
+module _ (l : Limits) (job : List ℕ) (at : ℕ) (h : at < length job) (c : Catalogue) (s : State) (t : Terms) (q : t .limits ≡ limitsOf l) where
+  abbrev kind : ℕ
+  kind = getD job at 0
+
+  abbrev rest : List ℕ
+  rest = drop (at + 1) job
+
+  stops : (n : ℕ × ℕ) → runStep t job at kind rest (carrying c s) ≡ stopped n → endFrom t job at (carrying c s) ≡ refused n
+  unfolding endFrom ended
+  stops n e =
+      ap (ended t job) (walk-record (runStep t job) job at (carrying c s) h ∙ ap (walk (runStep t job) 0 _ _) e ∙ walk-still (runStep t job) (stopped n) (run-reads t job .over n) 0 _ _)
+
+  unread : (f : rules.Refusal) → read true kind rest ≡ refuse f → endFrom t job at (carrying c s) ≡ refused (numberAndPlace (length job) at f)
+  unfolding runStep afterRecord
+  unread f e = stops _ (rw e)
+
+  module _ (o : Command) (e : read true kind rest ≡ ok (sheet o)) where
+    not-carried : (f : rules.Refusal) → carryOut (limitsOf l) c o s ≡ refuse f → endFrom t job at (carrying c s) ≡ refused (numberAndPlace (length job) at f)
+    unfolding runStep afterRecord afterCommand
+    not-carried f d = stops _ (rw (e, q, d))
+
+    goes-on : (s′ : State) (next : ℕ) → next ≡ at + 1 + bodyOf (kindOf kind) → carryOut (limitsOf l) c o s ≡ ok s′
+        → endFrom t job at (carrying c s) ≡ endFrom t job next (carrying c s′)
+    unfolding endFrom
+    goes-on s′ next n d = ap (ended t job) (walk-record (runStep t job) job at (carrying c s) h ∙ rw (n, step))
+      where
+        step : runStep t job at kind rest (carrying c s) ≡ carrying c s′
+        step = unfold runStep afterRecord afterCommand in rw (e, q, d)
+
+-- ---- the code's record
+
+module _ {c : Catalogue} {l : Limits} {job : List ℕ} {at : ℕ} {n : Counters} {st : ℕ → List ℕ} {cl wt : List ℕ} {st′ : ℕ → List ℕ} {cl′ wt′ : List ℕ} where
+  refuses : (f : Refusal)
+      → ((s : State) → Given c → Reached (limitsOf l) c s → Holds c l s n st cl wt → (t : Terms) → t .limits ≡ limitsOf l
+      → endFrom t job at (carrying c s) ≡ refused (numberAndPlace (length job) at (refusalOf f)))
+      → StepDid c l job at n st cl wt (Step.Refused f) st′ cl′ wt′
+  refuses f p =
+      record {
+        next = λ a m e. absurd (not-one (cc));
+        refused = λ g e. let q : g ≡ f = cc in rw q p;
+      }
+
+module _ {c : Catalogue} {l : Limits} (job : List ℕ) (at : ℕ) {n : Counters} {st : ℕ → List ℕ} {cl wt : List ℕ} (x : Record) (h : at < length job)
+    (e : resultOf x ≡ read true (getD job at 0) (drop (at + 1) job)) where
+  pub step-unread : (f : Refusal) → x ≡ R.Refused f → StepDid c l job at n st cl wt (Step.Refused f) st cl wt
+  unfolding resultOf
+  step-unread f q = refuses f (λ s _ _ _ t p. unread l job at h c s t p (refusalOf f) (sym (rw q at e)))
+
+  -- after a sheet record nothing is read as an item
+  pub step-item : (i : Item) (f : Refusal) → x ≡ R.Catalogue i → StepDid c l job at n st cl wt (Step.Refused f) st cl wt
+  unfolding resultOf
+  step-item i f q = absurd (no-item (getD job at 0) (drop (at + 1) job) (itemOf i) (sym (rw q at e)))
+
+  module _ (k : code.Command) (q : x ≡ R.Sheet k) {st′ : ℕ → List ℕ} {cl′ wt′ : List ℕ} {r : Outcome} (d : CommandDid c l (commandOf k) n st cl wt r st′ cl′ wt′) where
+    is-read : read true (getD job at 0) (drop (at + 1) job) ≡ ok (sheet (commandOf k))
+    unfolding resultOf
+    is-read = sym (rw q at e)
+
+    pub step-refused : (f : Refusal) → r ≡ outcome.Refused f → StepDid c l job at n st cl wt (Step.Refused f) st′ cl′ wt′
+    step-refused f y = refuses f (λ s g z o t p. not-carried l job at h c s t p (commandOf k) is-read (refusalOf f) (d .refused f y s g z o))
+
+    behind : (b : ℕ) → b ≡ bodyLength (getD job at 0) → at + 1 + b ≡ at + 1 + bodyOf (kindOf (getD job at 0))
+    behind b u = rw (body-read true (getD job at 0) (drop (at + 1) job) _ is-read, u)
+
+    whole : (b : ℕ) → b ≡ bodyLength (getD job at 0) → at + 1 + b ≤ length job
+    unfolding bodyOf
+    whole b u =
+        let a = read-ok true (getD job at 0) (drop (at + 1) job) (sheet (commandOf k)) is-read in
+        let w : a .body ≤ length job - (at + 1) = rw length-drop at (a .whole) in
+        let z : at + 1 + b ≡ at + 1 + a .body = behind b u ∙ rw (a .found) in
+        omega (arith, h)
+
+    pub step-carried : (b : ℕ) (m : Counters) → b ≡ bodyLength (getD job at 0) → r ≡ outcome.Carried m → StepDid c l job at n st cl wt (Step.Next (at + 1 + b) m) st′ cl′ wt′
+    step-carried b m u y =
+        record {
+          next = λ a m′ v. let i : a ≡ at + 1 + b = cc in let j : m′ ≡ m = cc in rw (i, j) passed;
+          refused = λ f v. absurd (not-one (cc));
+        }
+      where
+        passed : (s : State) → Given c → Reached (limitsOf l) c s → Holds c l s n st cl wt → Passed c l job at (at + 1 + b) s n m st′ cl′ wt′
+        passed s g z o =
+            let x = d .carried m y s g z o in
+            record {
+              onward = omega (arith, behind b u, sheet-body (getD job at 0) (drop (at + 1) job) (commandOf k) is-read);
+              inside = whole b u;
+              runs = x .runs;
+              state = x .state;
+              reached = then-reached z (commandOf k) (x .is);
+              holds = x .holds;
+              alike = λ t p. goes-on l job at h c s t p (commandOf k) is-read (x .state) (at + 1 + b) (behind b u) (x .is);
+            }

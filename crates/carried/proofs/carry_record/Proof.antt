@@ -1,0 +1,98 @@
+-- `carried::carry_record` takes one step of the walk, or gives the refusal of the record.
+use borrow.Author.Needs.{needs}
+use Rattle.carried.proofs.Records.{step-unread, step-item, step-refused, step-carried}
+use Rattle.carried.proofs.carry_record.Statement.{statement}
+use Rattle.carried.proofs.carry_record.Tie as tie
+
+add-next : tie.Need-add-next
+add-next c = search needs
+
+shared-slice-read-body-length : tie.Need-shared-slice-read-body-length
+shared-slice-read-body-length c = search needs
+
+body-length-requires : tie.Need-body-length-requires
+body-length-requires c κs = search needs
+
+cast-next : tie.Need-cast-next
+cast-next c = search needs
+
+add-next-2 : tie.Need-add-next-2
+add-next-2 c = search needs
+
+record-at-requires : tie.Need-record-at-requires
+record-at-requires c κs = search needs
+
+enum-known-refusal : tie.Need-enum-known-refusal
+enum-known-refusal c = search needs
+
+enum-told : tie.Need-enum-told
+enum-told c = search needs
+
+enum-known-command : tie.Need-enum-known-command
+enum-known-command c = search needs
+
+carry-out-requires : tie.Need-carry-out-requires
+carry-out-requires c κs = search needs
+
+enum-known-counters : tie.Need-enum-known-counters
+enum-known-counters c = search needs
+
+enum-known-refusal-2 : tie.Need-enum-known-refusal-2
+enum-known-refusal-2 c = search needs
+
+returns : tie.Need-returns
+returns c = search (needs, step-unread)
+
+returns-2 : tie.Need-returns-2
+returns-2 c = search (needs, step-item)
+
+same-length : tie.Need-same-length
+same-length c = search needs
+
+same-length-2 : tie.Need-same-length-2
+same-length-2 c = search needs
+
+same-length-3 : tie.Need-same-length-3
+same-length-3 c = search needs
+
+returns-3 : tie.Need-returns-3
+returns-3 c = step-carried _ _ _ (c .before .before .before .before .before .before .before .before .before .before .before .before .before .before .before .before .before .before .before .before .before .before .before .before .before .before .pre .0 .0) (c .before .before .before .before .before .before .before .before .before .before .before .before .before .before .before .before .record-at .ensures) _ (search needs) (c .before .before .before .before .before .before .before .before .before .carry-out .ensures) _ _ (c .before .before .before .before .before .before .before .before .before .before .before .before .before .before .before .before .before .body-length .ensures) (search needs)
+
+same-length-4 : tie.Need-same-length-4
+same-length-4 c = search needs
+
+same-length-5 : tie.Need-same-length-5
+same-length-5 c = search needs
+
+same-length-6 : tie.Need-same-length-6
+same-length-6 c = search needs
+
+returns-4 : tie.Need-returns-4
+returns-4 c = search (needs, step-refused)
+
+pub carry-record-spec : {M : Type 1} → statement M
+carry-record-spec =
+    tie.close
+    (tie.spec
+    add-next
+    shared-slice-read-body-length
+    body-length-requires
+    cast-next
+    add-next-2
+    record-at-requires
+    enum-known-refusal
+    enum-told
+    enum-known-command
+    carry-out-requires
+    enum-known-counters
+    enum-known-refusal-2
+    returns
+    returns-2
+    same-length
+    same-length-2
+    same-length-3
+    returns-3
+    same-length-4
+    same-length-5
+    same-length-6
+    returns-4)

@@ -1,0 +1,80 @@
+-- `carried::carry_sheet`: what is left of the job ends as the whole sheet does, at each turn and at the end. The measure is what is left of the job.
+use borrow.Author.Needs.{needs}
+use Prim.Native.Nat.{_-_}
+use lib.ListN.{length}
+use Rattle.cache.specs.Areas.{catalogue}
+use Rattle.carried.proofs.Sheets.{Left, left-start, left-fits, left-reaches, left-long, left-few, left-next, left-less, left-refused, left-end}
+use Rattle.carried.proofs.carry_sheet.Statement.{statement}
+use Rattle.carried.proofs.carry_sheet.Tie as tie
+
+abbrev Inv-loop : tie.InvT-loop
+Inv-loop job from marks unions t k s₀ clauses₀ w₀ l at₀ m₀ s clauses w at m = Left (catalogue k marks unions t) l job from s₀ clauses₀ w₀ at m s clauses w
+
+abbrev μ-loop : tie.MeasureT-loop
+μ-loop job from marks unions t k s₀ clauses₀ w₀ l at₀ m₀ s clauses w at m = length job - at
+
+loop-holds : tie.Need-loop-holds Inv-loop μ-loop
+loop-holds c = search (needs, left-start)
+
+carry-record-requires : tie.Need-carry-record-requires Inv-loop μ-loop
+carry-record-requires c κs = let p = (c .before .before .before .before .before .before .before .before .before .before .before .before .pre) in
+    let x = (c .before .before .before .before .loop .inv) in
+    let h = (c .before .before .before .loop-test .taken) in
+    ((h, p .0), (p .1 .0, (left-fits x (p .1 .1 .1 .1 .0), (left-reaches x (p .1 .1 .1 .0), (left-long x (p .1 .1 .1 .1 .1 .0), left-few x h (p .0))))))
+
+enum-known-next : tie.Need-enum-known-next Inv-loop μ-loop
+enum-known-next c = search needs
+
+loop-less : tie.Need-loop-less Inv-loop μ-loop
+loop-less c = search (needs, left-less (c .before .before .before .before .before .before .before .before .before .before .before .before .before .before .loop .inv) _ (c .before .before .before .before .before .before .before .before .before .before .before .before .before .before .before .before .before .before .before .before .before .before .pre .1 .1 .1 .0) (c .before .before .before .before .before .before .before .before .before .carry-record .ensures))
+
+loop-again : tie.Need-loop-again Inv-loop μ-loop
+loop-again c = left-next (c .before .before .before .before .before .before .before .before .before .before .before .before .before .before .loop .inv) _ (c .before .before .before .before .before .before .before .before .before .before .before .before .before .before .before .before .before .before .before .before .before .before .pre .1 .1 .1 .0) (c .before .before .before .before .before .before .before .before .before .carry-record .ensures) _ _ (search needs) (search needs) (search needs) (search needs)
+
+enum-known-refusal : tie.Need-enum-known-refusal Inv-loop μ-loop
+enum-known-refusal c = search needs
+
+same-length : tie.Need-same-length Inv-loop μ-loop
+same-length c = search needs
+
+same-length-2 : tie.Need-same-length-2 Inv-loop μ-loop
+same-length-2 c = search needs
+
+same-length-3 : tie.Need-same-length-3 Inv-loop μ-loop
+same-length-3 c = search needs
+
+returns : tie.Need-returns Inv-loop μ-loop
+returns c = left-refused (c .before .before .before .before .before .before .before .before .before .before .before .before .before .before .loop .inv) _ (c .before .before .before .before .before .before .before .before .before .before .before .before .before .before .before .before .before .before .before .before .before .before .pre .1 .1 .1 .0) (c .before .before .before .before .before .before .before .before .before .carry-record .ensures) _ (search needs)
+
+same-length-4 : tie.Need-same-length-4 Inv-loop μ-loop
+same-length-4 c = search needs
+
+same-length-5 : tie.Need-same-length-5 Inv-loop μ-loop
+same-length-5 c = search needs
+
+same-length-6 : tie.Need-same-length-6 Inv-loop μ-loop
+same-length-6 c = search needs
+
+returns-2 : tie.Need-returns-2 Inv-loop μ-loop
+returns-2 c = search (needs, left-end)
+
+pub carry-sheet-spec : {M : Type 1} → statement M
+carry-sheet-spec =
+    tie.close
+    (tie.spec
+    Inv-loop
+    μ-loop
+    loop-holds
+    carry-record-requires
+    enum-known-next
+    loop-less
+    loop-again
+    enum-known-refusal
+    same-length
+    same-length-2
+    same-length-3
+    returns
+    same-length-4
+    same-length-5
+    same-length-6
+    returns-2)

@@ -1,0 +1,58 @@
+-- `sheet::run` carries a run out, or refuses a level that is too low or a run that would end above a limit.
+use borrow.Author.Needs.{needs}
+use Rattle.sheet.proofs.Running.{run-low, run-full, run-done}
+use Rattle.sheet.proofs.run.Statement.{statement}
+use Rattle.sheet.proofs.run.Tie as tie
+
+too-low-requires : tie.Need-too-low-requires
+too-low-requires c κs = search needs
+
+same-length : tie.Need-same-length
+same-length c = search needs
+
+returns : tie.Need-returns
+returns c = search (needs, run-low)
+
+run-once-requires : tie.Need-run-once-requires
+run-once-requires c κs = search needs
+
+same-length-2 : tie.Need-same-length-2
+same-length-2 c = search needs
+
+same-length-3 : tie.Need-same-length-3
+same-length-3 c = search needs
+
+same-length-4 : tie.Need-same-length-4
+same-length-4 c = search needs
+
+returns-2 : tie.Need-returns-2
+returns-2 c = search (needs, run-full)
+
+same-length-5 : tie.Need-same-length-5
+same-length-5 c = search needs
+
+same-length-6 : tie.Need-same-length-6
+same-length-6 c = search needs
+
+same-length-7 : tie.Need-same-length-7
+same-length-7 c = search needs
+
+returns-3 : tie.Need-returns-3
+returns-3 c = search (needs, run-done)
+
+pub run-spec : {M : Type 1} → statement M
+run-spec =
+    tie.close
+    (tie.spec
+    too-low-requires
+    same-length
+    returns
+    run-once-requires
+    same-length-2
+    same-length-3
+    same-length-4
+    returns-2
+    same-length-5
+    same-length-6
+    same-length-7
+    returns-3)
