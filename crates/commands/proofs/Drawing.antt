@@ -42,8 +42,8 @@ use Rattle.encoder.specs.declared.Counters.{Counters}
 use Rattle.encoder.specs.Held.{Reading, openingOf, stateOf, Good}
 use Rattle.encoder.specs.Did.{limitsOf, onOpening}
 use Rattle.encoder.proofs.Frames.{good-kept}
-use Rattle.goals.specs.Goals.{trueOf}
-use Rattle.commands.specs.Commands.{AllGiven, Draws}
+use Rattle.goals.specs.Goals.{trueOf, AllGiven}
+use Rattle.commands.specs.Commands.{Draws}
 
 -- ---- one entry: is it drawn?
 
@@ -148,14 +148,6 @@ draw-end {c} {l} {k} {n} {st} {i} {j} {d} {wt} {wt′} r h = record { good = goo
     state cl v = unfold stateOf openingOf onOpening draw decidedTrue trueOf in rw (draining-end r h .waiting, draining-end r h .drawn)
 
 -- ---- for callers
-
--- the entries of a valid state
-pub all-given : {c : Catalogue} {es : List (ℕ × ℕ)} → All (Entry c) es → AllGiven c es
-all-given {c} {es} a = record { given = go es a }
-  where
-    go : (xs : List (ℕ × ℕ)) → All (Entry c) xs → Each (Entry c) xs
-    go [] p = Each.nil
-    go (x ∷ xs) p = Each.cons (p .0) (go xs (p .1))
 
 -- the command, carried out or refused
 module _ (l : Limits) (c : Catalogue) (k : ℕ) where

@@ -28,10 +28,6 @@ use Rattle.encoder.specs.Did.{limitsOf, onOpening}
 use Rattle.commands.specs.declared.Outcome.{Outcome}
 use Rattle.commands.specs.declared.Outcome.the-variants.{Carried, Refused}
 
--- each of these entries is a disjunct of a requirement
-pub record AllGiven (c : Catalogue) (es : List (ℕ × ℕ)) : Type 0 where
-  pub given : Each (Entry c) es
-
 -- between two records the state area changed from st to st′, and the state by F
 pub record ChangesOf (c : Catalogue) (l : Limits) (F : State → State) (n : Counters) (st : ℕ → List ℕ) (cl wt : List ℕ) (n′ : Counters) (st′ : ℕ → List ℕ) : Type 0 where
   pub good : Good c l n st cl wt → Good c l n′ st′ cl wt

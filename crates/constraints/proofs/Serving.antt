@@ -31,10 +31,10 @@ use Rattle.variable_map.proofs.Places.{known-after}
 use Rattle.marked.specs.Marked.{ownerOf}
 use Rattle.encoder.specs.declared.Counters.{Counters}
 use Rattle.encoder.specs.Did.{ClausesDid, PlainDid}
+use Rattle.encoder.proofs.Steps.{state-then-clauses}
 use Rattle.parts.specs.declared.Naming.the-variants.{Variable}
 use Rattle.parts.specs.declared.Adding.the-variants.{Constrains, AuxOut}
 use Rattle.parts.specs.Parts.{namingOf, clauseFor, addingOf}
-use Rattle.parts.proofs.Steps.{state-then-clauses}
 use Rattle.parts.proofs.Clauses.{adds-are}
 use Rattle.parts.proofs.Serving.{names-are, task-served}
 use Rattle.owners.specs.Owners.{ownerIs, serving}

@@ -23,19 +23,19 @@ use Rattle.variable_map.proofs.Laws.{count}
 use Rattle.variable_map.proofs.Places.{place-known, place-unknown}
 use Rattle.encoder.specs.declared.Counters.{Counters}
 use Rattle.encoder.specs.declared.Run.{Run}
-use Rattle.encoder.specs.Held.{runOf, Reading, stateOf}
+use Rattle.encoder.specs.Held.{runOf, Reading, stateOf, GoodAlone, KnownUnlessFull}
 use Rattle.encoder.specs.Did.{Widens, Looked, StateDid, ClausesDid, PlainDid}
 use Rattle.encoder.proofs.Did.{widens-then, widens-fold, did-as, did-then, did-stop}
 use Rattle.encoder.proofs.Widening.{widens-when, addVariable-widens, addClause-widens}
 use Rattle.cache.specs.declared.Choice.the-variants.{NonMatching}
+use Rattle.encoder.proofs.Steps.{clauses-same, state-then, state-then-clauses, not-full, variables-after, still-known}
 use Rattle.clauses.specs.Adding.{Adds}
 use Rattle.parts.specs.declared.Parts.the-variants.{Chosen}
 use Rattle.parts.specs.declared.Naming.the-variants.{Variable}
 use Rattle.parts.specs.declared.Adding.{Adding}
 use Rattle.parts.specs.declared.Adding.the-variants.{Constrains, AuxOut}
-use Rattle.parts.specs.Parts.{partsFor, namingOf, addingOf, AllKnown, GoodAlone}
+use Rattle.parts.specs.Parts.{partsFor, namingOf, addingOf}
 use Rattle.parts.proofs.Selecting.{non-matching-parts}
-use Rattle.parts.proofs.Steps.{clauses-same, state-then, state-then-clauses, not-full, variables-after, still-known}
 use Rattle.constraints.specs.Constraints.{Knows, constrainFew, addViolation, constrainMany}
 
 -- ---- origins that have their variables
@@ -62,10 +62,10 @@ pub looked-below : {l : Limits} (n : ℕ) (st : ℕ → List ℕ) {x : ℕ} (w :
     → known (variables n st) o ≡ true → x < l .variables
 looked-below n st w i m k h = omega (arith, m .room, k .below (rw i h), count n st)
 
-pub non-matching-known : (c : Catalogue) (r : ℕ) {full : Bool} {vs : List Origin} → AllKnown full vs (nonMatching c r) → AllKnown full vs (partsFor c (Chosen r NonMatching))
+pub non-matching-known : (c : Catalogue) (r : ℕ) {full : Bool} {vs : List Origin} → KnownUnlessFull full vs (nonMatching c r) → KnownUnlessFull full vs (partsFor c (Chosen r NonMatching))
 non-matching-known c r a = rw (non-matching-parts c r) a
 
-pub known-non-matching : (c : Catalogue) (r : ℕ) {full : Bool} {vs : List Origin} → AllKnown full vs (partsFor c (Chosen r NonMatching)) → AllKnown full vs (nonMatching c r)
+pub known-non-matching : (c : Catalogue) (r : ℕ) {full : Bool} {vs : List Origin} → KnownUnlessFull full vs (partsFor c (Chosen r NonMatching)) → KnownUnlessFull full vs (nonMatching c r)
 known-non-matching c r a = rw (non-matching-parts c r) at a
 
 -- ---- the steps

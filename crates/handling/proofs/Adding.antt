@@ -35,9 +35,9 @@ use Rattle.encoder.specs.Held.{runOf, Reading, literalsIn, goalVariables, state
 use Rattle.encoder.specs.Did.{Widens, filled, Did, ClausesDid, PlainDid}
 use Rattle.encoder.proofs.Did.{widens-then, did-as, did-then, did-stop}
 use Rattle.encoder.proofs.Widening.{addClause-widens}
+use Rattle.encoder.proofs.Steps.{clauses-none, variables-after}
 use Rattle.clauses.specs.Adding.{Adds, AddsRequires, AddsGated}
 use Rattle.clauses.proofs.Added.{requires-over}
-use Rattle.parts.proofs.Steps.{clauses-none, variables-after}
 use Rattle.handling.specs.Handling.{Found, Named, Pushes, addDirect, addGate, addThroughGate, addFired}
 use Rattle.handling.proofs.Handled.{clause-variables}
 use Rattle.handling.proofs.Widening.{direct-widens, gate-widens, through-gate-widens, fired-widens}

@@ -25,9 +25,10 @@ use Rattle.regions.specs.Regions.{sizeOf}
 use Rattle.state.specs.declared.Limits.{Limits}
 use Rattle.state.specs.Layout.{sizes, held, Fits}
 use Rattle.state.proofs.Changed.{length-held}
+use Rattle.variable_map.specs.Mapping.{AllKnown}
 use Rattle.marked.specs.Marked.{listed}
 use Rattle.encoder.specs.Held.{literalIn, literalsIn}
-use Rattle.goals.specs.Goals.{falseOf, AllKnown}
+use Rattle.goals.specs.Goals.{falseOf}
 use Rattle.goals.proofs.Parts.{all-both}
 use Rattle.handling.specs.Handling.{literalFalse, Named, AtHand}
 

@@ -37,12 +37,12 @@ use Rattle.cache.proofs.Laws.{parts-held, ranges-held, range-missing, range-nam
 use Rattle.state.specs.declared.Limits.{Limits}
 use Rattle.state.specs.Layout.{held, Fits}
 use Rattle.variable_map.specs.declared.Origin as Origins
-use Rattle.variable_map.specs.Mapping.{originOf, inTables, variables, Mapped}
+use Rattle.variable_map.specs.Mapping.{originOf, inTables, variables, Mapped, AllKnown}
 use Rattle.variable_map.proofs.Laws as variables
 use Rattle.encoder.specs.declared.Counters.{Counters}
 use Rattle.encoder.specs.Held.{GoodState}
 use Rattle.encoder.specs.Did.{Looked}
-use Rattle.goals.specs.Goals.{Catalogued, AllKnown}
+use Rattle.goals.specs.Goals.{Catalogued}
 use Rattle.handling.specs.Handling.{Pushes, partLiterals, RangeKnown, DisjunctKnown}
 use Rattle.handling.proofs.Pushing.{push-none, push-then, push-good, push-variables}
 use Rattle.handling.proofs.Named.{range-in, range-one}

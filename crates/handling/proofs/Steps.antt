@@ -26,9 +26,9 @@ use Rattle.encoder.specs.declared.Counters.{Counters}
 use Rattle.encoder.specs.Held.{Reading, stateOf, Good}
 use Rattle.encoder.specs.Did.{StateDid, ClausesDid, PlainDid}
 use Rattle.encoder.proofs.Did.{widens-fold, did-as, did-stop}
+use Rattle.encoder.proofs.Steps.{clauses-same, clauses-none, state-then, clauses-then, state-then-clauses, state-clauses, good-later, variables-after, still-known}
 use Rattle.parts.specs.declared.Naming.the-variants.{Candidate}
 use Rattle.parts.specs.Parts.{namingOf}
-use Rattle.parts.proofs.Steps.{clauses-same, clauses-none, state-then, clauses-then, state-then-clauses, state-clauses, good-later, variables-after, still-known}
 use Rattle.firing.specs.declared.Indices.{Indices}
 use Rattle.firing.specs.Firing.{indicesIn}
 use Rattle.naming.specs.Naming.{nameDisjuncts, GivenIndices}

@@ -28,9 +28,9 @@ use Rattle.cache.specs.Lists.{asked, chosen, choice}
 use Rattle.cache.proofs.Laws.{parts-held}
 use Rattle.catalogue.specs.Reading.{Kept}
 use Rattle.variable_map.specs.declared.Origin.{Origin}
-use Rattle.variable_map.specs.Mapping.{originOf, inTables}
+use Rattle.variable_map.specs.Mapping.{originOf, inTables, AllKnown}
 use Rattle.encoder.specs.Did.{Looked}
-use Rattle.listing.specs.Listed.{texts, partText, chosenText, AllKnown}
+use Rattle.listing.specs.Listed.{texts, partText, chosenText}
 use Rattle.listing.proofs.Printing.{Printing, printing-end, concatMap-append}
 
 -- ---- the literals of parts

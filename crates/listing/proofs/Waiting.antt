@@ -29,7 +29,8 @@ use Rattle.state.specs.declared.Limits.{Limits}
 use Rattle.entries.specs.declared.Entry as entries
 use Rattle.entries.specs.Entries.{noEntry, entryOf, waitingIn}
 use Rattle.encoder.proofs.Frames.{waiting-counted}
-use Rattle.listing.specs.Listed.{ownerBut, entryFields, entryText, conditionText, AllGiven}
+use Rattle.goals.specs.Goals.{AllGiven}
+use Rattle.listing.specs.Listed.{ownerBut, entryFields, entryText, conditionText}
 use Rattle.listing.proofs.Printing.{Printing, printing-end}
 
 -- ---- an entry's fields and its line

@@ -131,14 +131,6 @@ pub record Ready (k : Counts) (m u t : List ℕ) (l : Limits) (n : Counters) (b 
   pub mapped : Mapped l (n .variables) (held l b)
   pub addressable : Addressable room
 
--- each of these parts has a variable
-pub record AllKnown (vs : List Origin) (ps : List ℕ) : Type 0 where
-  pub known : Each (λ p. known vs (partOrigin p) ≡ true) ps
-
--- each of these entries is a disjunct of a requirement
-pub record AllGiven (c : Catalogue) (es : List (ℕ × ℕ)) : Type 0 where
-  pub given : Each (Entry c) es
-
 -- the stored rows can be printed
 pub record GoodRows (c : Catalogue) (l : Limits) (n : Counters) (st : ℕ → List ℕ) (cl : List ℕ) : Type 0 where
   pub few : n .clauses ≤ 16384

@@ -16,8 +16,8 @@ use Rattle.marked.specs.Marked.{listed, Marked}
 use Rattle.marked.proofs.Laws.{length-listed}
 use Rattle.encoder.specs.declared.Counters.{Counters}
 use Rattle.encoder.specs.Did.{StateDid}
-use Rattle.parts.specs.Parts.{GoodAlone}
-use Rattle.parts.proofs.Steps.{state-same, state-none, state-then, alone-after}
+use Rattle.encoder.specs.Held.{GoodAlone}
+use Rattle.encoder.proofs.Steps.{state-same, state-none, state-then, alone-after}
 
 -- the first j numbers of xs have had their step
 pub record Passed (c : Catalogue) (l : Limits) (f : ℕ → State → State) (xs : List ℕ) (n₀ : Counters) (s₀ : List ℕ) (n : Counters) (s : List ℕ) (j : ℕ) : Type 0 where

@@ -25,6 +25,7 @@ use Rattle.variable_map.specs.declared.Origin as code
 use Rattle.variable_map.specs.Mapping.{originOf, inTables}
 use Rattle.encoder.specs.declared.Counters.{Counters}
 use Rattle.encoder.specs.Did.{StateDid, PlainDid}
+use Rattle.encoder.proofs.Steps.{state-same, state-then}
 use Rattle.goals.specs.Goals.{Catalogued}
 use Rattle.owners.proofs.Names.{range-low}
 use Rattle.parts.specs.declared.Parts.the-variants.{Chosen}
@@ -32,7 +33,6 @@ use Rattle.parts.specs.declared.Naming.the-variants.{Tracked, Candidate}
 use Rattle.parts.specs.Parts.{selectedOf, partsFor, namingOf}
 use Rattle.parts.proofs.Lists.{filter-both}
 use Rattle.parts.proofs.Selecting.{non-matching-parts}
-use Rattle.parts.proofs.Steps.{state-same, state-then}
 use Rattle.naming.specs.Naming.{nameParts, nameRange}
 
 module _ (c : Catalogue) (r : ℕ) where

@@ -17,9 +17,10 @@ ghost use Rattle.cache.specs.Areas.{catalogue};
 ghost use Rattle.state.specs.Layout.{held, Fits};
 ghost use Rattle.marked.specs.Marked.{listed, Marked};
 ghost use Rattle.encoder.specs.Did.{StateDid};
+ghost use Rattle.encoder.specs.Held.{GoodAlone};
 ghost use Rattle.goals.specs.Goals.{Catalogued};
 ghost use Rattle.parts.specs.declared.Naming.the-variants.{Candidate};
-ghost use Rattle.parts.specs.Parts.{namingOf, GoodAlone};
+ghost use Rattle.parts.specs.Parts.{namingOf};
 ghost use Rattle.firing.specs.Firing.{indicesIn};
 ghost use Rattle.naming.specs.Naming.{nameRange, nameDisjuncts, GivenIndices};
 

@@ -29,8 +29,7 @@ use Rattle.entries.specs.Entries.{rowAt, waitingIn, drawnIn}
 use Rattle.encoder.specs.declared.Counters.{Counters}
 use Rattle.encoder.specs.Held.{Reading, openingOf, stateOf}
 use Rattle.encoder.proofs.Frames.{clauses-counted}
-use Rattle.listing.specs.Listed.{AllGiven, Lists}
-use Rattle.commands.proofs.Drawing.{all-given}
+use Rattle.listing.specs.Listed.{Lists}
 use Rattle.encoding.specs.Running.{Holds, Reaches}
 use Rattle.outcome.specs.declared.Outcome.{Outcome}
 use Rattle.outcome.specs.declared.Outcome.the-variants.{Accepted, Refused}
@@ -147,12 +146,6 @@ module _ {c : Catalogue} {l : Limits} {n : Counters} {st : ℕ → List ℕ} {cl
               rw (measured room (listing c s) [] [] m (wrote-is k w) g, variables-count k, clauses-count k)
               (printed-whole c s t job a d (omega (arith, q, e)) (written out (listing c s) out′ r (rw (e, same) at (wrote-is k v)) z))
         }
-
--- the entries that wait are disjuncts of requirements
-pub waits-given : {c : Catalogue} {l : Limits} {n : Counters} {st : ℕ → List ℕ} {cl wt : List ℕ} → Reaches c l n st cl wt → AllGiven c (waitingIn l (n .waiting) wt)
-unfolding stateOf openingOf
-waits-given {c} r =
-    record { given = rw (ap (λ (u : State). u .opening .waiting) (areas (r .holds))) (all-given (valid (r .given) (r .reached) .opening .waiting) .given) }
 
 -- a pass that is lent nothing writes nothing
 pub lent-none : {c : Catalogue} {l : Limits} {n : Counters} {st : ℕ → List ℕ} {cl wt : List ℕ} {room r : ℕ} {x : List ℕ} (out : List ℕ) → length x ≡ 0

@@ -106,11 +106,8 @@ module _ {c : Catalogue} {l : Limits} {job : List ℕ} {from : ℕ} {st′ : ℕ
 
 -- ---- lengths
 
-pub fits-same : {l : Limits} {m n : ℕ} → m ≡ n → Fits l n → Fits l m
-fits-same e f = rw e f
-
-pub long-same : {l : Limits} {m n i j : ℕ} → m ≡ n → i ≡ j → LongEnough l n j → LongEnough l m i
-long-same e d f = rw (e, d) f
+pub long-both : {l : Limits} {m n i j : ℕ} → m ≡ n → i ≡ j → LongEnough l n j → LongEnough l m i
+long-both e d f = rw (e, d) f
 
 -- an area that was cleared is zero
 pub zero-still : {xs : List ℕ} {n : ℕ} → xs ≡ replicate n 0 → length xs ≡ n → xs ≡ replicate (length xs) 0

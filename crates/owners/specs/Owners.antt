@@ -27,11 +27,6 @@ ownerIs o = items.ownerOf o
 pub record OwnerNumber (o : ℕ) : Type 0 where
   pub low : (o ≡ 65535 → ⊥) → o < 1024
 
--- what holds between two steps, of the state area and some clauses: a step of the state area alone keeps it, whichever they are
-pub record GoodAlone (c : Catalogue) (l : Limits) (n : Counters) (st : ℕ → List ℕ) : Type 0 where
-  pub clauses : List ℕ
-  pub good : Good c l n st clauses []
-
 -- record i, if it is this owner's
 unfoldable pub ruleOf : Catalogue → Reading → Rule → Owner → ℕ → Opening → Opening
 ruleOf c v OpenRequirement o q = when (sameOwner o (ownerAt c q) && unconditional c q) (openNames c (rangesOf c q))

@@ -7,13 +7,7 @@ use native.Mathlib.Omega.{arith}
 use Rattle.rules.specs.Lists.{filter, fold, when, upTo}
 use Rattle.rules.proofs.MemberLaws.{filter-append}
 use Rattle.rules.proofs.DistinctEnough.{fold-append}
-use Rattle.line.proofs.Masks.{upTo-split}
-
-upTo-more : (p : ℕ) → upTo 0 (p + 1) ≡ upTo 0 p ++ (p ∷ [])
-unfolding upTo
-upTo-more p =
-    let e : 0 + p ≡ p = omega arith in
-    rw e at (upTo-split 0 p 1)
+use Rattle.rules.proofs.ListLaws.{upTo-last}
 
 module _ {S : Type 0} (f : ℕ → Bool) (g : ℕ → S → S) where
   one : (p : ℕ) (s : S) → fold g (filter f (p ∷ [])) s ≡ when (f p) (g p) s
@@ -30,7 +24,7 @@ module _ {S : Type 0} (f : ℕ → Bool) (g : ℕ → S → S) where
 
   pub fold-more : (p : ℕ) (s : S) → when (f p) (g p) (fold g (filter f (upTo 0 p)) s) ≡ fold g (filter f (upTo 0 (p + 1))) s
   fold-more p s =
-      sym (rw (upTo-more p, filter-append f (upTo 0 p) (p ∷ []), fold-append g (filter f (upTo 0 p)) (filter f (p ∷ [])) s) (one p (fold g (filter f (upTo 0 p)) s)))
+      sym (rw (upTo-last p, filter-append f (upTo 0 p) (p ∷ []), fold-append g (filter f (upTo 0 p)) (filter f (p ∷ [])) s) (one p (fold g (filter f (upTo 0 p)) s)))
 
 -- those of a filtered list that pass another test
 pub filter-both : {A : Type 0} (f g : A → Bool) (xs : List A) → filter f (filter g xs) ≡ filter (λ (x : A). g x && f x) xs

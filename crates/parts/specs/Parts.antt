@@ -62,12 +62,3 @@ Settable l (Adding.AuxOut y) = y < l .variables
 pub record CanAdd (l : Limits) (r : Run) (a : Adding) : Type 0 where
   pub number : 0 < r .number
   pub settable : Settable l a
-
--- each of these parts has a variable, if it is not full
-pub record AllKnown (full : Bool) (vs : List Origin) (ps : List ℕ) : Type 0 where
-  pub known : full ≡ false → Each (λ p. known vs (partOrigin p) ≡ true) ps
-
--- what holds between two steps, of the state area and some clauses: a step of the state area alone keeps it, whichever they are
-pub record GoodAlone (c : Catalogue) (l : Limits) (n : Counters) (st : ℕ → List ℕ) : Type 0 where
-  pub clauses : List ℕ
-  pub good : Good c l n st clauses []

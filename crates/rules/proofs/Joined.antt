@@ -17,11 +17,12 @@ use Rattle.rules.specs.Run.{joinsFrom}
 use Rattle.rules.specs.Called.{_∈_}
 use Rattle.rules.proofs.Grows.{withVariables-prefix}
 use Rattle.rules.proofs.Known.{prefix-self, prefix-length, below-known}
-use Rattle.rules.proofs.MemberLaws.{of-snoc, last-in, length-snoc, of-listIf, in-listIf, map-place, length-upTo, upTo-place, in-upTo, of-upTo}
+use Rattle.rules.proofs.MemberLaws.{of-snoc, last-in, length-snoc, of-listIf, in-listIf, map-place, upTo-place, in-upTo, of-upTo}
 use Rattle.rules.proofs.TrackedOf.{of-trackedOf, in-trackedOf, more-tracked, same-place, own-name, other-name}
 use Rattle.rules.proofs.JoinClauses.{more-helpers, join-only, join-every}
 use Rattle.rules.proofs.EmitLaws.{variablesAfter, clausesOf, variablesAfterAll, clausesOfAll}
 use Rattle.rules.proofs.Encoded.{helperCount, Named, by-start, by-task, by-joining, as-helper, bitClause, oneClause, Linked, Source, of-start, of-task, of-bit, of-one, Encoded, stored-moved, numbered-step, stored-step}
+use Rattle.rules.proofs.ListLaws.{length-upTo}
 
 -- ---- helper j of a name with k tracked parts
 

@@ -9,7 +9,7 @@ use native.Mathlib.Omega.{arith}
 use lib.ListN.{length, getD, drop}
 use Rattle.rules.specs.Lists.{filter, listIf, concatMap, upTo}
 use Rattle.rules.specs.Called.{_∈_}
-use Rattle.rules.proofs.ListLaws.{All, all-append}
+use Rattle.rules.proofs.ListLaws.{All, all-append, length-upTo}
 
 module _ {A : Type 0} where
   -- ---- one more at the end
@@ -142,11 +142,6 @@ module _ {A : Type 0} (P : A → Type 0) where
   all-concatMap f (x ∷ xs) h = all-append P (f x) (concatMap f xs) (h x (List·Memᴰ·head refl)) (all-concatMap f xs (λ y m. h y (List·Memᴰ·tail m)))
 
 -- ---- the numbers from i on
-
-pub length-upTo : (i n : ℕ) → length (upTo i n) ≡ n
-unfolding upTo
-length-upTo i zero = refl
-length-upTo i (suc n) = ap suc (length-upTo (suc i) n)
 
 pub upTo-place : (i n m : ℕ) → m < n → getD (upTo i n) m 0 ≡ i + m
 unfolding upTo
