@@ -9,10 +9,9 @@ use Rattle.rules.specs.Clause.{Clause}
 use Rattle.rules.specs.Catalogue.{Catalogue}
 use Rattle.rules.specs.Variables.{Origin}
 use Rattle.rules.specs.Opening.{Opening}
-use Rattle.rules.specs.State.{State, setClauses, Run}
+use Rattle.rules.specs.State.{State, Run}
 use Rattle.rules.proofs.Bools.{by-cases}
 use Rattle.rules.proofs.DistinctEnough.{fold-append}
-use Rattle.rules.proofs.Effects.{effect-is, effect-leaves}
 use Rattle.rules.proofs.Capped.{addVariable}
 use Rattle.rules.proofs.ClauseByClause.{addClause}
 use Rattle.tables.specs.declared.Counts.{Counts}
@@ -28,7 +27,7 @@ use Rattle.encoder.specs.declared.Run as code
 use Rattle.encoder.specs.Held.{runOf, Reading, openingOf, stateOf, Good, LongEnough}
 use Rattle.encoder.specs.Did.{Widens, PlainDid}
 use Rattle.encoder.proofs.Did.{widens-same, widens-fold, did-nothing, did-as, did-then, did-stop}
-use Rattle.encoder.proofs.Widening.{addVariable-widens, addClause-widens}
+use Rattle.encoder.proofs.Widening.{addVariable-widens, addClause-widens, addClause-variables, addClause-opening}
 use Rattle.encoder.proofs.Steps.{good-waiting}
 use Rattle.clauses.specs.Adding.{CanAdd, Adds}
 use Rattle.clauses.proofs.Adding.{good-can-add}
@@ -257,23 +256,15 @@ module _ {n n′ : Counters} {st st′ : ℕ → List ℕ} (a : Same n st n′ s
 
 -- an added clause leaves them
 module _ (r : Run) where
-  clause-opening : (k : Clause) (s : State) → (addClause r k s) .opening ≡ s .opening
-  unfolding addClause
-  clause-opening k s = effect-leaves (effect-is r (length (s .clauses)) k (setClauses (snoc (s .clauses) k) s)) .opening
-
-  clause-variables : (k : Clause) (s : State) → (addClause r k s) .variables ≡ s .variables
-  unfolding addClause
-  clause-variables k s = effect-leaves (effect-is r (length (s .clauses)) k (setClauses (snoc (s .clauses) k) s)) .variables
-
   pub clauses-opening : (ks : List Clause) (s : State) → (fold (addClause r) ks s) .opening ≡ s .opening
   unfolding fold
   clauses-opening [] s = refl
-  clauses-opening (k ∷ ks) s = clauses-opening ks (addClause r k s) ∙ clause-opening k s
+  clauses-opening (k ∷ ks) s = clauses-opening ks (addClause r k s) ∙ addClause-opening r k s
 
   pub clauses-variables : (ks : List Clause) (s : State) → (fold (addClause r) ks s) .variables ≡ s .variables
   unfolding fold
   clauses-variables [] s = refl
-  clauses-variables (k ∷ ks) s = clauses-variables ks (addClause r k s) ∙ clause-variables k s
+  clauses-variables (k ∷ ks) s = clauses-variables ks (addClause r k s) ∙ addClause-variables r k s
 
 module _ {c : Catalogue} {l : Limits} {n n′ : Counters} {st st′ : ℕ → List ℕ} {cl cl′ : List ℕ} where
   -- what the areas show of the state after F
@@ -293,7 +284,7 @@ module _ {c : Catalogue} {l : Limits} {n n′ : Counters} {st st′ : ℕ → Li
   clauses-same {r} {ks} m g e = same-after (clauses-opening (runOf r) ks) (clauses-variables (runOf r) ks) (m .is c) g e
 
   pub clause-same : {r : code.Run} {k : Clause} → Adds l r k n st cl n′ st′ cl′ → Good c l n st cl [] → n′ .full ≡ false → Same n st n′ st′
-  clause-same {r} {k} a g e = same-after (clause-opening (runOf r) k) (clause-variables (runOf r) k) (adds-makes c a) g e
+  clause-same {r} {k} a g e = same-after (addClause-opening (runOf r) k) (addClause-variables (runOf r) k) (adds-makes c a) g e
 
 module _ {l : Limits} {n n′ : Counters} {st st′ : ℕ → List ℕ} {cl cl′ : List ℕ} where
   pub some-after : {r : code.Run} {k : Clause} → GoodSome l n st cl → Adds l r k n st cl n′ st′ cl′ → GoodSome l n′ st′ cl′

@@ -1,7 +1,7 @@
 -- The entries of a condition that hold are drawn.
 use mathlib.Core.Path.{_≡_, refl, sym, _∙_, ap}
 use mathlib.Core.Bool.{Bool, true, false, cond, true≢false}
-use mathlib.Core.List.{List, [], _∷_}
+use mathlib.Core.List.{List, []}
 use mathlib.Core.Option.{none, some}
 use Prim.Native.Nat.{ℕ, _+_, _<_, _≤_}
 use native.Mathlib.Omega.{arith}
@@ -18,8 +18,7 @@ use Rattle.rules.specs.Items.{conditionOf, given, absent}
 use Rattle.rules.specs.Opening.{holdsNow, entryHolds, isDrawn, draw}
 use Rattle.rules.specs.State.{State, decidedTrue}
 use Rattle.rules.specs.Sheet.{commandRefusals, carriedOut, carryOut}
-use Rattle.rules.proofs.ListLaws.{All}
-use Rattle.rules.proofs.Each.{Each, each-at}
+use Rattle.rules.proofs.Each.{each-at}
 use Rattle.rules.proofs.WellFormed.{ConditionGiven, WellFormed}
 use Rattle.rules.proofs.Valid.{Entry}
 use Rattle.refusal.specs.declared.Refusal.the-variants.{Missing}

@@ -14,8 +14,6 @@ use Rattle.rules.specs.Decisions.{evaluate, isFalsified, isUndecided}
 use Rattle.rules.specs.Opening as opening
 use Rattle.rules.specs.State.{State, setDecisions, decidedTrue}
 use Rattle.rules.specs.Sheet.{carryOut}
-use Rattle.rules.proofs.Each.{Each}
-use Rattle.rules.proofs.Valid.{Entry}
 use Rattle.refusal.specs.declared.Refusal.{Refusal}
 use Rattle.refusal.specs.declared.Refusal.the-variants.{DecidedAgainst}
 use Rattle.refusal.specs.Refusing.{refusalOf}

@@ -1,6 +1,6 @@
 -- A constraint's task: what its steps do together.
 use mathlib.Core.Path.{_≡_, refl, sym, _∙_, ap}
-use mathlib.Core.Bool.{Bool, true, false, not, _||_}
+use mathlib.Core.Bool.{Bool, true, false, not}
 use mathlib.Core.List.{List, [], _∷_, _++_, map}
 use Prim.Native.Nat.{ℕ, _<_, _≤_}
 use native.Mathlib.Omega.{arith}
@@ -19,6 +19,7 @@ use Rattle.rules.proofs.Each.{unless-cases}
 use Rattle.rules.proofs.DistinctEnough.{fold-append}
 use Rattle.rules.proofs.ClauseByClause.{addClause, emit-one-by-one}
 use Rattle.rules.proofs.Capped.{addVariable}
+use Rattle.rules.proofs.Bools.{or-none}
 use Rattle.tables.specs.declared.Counts.{Counts}
 use Rattle.tables.specs.declared.Constraint as code
 use Rattle.tables.specs.Tables.{tables, constraintIs}
@@ -57,10 +58,6 @@ apart : (r : ℕ) (o : Owner) → sameOrigin (violation r) (chosen o) ≡ false
 unfolding key sameKey
 apart r root = refl
 apart r (part p) = refl
-
-or-none : (a : Bool) → (a || false) ≡ a
-or-none true = refl
-or-none false = refl
 
 same-violation : (vs : List Origin) (o : Owner) (r : ℕ) → known (withVariable (chosen o) vs) (violation r) ≡ known vs (violation r)
 unfolding withVariable

@@ -19,7 +19,7 @@ ghost use Rattle.rules.proofs.WellFormed.{WellFormed};
 ghost use Rattle.cache.specs.Areas.{catalogue};
 ghost use Rattle.catalogue.specs.Reading.{Kept};
 ghost use Rattle.state.specs.Layout.{held, Fits};
-ghost use Rattle.variable_map.specs.Mapping.{originOf, variables};
+ghost use Rattle.variable_map.specs.Mapping.{variables};
 ghost use Rattle.marked.specs.Marked.{ownerOf};
 ghost use Rattle.encoder.specs.Held.{runOf, LongEnough, Good, KnownUnlessFull};
 ghost use Rattle.encoder.specs.Did.{ClausesDid};

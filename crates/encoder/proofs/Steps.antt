@@ -1,5 +1,5 @@
 -- For callers too: steps of the state area, and of it and the clauses', one after another; what they keep.
-use mathlib.Core.Path.{_≡_, sym, _∙_, ap, subst}
+use mathlib.Core.Path.{_≡_, refl, sym, _∙_, ap, subst}
 use mathlib.Core.Bool.{true, false, true≢false}
 use mathlib.Core.List.{List, []}
 use Prim.Native.Nat.{ℕ}
@@ -10,10 +10,11 @@ use Rattle.rules.proofs.Bools.{by-cases}
 use Rattle.rules.proofs.Each.{each-imp}
 use Rattle.rules.proofs.Grows.{Prefix}
 use Rattle.rules.proofs.Places.{keeps-variable}
+use Rattle.rules.proofs.Forgotten.{forget}
 use Rattle.state.specs.declared.Limits.{Limits}
 use Rattle.variable_map.specs.Mapping.{variables}
 use Rattle.encoder.specs.declared.Counters.{Counters}
-use Rattle.encoder.specs.Held.{Reading, stateOf, Good, GoodAlone, KnownUnlessFull, LongEnough}
+use Rattle.encoder.specs.Held.{Reading, openingOf, stateOf, Good, GoodAlone, KnownUnlessFull, LongEnough}
 use Rattle.encoder.specs.Did.{Widens, Did, StateDid, ClausesDid}
 use Rattle.encoder.proofs.Did.{did-as, did-then, did-idle, widens-same}
 
@@ -112,3 +113,17 @@ module _ {c : Catalogue} {l : Limits} {F : Reading → State → State} {n n′ 
   pub known-later : {cl cl′ : List ℕ} → ClausesDid c l F n st cl n′ st′ cl′ → Good c l n st cl [] → KnownUnlessFull (n .full) (variables (n .variables) st) ps
       → KnownUnlessFull (n′ .full) (variables (n′ .variables) st′) ps
   known-later d g a = did-known (d .is []) g a
+
+-- ---- what was handled and fired is not kept
+
+pub forget-widens : {s s′ : State} → Widens s s′ → Widens s (forget s′)
+forget-widens w =
+    record {
+      grows = record { variables = w .grows .variables; clauses = w .grows .clauses; waiting = w .grows .waiting };
+      line = w .line;
+      several = w .several;
+    }
+
+pub nothing-kept : (c : Catalogue) (l : Limits) (v : Reading) (n : Counters) (st : ℕ → List ℕ) (cl wt : List ℕ) → forget (stateOf c l v n st cl wt) ≡ stateOf c l v n st cl wt
+unfolding stateOf openingOf
+nothing-kept c l v n st cl wt = refl

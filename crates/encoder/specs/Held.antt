@@ -2,13 +2,13 @@
 use mathlib.Core.Path.{_≡_}
 use mathlib.Core.Bool.{Bool, true, false, cond}
 use mathlib.Core.List.{List, [], _∷_, _++_, map}
-use Prim.Native.Nat.{ℕ, suc, _+_, _-_, _*_, _/_, _%_, _<_, _≤_}
+use Prim.Native.Nat.{ℕ, suc, _+_, _*_, _/_, _%_, _<_, _≤_}
 use lib.Dec.{eqb}
 use lib.ListN.{length, getD, take, drop}
-use Rattle.rules.specs.Lists.{filter, concatMap, listIf, sum}
+use Rattle.rules.specs.Lists.{filter, sum}
 use Rattle.rules.specs.Literal.{Literal}
 use Rattle.rules.specs.Clause.{Clause, install, requires, gated, excluded, constrains, forbid, auxOut, auxOwner, lock, anyGate, anyOne, exclusion, unknownDependencies, conditionLiterals}
-use Rattle.rules.specs.Catalogue.{Goal, Catalogue}
+use Rattle.rules.specs.Catalogue.{Catalogue}
 use Rattle.rules.specs.Candidates.{candidates}
 use Rattle.rules.specs.Conditions.{indices}
 use Rattle.rules.specs.Items.{goalOf}

@@ -16,10 +16,8 @@ use Rattle.rules.specs.State.{State}
 use Rattle.rules.specs.Run.{begun, runOnce}
 use Rattle.rules.specs.Limits.{above}
 use Rattle.rules.proofs.ListLaws.{length-snoc}
-use Rattle.rules.proofs.MemberLaws.{all-in}
-use Rattle.rules.proofs.Each.{each-in}
 use Rattle.rules.proofs.Reached.{Given, Reached}
-use Rattle.rules.proofs.Valid.{Entry, valid}
+use Rattle.rules.proofs.Valid.{valid}
 use Rattle.rules.proofs.Line.{begins, runFrom}
 use Rattle.rules.proofs.Ends.{room}
 use Rattle.rules.proofs.Drawn.{places}

@@ -9,8 +9,6 @@ use Rattle.rules.specs.Opening.{Opening, setAdded, openOwner}
 use Rattle.rules.specs.State.{State}
 use Rattle.rules.specs.Run.{begun, runOnce}
 use Rattle.rules.specs.Limits.{above}
-use Rattle.rules.proofs.Each.{Each}
-use Rattle.rules.proofs.Valid.{Entry}
 use Rattle.rules.proofs.Reached.{Given, Reached}
 use Rattle.rules.proofs.Forgotten.{forget}
 use Rattle.state.specs.declared.Limits.{Limits}

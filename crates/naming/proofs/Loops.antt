@@ -26,7 +26,7 @@ pub record Passed (c : Catalogue) (l : Limits) (f : ℕ → State → State) (xs
   pub alone : GoodAlone c l n (held l s)
   pub did : StateDid c l (λ v. fold f (take j xs)) n₀ (held l s₀) n (held l s)
 
-one-more : (f : ℕ → State → State) (xs : List ℕ) (j : ℕ) (s : State) → j < length xs → f (getD xs j 0) (fold f (take j xs) s) ≡ fold f (take (j + 1) xs) s
+pub one-more : (f : ℕ → State → State) (xs : List ℕ) (j : ℕ) (s : State) → j < length xs → f (getD xs j 0) (fold f (take j xs) s) ≡ fold f (take (j + 1) xs) s
 unfolding fold
 one-more f xs j s h = rw (add-one j, take-suc xs j 0 h) (sym (fold-append f (take j xs) (getD xs j 0 ∷ []) s))
 

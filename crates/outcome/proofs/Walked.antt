@@ -2,17 +2,15 @@
 use mathlib.Core.Path.{_≡_, refl, sym, _∙_, ap}
 use mathlib.Core.List.{List, []}
 use mathlib.Core.Logic.{_⊎_, inl, inr}
-use Prim.Native.Nat.{ℕ, _+_, _<_}
+use Prim.Native.Nat.{ℕ, _+_}
 use native.Mathlib.Omega.{arith}
 use native.Mathlib.Decide.{decLt}
 use lib.ListN.{length, getD, drop, replicate}
 use Rattle.rules.specs.Catalogue.{Catalogue, emptyCatalogue}
 use Rattle.rules.specs.Refusals.{numberAndPlace}
-use Rattle.rules.specs.Records.{kindOf}
 use Rattle.rules.specs.State.{start}
 use Rattle.rules.specs.Limits.{Terms}
-use Rattle.rules.specs.Job.{reading, carrying, stopped, walk, runStep, checkStep, startsSheet, answerOf, printed, refused, ended}
-use Rattle.rules.specs.Job as rules
+use Rattle.rules.specs.Job.{reading, carrying, stopped, walk, runStep, checkStep, answerOf, printed, refused, ended}
 use Rattle.rules.proofs.Reached.{Given, checked-given}
 use Rattle.rules.proofs.WellFormed.{well-formed}
 use Rattle.rules.proofs.WalkLaws.{walk-record, walk-end, walk-still, run-reads, check-sheet, check-carries}
@@ -24,10 +22,8 @@ use Rattle.catalogue.specs.declared.Read.{Read}
 use Rattle.catalogue.specs.declared.Read.the-variants as Read
 use Rattle.catalogue.specs.Walking.{placeOf, progressOf, UpToSheet, ReadUp}
 use Rattle.state.specs.declared.Limits.{Limits}
-use Rattle.state.specs.Layout.{Fits}
 use Rattle.encoder.specs.declared.Counters.{Counters}
 use Rattle.encoder.specs.Held.{LongEnough}
-use Rattle.encoder.specs.Did.{limitsOf}
 use Rattle.goals.specs.Goals.{Catalogued}
 use Rattle.carried.specs.declared.Sheet.{Sheet}
 use Rattle.carried.specs.declared.Sheet.the-variants as Sheet

@@ -1,6 +1,6 @@
 -- An owner's records: what the tables have of a requirement or a constraint, and the rules that are for one.
 use mathlib.Core.Path.{_≡_, refl, sym, _∙_, ap, subst}
-use mathlib.Core.Bool.{Bool, true, false, _&&_, cond, false≢true}
+use mathlib.Core.Bool.{Bool, true, false, cond, false≢true}
 use mathlib.Core.List.{List, []}
 use mathlib.Core.Option.{Option, none, some}
 use Prim.Native.Nat.{ℕ, _+_, _-_, _<_, _≤_}
@@ -17,6 +17,7 @@ use Rattle.rules.specs.Items as items
 use Rattle.rules.specs.Opening.{constraint, queue, openName, openNames, entryHolds, taskBy}
 use Rattle.rules.specs.State.{State}
 use Rattle.rules.proofs.WellFormed.{OwnerGiven, GoalGiven, WellFormed}
+use Rattle.rules.proofs.Bools.{and-false}
 use Rattle.requirement.specs.declared.Requirement.{Requirement}
 use Rattle.requirement.specs.declared.ConditionalRequirement.{ConditionalRequirement}
 use Rattle.requirement.specs.Requirements.{goalOf, requirementIs}
@@ -63,7 +64,7 @@ owner-below c o g h = go (eqb o 1024) refl g
 
 -- ---- tasks by number
 
-none-fired : (c : Catalogue) (f : ℕ → Bool) (q : ℕ) → unconditional c q ≡ true → firedNow c f q ≡ []
+pub none-fired : (c : Catalogue) (f : ℕ → Bool) (q : ℕ) → unconditional c q ≡ true → firedNow c f q ≡ []
 unfolding firedNow indices disjunctsOf unconditional
 none-fired c f q e = go (conditionAt c q) e
   where
@@ -95,10 +96,6 @@ module _ (c : Catalogue) (v : Reading) (i : ℕ) where
 tested : (b : Bool) (k : ℕ) → isNone (cond b none (some k)) ≡ b
 tested true k = refl
 tested false k = refl
-
-and-false : (b : Bool) → (b && false) ≡ false
-and-false true = refl
-and-false false = refl
 
 module _ (k : Counts) (m us t : List ℕ) (q : ℕ) (it : ConditionalRequirement) (e : requirementIs it ≡ getD (tables k t .requirements) q noRequirement) where
   requirement-is : requirementAt (catalogue k m us t) q ≡ requirementIs it

@@ -5,16 +5,15 @@ use mathlib.Core.List.{List, [], _∷_, map}
 use Prim.Native.Nat.{ℕ, _+_, _<_, _≤_}
 use native.Mathlib.Omega.{arith}
 use lib.ListN.{length}
-use Rattle.rules.specs.Lists.{filter, fold, when, upTo, snoc}
+use Rattle.rules.specs.Lists.{filter, fold, when, upTo}
 use Rattle.rules.specs.Clause.{Clause, excluded, constrains, auxOut, lock}
 use Rattle.rules.specs.Catalogue.{Catalogue}
 use Rattle.rules.specs.Variables.{Origin, known, variableOf, partOrigin, partVariable}
-use Rattle.rules.specs.State.{State, setClauses}
+use Rattle.rules.specs.State.{State}
 use Rattle.rules.specs.State as rules
 use Rattle.rules.proofs.Each.{Each, each-out}
 use Rattle.rules.proofs.ListLaws.{upTo-member}
 use Rattle.rules.proofs.MemberLaws.{in-filter}
-use Rattle.rules.proofs.Effects.{effect-is, effect-leaves}
 use Rattle.rules.proofs.ClauseByClause.{addClause}
 use Rattle.tables.specs.declared.Counts.{Counts}
 use Rattle.cache.specs.Areas.{catalogue}
@@ -28,7 +27,7 @@ use Rattle.encoder.specs.declared.Run.{Run}
 use Rattle.encoder.specs.Held.{runOf, stateOf, Good, KnownUnlessFull}
 use Rattle.encoder.specs.Did.{Looked, ClausesDid}
 use Rattle.encoder.proofs.Did.{did-as}
-use Rattle.encoder.proofs.Widening.{addClause-widens}
+use Rattle.encoder.proofs.Widening.{addClause-widens, addClause-variables}
 use Rattle.encoder.proofs.Steps.{clauses-same, clauses-none, clauses-then, good-later, known-later}
 use Rattle.clauses.specs.Adding.{reasonFor, Adds}
 use Rattle.parts.specs.declared.Parts.{Parts}
@@ -132,18 +131,14 @@ adding-end k m u t {p = p} x h =
 -- ---- for callers: with all variables there, these are the clauses of the parts one after another
 
 module _ (r : rules.Run) where
-  clause-leaves : (k : Clause) (s : State) → (addClause r k s) .variables ≡ s .variables
-  unfolding addClause
-  clause-leaves k s = effect-leaves (effect-is r (length (s .clauses)) k (setClauses (snoc (s .clauses) k) s)) .variables
-
   pub adds-are : (a : Adding) (ps : List ℕ) (vs : List Origin) (s : State) → s .variables ≡ vs
       → fold (addingOf r a) ps s ≡ fold (addClause r) (map (λ p. clauseFor a (partVariable vs p) p) ps) s
   unfolding fold addingOf
   adds-are a [] vs s e = refl
   adds-are a (p ∷ ps) vs s e =
-      ap (λ (us : List Origin). fold (addingOf r a) ps (addClause r (clauseFor a (partVariable us p) p) s)) e ∙ (adds-are a ps vs (addClause r (clauseFor a (partVariable vs p) p) s) (clause-leaves _ s ∙ e))
+      ap (λ (us : List Origin). fold (addingOf r a) ps (addClause r (clauseFor a (partVariable us p) p) s)) e ∙ (adds-are a ps vs (addClause r (clauseFor a (partVariable vs p) p) s) (addClause-variables r _ s ∙ e))
 
   pub adds-leave : (a : Adding) (ps : List ℕ) (s : State) → (fold (addingOf r a) ps s) .variables ≡ s .variables
   unfolding fold addingOf
   adds-leave a [] s = refl
-  adds-leave a (p ∷ ps) s = adds-leave a ps (addingOf r a p s) ∙ clause-leaves _ s
+  adds-leave a (p ∷ ps) s = adds-leave a ps (addingOf r a p s) ∙ addClause-variables r _ s

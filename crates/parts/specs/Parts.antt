@@ -1,25 +1,21 @@
 -- Which parts a rule is for, and what is done with each.
-use mathlib.Core.Path.{_≡_}
-use mathlib.Core.Bool.{Bool, true, false, not, _&&_}
-use mathlib.Core.List.{List, []}
+use mathlib.Core.Bool.{Bool, not, _&&_}
+use mathlib.Core.List.{List}
 use Prim.Native.Nat.{ℕ, _<_}
 use lib.Dec.{eqb}
 use lib.ListN.{length}
 use Rattle.rules.specs.Lists.{filter, upTo}
 use Rattle.rules.specs.Clause.{Clause, excluded, constrains, auxOut, lock, exclusion}
 use Rattle.rules.specs.Catalogue.{Catalogue, partAt, nameOf, excludedPart}
-use Rattle.rules.specs.Variables.{Origin, known, partOrigin, partVariable}
+use Rattle.rules.specs.Variables.{partOrigin, partVariable}
 use Rattle.rules.specs.Opening.{nameForTracking, openReady}
 use Rattle.rules.specs.State.{State}
 use Rattle.rules.specs.State as rules
-use Rattle.rules.proofs.Each.{Each}
 use Rattle.rules.proofs.Capped.{addVariable}
 use Rattle.rules.proofs.ClauseByClause.{addClause}
 use Rattle.state.specs.declared.Limits.{Limits}
 use Rattle.cache.specs.Lists.{chosen}
-use Rattle.encoder.specs.declared.Counters.{Counters}
 use Rattle.encoder.specs.declared.Run.{Run}
-use Rattle.encoder.specs.Held.{Good}
 use Rattle.encoder.specs.Did.{onOpening}
 use Rattle.parts.specs.declared.Parts.{Parts}
 use Rattle.parts.specs.declared.Parts.the-variants.{Chosen, Locked, Others, Excluded}

@@ -69,6 +69,15 @@ module _ {A B : Type 0} where
   pub every-concatMap : (P : B → Type 0) (f : A → List B) → ((x : A) → All P (f x)) → (xs : List A) → All P (concatMap f xs)
   every-concatMap P f h xs = all-concatMap P f xs (all-every _ h xs)
 
+pub no-element : {A : Type 0} (xs : List A) → length xs ≡ 0 → xs ≡ []
+no-element [] e = refl
+no-element (x ∷ xs) e = let no-such : ⊥ = omega arith in absurd no-such
+
+pub map-snoc : {A B : Type 0} (f : A → B) (xs : List A) (x : A) → map f (snoc xs x) ≡ snoc (map f xs) (f x)
+unfolding snoc
+map-snoc f [] x = refl
+map-snoc f (y ∷ xs) x = ap (λ (r : List _). f y ∷ r) (map-snoc f xs x)
+
 -- ---- the numbers below a number
 
 upTo-all : (i n : ℕ) → All (λ j. (i ≤ j) × (j < i + n)) (upTo i n)

@@ -1,5 +1,5 @@
 -- `outcome::run_sheet`: from the state at the start the sheet is carried out, and the job ends.
-use mathlib.Core.Path.{refl, _∙_}
+use mathlib.Core.Path.{_∙_}
 use borrow.Author.Needs.{needs}
 use Rattle.state.proofs.Sizes.{fits-same}
 use Rattle.encoder.proofs.Steps.{long-same}
