@@ -111,6 +111,7 @@ module _ {c : Catalogue} {l : Limits} {n : Counters} {st : ℕ → List ℕ} {cl
   pub added-left : (out : List ℕ) → (n .added ≡ 0 → ⊥) → Finishes c l n st cl wt (Refused NotRun 0) out out
   added-left out h =
       record { is = λ s k t job e. left-over c s t job (either-false _ _ (not-empty (s .opening .added) (positive _ (rw (added-count k) h)))) }
+
   pub drawn-left : (out : List ℕ) → (n .drawn ≡ 0 → ⊥) → Finishes c l n st cl wt (Refused NotRun 0) out out
   drawn-left out h =
       record { is = λ s k t job e. left-over c s t job (other-false (isEmpty (s .opening .added)) _ (not-empty (s .opening .drawn) (positive _ (rw (drawn-count k) h)))) }
@@ -125,7 +126,7 @@ module _ {c : Catalogue} {l : Limits} {n : Counters} {st : ℕ → List ℕ} {cl
         record {
           is = λ s k t job q a d.
               let f : length (listing c s) ≤ room → ⊥ = λ g. (let x = measured room (listing c s) [] [] m (wrote-is k w) g in omega arith) in
-              too-long c s t job a d (over (t .listing) (length (listing c s)) (λ g. f (omega (arith, q, e))))
+              too-long c s t job a d (over (t .listing) (length (listing c s)) (λ g. f (omega (arith, q, e))));
         }
       where
         over : (x y : ℕ) → (y ≤ x → ⊥) → x < y
@@ -139,7 +140,7 @@ module _ {c : Catalogue} {l : Limits} {n : Counters} {st : ℕ → List ℕ} {cl
               let g = fits room (listing c s) [] [] m (wrote-is k w) h in
               let z : length (listing c s) ≤ length out = omega (arith, e) in
               rw (measured room (listing c s) [] [] m (wrote-is k w) g, variables-count k, clauses-count k)
-              (printed-whole c s t job a d (omega (arith, q, e)) (written out (listing c s) out′ r (rw (e, same) at (wrote-is k v)) z))
+              (printed-whole c s t job a d (omega (arith, q, e)) (written out (listing c s) out′ r (rw (e, same) at (wrote-is k v)) z));
         }
 
 -- a pass that is lent nothing writes nothing

@@ -80,7 +80,7 @@ from-refused {job = job} {f = f} {at = at} out h k =
     record {
       is = λ z e g.
           rw (r .same .run z ∙ walk-still (runStep z job) (stopped (numberAndPlace (length job) at (refusalOf f))) (run-reads z job .over _) 0 at (drop at job))
-          (refused-comes job out f at)
+          (refused-comes job out f at);
     }
 
 -- ---- the sheet
