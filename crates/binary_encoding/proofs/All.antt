@@ -1,6 +1,6 @@
 -- All that join, and all that are linked, one after another: the rules' `joinAll` and `linkAll`.
 use mathlib.Core.Path.{_≡_, refl, sym, _∙_, ap}
-use mathlib.Core.Bool.{Bool, true, false, not, _||_}
+use mathlib.Core.Bool.{true, false, not}
 use mathlib.Core.List.{List, [], _∷_, _++_, map, map-append, append-nil, append-assoc, List·Memᴰ·head, List·Memᴰ·tail}
 use Prim.Native.Nat.{ℕ}
 use lib.Dec.{eqb}
@@ -14,7 +14,7 @@ use Rattle.rules.specs.Opening.{Opening, setTracked, joining, endRun, trackedOf
 use Rattle.rules.specs.Encoding.{Event, joins, links}
 use Rattle.rules.specs.State.{State, setOpening, Run, emit, emitAll}
 use Rattle.rules.specs.Run.{nameIfOne, joinsFrom, linksFor, joinAll, linkAll}
-use Rattle.rules.proofs.Bools.{by-cases}
+use Rattle.rules.proofs.Bools.{by-cases, or-none}
 use Rattle.rules.proofs.ListLaws.{any-snoc, fold-every}
 use Rattle.rules.proofs.Each.{when-cases}
 use Rattle.rules.proofs.Membership.{Once, empty, once, once-filter, once-concatMap, filter-out, distinct-once}
@@ -88,10 +88,6 @@ module _ (c : Catalogue) (r : Run) where
   -- no other part is tracked by it
   still : (x p : ℕ) (s : State) → (p ≡ x → ⊥) → elem p ((joinStep r x c s) .opening .tracked) ≡ elem p (s .opening .tracked)
   still x p s n = rw (step-tracked x s, any-snoc (eqb p) (s .opening .tracked) x, ne-eqb p x n) (or-none (elem p (s .opening .tracked)))
-    where
-      or-none : (b : Bool) → (b || false) ≡ b
-      or-none true = refl
-      or-none false = refl
 
   news-are : (ts : List ℕ) {ps : List ℕ} → Once ps → (s : State) → ((p : ℕ) → p ∈ ps → elem p (s .opening .tracked) ≡ elem p ts)
       → fold joinNew ps s ≡ fold (λ p. joinStep r p c) (filter (λ p. not (elem p ts)) ps) s

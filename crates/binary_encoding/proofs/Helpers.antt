@@ -29,8 +29,8 @@ use Rattle.variable_map.specs.Mapping.{originOf, inTables}
 use Rattle.encoder.specs.declared.Counters.{Counters}
 use Rattle.encoder.specs.Did.{Looked, PlainDid}
 use Rattle.binary_encoding.specs.declared.Tracker.{Tracker}
-use Rattle.binary_encoding.specs.Joining.{NamesAll, GoodAlone, helpersIn, Holds, firstHelpers, joinOrigins, helperVariables, HelpersKnown}
-use Rattle.binary_encoding.proofs.Steps.{alone-named, names-none, names-more, names-first}
+use Rattle.binary_encoding.specs.Joining.{NamesAll, GoodAny, helpersIn, Holds, firstHelpers, joinOrigins, helperVariables, HelpersKnown}
+use Rattle.binary_encoding.proofs.Steps.{any-named, names-none, names-more, names-first}
 
 -- ---- powers of two
 
@@ -103,11 +103,11 @@ helpers-more name j = rows-more (forbid name) j
 pub record Naming (l : Limits) (name h : ℕ) (n₀ : Counters) (b₀ b : List ℕ) (n : Counters) (j : ℕ) : Type 0 where
   pub fits : Fits l (length b)
   pub same : length b ≡ length b₀
-  pub good : GoodAlone l n (held l b)
+  pub good : GoodAny l n (held l b)
   pub within : j ≤ h
   pub did : NamesAll l (firstHelpers name j) n₀ (held l b₀) n (held l b)
 
-pub naming-start : (l : Limits) (name h : ℕ) (n : Counters) (b : List ℕ) → Fits l (length b) → GoodAlone l n (held l b) → Naming l name h n b b n 0
+pub naming-start : (l : Limits) (name h : ℕ) (n : Counters) (b : List ℕ) → Fits l (length b) → GoodAny l n (held l b) → Naming l name h n b b n 0
 naming-start l name h n b f g = record { fits = f; same = refl; good = g; within = zero-le; did = unfold firstHelpers upTo in names-none }
 
 module _ {l : Limits} {name h : ℕ} {n₀ n : Counters} {b₀ b : List ℕ} {j : ℕ} (x : Naming l name h n₀ b₀ b n j) where
@@ -117,7 +117,7 @@ module _ {l : Limits} {name h : ℕ} {n₀ n : Counters} {b₀ b : List ℕ} {j 
       record {
         fits = rw q (x .fits);
         same = q ∙ x .same;
-        good = alone-named (originOf o) (x .good) d;
+        good = any-named (originOf o) (x .good) d;
         within = omega arith;
         did = rw (helpers-more name j, ← e) (names-more (originOf o) (x .did) d);
       }

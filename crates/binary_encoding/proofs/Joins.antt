@@ -32,7 +32,7 @@ use Rattle.cache.specs.Areas.{catalogue}
 use Rattle.state.specs.declared.Limits.{Limits}
 use Rattle.state.specs.Layout.{held, Fits}
 use Rattle.state.proofs.Sizes.{length-fixed}
-use Rattle.variable_map.specs.Mapping.{variables}
+use Rattle.variable_map.specs.Mapping.{variables, AllKnown}
 use Rattle.variable_map.proofs.Laws as variables
 use Rattle.marked.specs.Marked.{listed, isMarked, Marked}
 use Rattle.marked.proofs.Laws.{length-listed, free-room, listed-after}
@@ -42,8 +42,7 @@ use Rattle.encoder.specs.Held.{runOf, Reading, openingOf, stateOf}
 use Rattle.encoder.specs.Did.{Widens, onOpening, StateDid}
 use Rattle.encoder.proofs.Did.{widens-then}
 use Rattle.encoder.proofs.Widening.{widens-opening, widens-when}
-use Rattle.goals.specs.Goals.{AllKnown}
-use Rattle.binary_encoding.specs.Joining.{Makes, AddsAll, NamesAll, GoodOf, GoodSome, GoodAlone, firstHelpers, joinOrigins, helperVariables, partName, ofName, NamesLow, newHelperClauses, oneClauses, trackedClauses, joinedClauses, tracking, Tracks, MakesOf, trackWith, joinStep, joinIf, CanJoin, CanAddPart}
+use Rattle.binary_encoding.specs.Joining.{Makes, AddsAll, NamesAll, GoodOf, GoodSome, GoodAny, firstHelpers, joinOrigins, helperVariables, partName, ofName, NamesLow, newHelperClauses, oneClauses, trackedClauses, joinedClauses, tracking, Tracks, MakesOf, trackWith, joinStep, joinIf, CanJoin, CanAddPart}
 use Rattle.binary_encoding.proofs.Steps.{blind, of-some, some-good, some-tracked, some-all, makes-as, makes-stop, makes-then, makes-idle, clauses-widen, clauses-same}
 use Rattle.binary_encoding.proofs.Track.{name-held, of-name-held, track-free, tracking-lengthens}
 
@@ -54,10 +53,10 @@ pub record Named (os : List Origin) (n : Counters) (st : ℕ → List ℕ) (n′
   pub tracked : listed (n′ .tracked) 10 st′ ≡ listed (n .tracked) 10 st
   pub named : listed (n′ .named) 8 st′ ≡ listed (n .named) 8 st
 
-pub names-after : {l : Limits} {os : List Origin} {n n′ : Counters} {st st′ : ℕ → List ℕ} → GoodAlone l n st → NamesAll l os n st n′ st′ → n .full ≡ false
+pub names-after : {l : Limits} {os : List Origin} {n n′ : Counters} {st st′ : ℕ → List ℕ} → GoodAny l n st → NamesAll l os n st n′ st′ → n .full ≡ false
     → n′ .full ≡ false → Named os n st n′ st′
 unfolding stateOf openingOf
-names-after {os = os} (GoodAlone.alone c cl g) a e e′ =
+names-after {os = os} (GoodAny.any c cl g) a e e′ =
     let d = a .is c .is cl [] .done g e e′ blind ∙ addVariables-is os _ in
     let opening = ap (λ (s : State). s .opening) d in
     record {
@@ -146,7 +145,7 @@ state-makes F {cl = cl} d = record { is = record { is = λ wt. d .is cl wt } }
 known-first : (vs : List Origin) (os : List Origin) (ps : List ℕ) → AllKnown vs ps → AllKnown (withVariables os vs) ps
 known-first vs os ps k = record { known = each-imp (λ q e. keeps-variable (withVariables-prefix os vs) (partOrigin q) e .0) (k .known) }
 
-module _ {l : Limits} {n n′ : Counters} {st st′ : ℕ → List ℕ} {r : code.Run} (name p h : ℕ) (g : GoodAlone l n st) (c : CanJoin n st r)
+module _ {l : Limits} {n n′ : Counters} {st st′ : ℕ → List ℕ} {r : code.Run} (name p h : ℕ) (g : GoodAny l n st) (c : CanJoin n st r)
     (d : NamesAll l (joinOrigins name p h) n st n′ st′) (f : n′ .full ≡ false) where
   after : Named (joinOrigins name p h) n st n′ st′
   after = names-after g d (c .going) f
@@ -219,7 +218,7 @@ module _ (k : Counts) (t : List ℕ) (l : Limits) (n a : Counters) (st st₁ : �
   pub join-stop : a .full ≡ true → MakesOf k t l (joinStep (runOf r) p) n st cl a st₁ cl
   join-stop f = record { is = λ m u. stopped m u f }
 
-  pub join-done : {b : Counters} {st₂ : ℕ → List ℕ} {cl₂ : List ℕ} → GoodAlone l n st → n .full ≡ false → a .full ≡ false
+  pub join-done : {b : Counters} {st₂ : ℕ → List ℕ} {cl₂ : List ℕ} → GoodAny l n st → n .full ≡ false → a .full ≡ false
       → MakesOf k t l (trackWith (runOf r) (joinedClauses (r .before) (variables (a .variables) st₁) name p (ofName k t name (listed (a .tracked) 10 st₁))) p) a st₁ cl b st₂ cl₂
       → MakesOf k t l (joinStep (runOf r) p) n st cl b st₂ cl₂
   join-done g f f′ x =

@@ -28,7 +28,7 @@ use Rattle.cache.specs.Areas.{catalogue}
 use Rattle.state.specs.declared.Limits.{Limits}
 use Rattle.state.specs.Layout.{held, Fits}
 use Rattle.variable_map.specs.declared.Origin as variable_map
-use Rattle.variable_map.specs.Mapping.{originBy, originOf, variables}
+use Rattle.variable_map.specs.Mapping.{originBy, originOf, variables, AllKnown}
 use Rattle.variable_map.proofs.Laws as variables
 use Rattle.marked.specs.Marked.{listed}
 use Rattle.encoder.specs.declared.Counters.{Counters}
@@ -36,7 +36,6 @@ use Rattle.encoder.specs.declared.Run as code
 use Rattle.encoder.specs.Held.{runOf, openingOf, stateOf, Good, LongEnough}
 use Rattle.encoder.specs.Did.{Widens, ClausesDid}
 use Rattle.encoder.proofs.Did.{widens-fold}
-use Rattle.goals.specs.Goals.{AllKnown}
 use Rattle.binary_encoding.specs.Joining.{Makes, AddsAll, GoodSome, ofName, variablesOf, anyClauses, linkClauses, CanLink}
 use Rattle.binary_encoding.proofs.Steps.{some-good, some-all, makes-as, Folded, folded-start, folded-step, folded-stop, folded-end, adds-none, adds-as, Areas, areas-start, areas-then, Same, same-count, clauses-same, known-same}
 use Rattle.binary_encoding.proofs.Track.{of-name-held}

@@ -23,7 +23,7 @@ use Rattle.cache.specs.Areas.{catalogue}
 use Rattle.state.specs.declared.Limits.{Limits}
 use Rattle.state.specs.Layout.{held, Fits}
 use Rattle.state.proofs.Sizes.{length-fixed}
-use Rattle.variable_map.specs.Mapping.{variables}
+use Rattle.variable_map.specs.Mapping.{variables, AllKnown}
 use Rattle.variable_map.proofs.Laws as variables
 use Rattle.marked.specs.Marked.{listed, Marked}
 use Rattle.marked.proofs.Laws.{length-listed, at-low}
@@ -32,7 +32,6 @@ use Rattle.encoder.specs.declared.Run as code
 use Rattle.encoder.specs.Held.{runOf, openingOf, stateOf, LongEnough}
 use Rattle.encoder.specs.Did.{Widens, onOpening, Beside}
 use Rattle.encoder.proofs.Did.{widens-fold}
-use Rattle.goals.specs.Goals.{AllKnown}
 use Rattle.binary_encoding.specs.Joining.{Makes, GoodOf, tracking, MakesOf, joinStep, joinIf, joinName, joinNames, CanJoin}
 use Rattle.binary_encoding.proofs.Steps.{stateNow, makes-good, makes-state, makes-as, makes-same, Folded, folded-start, folded-step, folded-stop, folded-end, Areas, areas-start, areas-then}
 use Rattle.binary_encoding.proofs.Joins.{joinIf-widens}

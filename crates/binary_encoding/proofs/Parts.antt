@@ -21,7 +21,7 @@ use Rattle.clause.specs.Literals.{signed}
 use Rattle.state.specs.declared.Limits.{Limits}
 use Rattle.state.specs.Layout.{held, Fits}
 use Rattle.state.proofs.Sizes.{length-fixed}
-use Rattle.variable_map.specs.Mapping.{inTables, variables, Mapped}
+use Rattle.variable_map.specs.Mapping.{inTables, variables, Mapped, AllKnown}
 use Rattle.variable_map.proofs.Laws as variables
 use Rattle.marked.specs.Marked.{listed, Marked}
 use Rattle.marked.proofs.Laws.{length-listed, at-low}
@@ -30,7 +30,6 @@ use Rattle.encoder.specs.declared.Run.{Run}
 use Rattle.encoder.specs.Held.{LongEnough}
 use Rattle.encoder.specs.Did.{Looked}
 use Rattle.clauses.specs.Adding.{Adds}
-use Rattle.goals.specs.Goals.{AllKnown}
 use Rattle.binary_encoding.specs.Joining.{AddsAll, GoodSome, partName, ofName, variablesOf, variableAt, IsAt, NextOf, anyClauses}
 use Rattle.binary_encoding.proofs.Steps.{Adding, adding-start, adding-step, adding-stop, adding-end, some-good, some-tracked, some-after, Areas, areas-start, areas-then, Same, same-tracked, clause-same, known-same}
 

@@ -9,17 +9,16 @@ use Rattle.rules.specs.Clause.{Clause}
 use Rattle.rules.specs.Catalogue.{Catalogue}
 use Rattle.rules.specs.Variables.{Origin}
 use Rattle.rules.specs.Opening.{Opening}
-use Rattle.rules.specs.State.{State, setClauses, Run}
+use Rattle.rules.specs.State.{State, Run}
 use Rattle.rules.proofs.Bools.{by-cases}
 use Rattle.rules.proofs.DistinctEnough.{fold-append}
-use Rattle.rules.proofs.Effects.{effect-is, effect-leaves}
 use Rattle.rules.proofs.Capped.{addVariable}
 use Rattle.rules.proofs.ClauseByClause.{addClause}
 use Rattle.tables.specs.declared.Counts.{Counts}
 use Rattle.cache.specs.Areas.{catalogue}
 use Rattle.state.specs.declared.Limits.{Limits}
 use Rattle.state.specs.Layout.{Fits}
-use Rattle.variable_map.specs.Mapping.{variables, Mapped}
+use Rattle.variable_map.specs.Mapping.{variables, Mapped, AllKnown}
 use Rattle.variable_map.proofs.Laws as variables
 use Rattle.marked.specs.Marked.{listed, Marked}
 use Rattle.marked.proofs.Laws.{length-listed}
@@ -28,11 +27,11 @@ use Rattle.encoder.specs.declared.Run as code
 use Rattle.encoder.specs.Held.{runOf, Reading, openingOf, stateOf, Good, LongEnough}
 use Rattle.encoder.specs.Did.{Widens, PlainDid}
 use Rattle.encoder.proofs.Did.{widens-same, widens-fold, did-nothing, did-as, did-then, did-stop}
-use Rattle.encoder.proofs.Widening.{addVariable-widens, addClause-widens}
+use Rattle.encoder.proofs.Widening.{addVariable-widens, addClause-widens, addClause-variables, addClause-opening}
+use Rattle.encoder.proofs.Steps.{good-waiting}
 use Rattle.clauses.specs.Adding.{CanAdd, Adds}
 use Rattle.clauses.proofs.Adding.{good-can-add}
-use Rattle.goals.specs.Goals.{AllKnown}
-use Rattle.binary_encoding.specs.Joining.{Makes, AddsAll, NamesAll, GoodOf, GoodSome, GoodAlone}
+use Rattle.binary_encoding.specs.Joining.{Makes, AddsAll, NamesAll, GoodOf, GoodSome, GoodAny}
 
 -- nothing is read
 abbrev pub blind : Reading
@@ -44,16 +43,12 @@ stateNow c l n st cl = stateOf c l blind n st cl []
 
 -- ---- what holds between two steps
 
-module _ {c : Catalogue} {l : Limits} {n : Counters} {st : ℕ → List ℕ} where
-  pub good-waiting : {cl wt : List ℕ} (wt′ : List ℕ) → Good c l n st cl wt → Good c l n st cl wt′
-  good-waiting wt′ g = record { state = g .state; clauses = g .clauses; entries = g .entries }
-
 module _ {k : Counts} {t : List ℕ} {l : Limits} {n : Counters} {st : ℕ → List ℕ} {cl : List ℕ} where
   pub of-some : GoodOf k t l n st cl → GoodSome l n st cl
   of-some (GoodOf.good m u g) = GoodSome.some (catalogue k m u t) g
 
-  pub of-alone : GoodOf k t l n st cl → GoodAlone l n st
-  of-alone (GoodOf.good m u g) = GoodAlone.alone (catalogue k m u t) cl g
+  pub of-any : GoodOf k t l n st cl → GoodAny l n st
+  of-any (GoodOf.good m u g) = GoodAny.any (catalogue k m u t) cl g
 
 module _ {l : Limits} {n : Counters} {st : ℕ → List ℕ} {cl : List ℕ} where
   abbrev pub catalogueIn : GoodSome l n st cl → Catalogue
@@ -71,13 +66,13 @@ module _ {l : Limits} {n : Counters} {st : ℕ → List ℕ} {cl : List ℕ} whe
   pub some-can-add : GoodSome l n st cl → LongEnough l (length cl) 16384 → CanAdd l n st (length cl)
   some-can-add g h = good-can-add (some-good g) h
 
-pub alone-mapped : {l : Limits} {n : Counters} {st : ℕ → List ℕ} → GoodAlone l n st → Mapped l (n .variables) st
-alone-mapped (GoodAlone.alone c cl g) = g .state .mapped
+pub any-mapped : {l : Limits} {n : Counters} {st : ℕ → List ℕ} → GoodAny l n st → Mapped l (n .variables) st
+any-mapped (GoodAny.any c cl g) = g .state .mapped
 
 -- ---- variables
 
-pub alone-named : {l : Limits} (o : Origin) {n n′ : Counters} {st st′ : ℕ → List ℕ} → GoodAlone l n st → PlainDid l (λ c v. addVariable o) n st n′ st′ → GoodAlone l n′ st′
-alone-named o (GoodAlone.alone c cl g) d = GoodAlone.alone c cl (d .is c .is cl [] .good g)
+pub any-named : {l : Limits} (o : Origin) {n n′ : Counters} {st st′ : ℕ → List ℕ} → GoodAny l n st → PlainDid l (λ c v. addVariable o) n st n′ st′ → GoodAny l n′ st′
+any-named o (GoodAny.any c cl g) d = GoodAny.any c cl (d .is c .is cl [] .good g)
 
 pub names-none : {l : Limits} {n : Counters} {st : ℕ → List ℕ} → NamesAll l [] n st n st
 names-none = record { is = λ c. record { is = λ cl wt. did-as did-nothing (λ v s. unfold fold in widens-same) (λ g e v. unfold fold in refl) } }
@@ -261,23 +256,15 @@ module _ {n n′ : Counters} {st st′ : ℕ → List ℕ} (a : Same n st n′ s
 
 -- an added clause leaves them
 module _ (r : Run) where
-  clause-opening : (k : Clause) (s : State) → (addClause r k s) .opening ≡ s .opening
-  unfolding addClause
-  clause-opening k s = effect-leaves (effect-is r (length (s .clauses)) k (setClauses (snoc (s .clauses) k) s)) .opening
-
-  clause-variables : (k : Clause) (s : State) → (addClause r k s) .variables ≡ s .variables
-  unfolding addClause
-  clause-variables k s = effect-leaves (effect-is r (length (s .clauses)) k (setClauses (snoc (s .clauses) k) s)) .variables
-
   pub clauses-opening : (ks : List Clause) (s : State) → (fold (addClause r) ks s) .opening ≡ s .opening
   unfolding fold
   clauses-opening [] s = refl
-  clauses-opening (k ∷ ks) s = clauses-opening ks (addClause r k s) ∙ clause-opening k s
+  clauses-opening (k ∷ ks) s = clauses-opening ks (addClause r k s) ∙ addClause-opening r k s
 
   pub clauses-variables : (ks : List Clause) (s : State) → (fold (addClause r) ks s) .variables ≡ s .variables
   unfolding fold
   clauses-variables [] s = refl
-  clauses-variables (k ∷ ks) s = clauses-variables ks (addClause r k s) ∙ clause-variables k s
+  clauses-variables (k ∷ ks) s = clauses-variables ks (addClause r k s) ∙ addClause-variables r k s
 
 module _ {c : Catalogue} {l : Limits} {n n′ : Counters} {st st′ : ℕ → List ℕ} {cl cl′ : List ℕ} where
   -- what the areas show of the state after F
@@ -297,7 +284,7 @@ module _ {c : Catalogue} {l : Limits} {n n′ : Counters} {st st′ : ℕ → Li
   clauses-same {r} {ks} m g e = same-after (clauses-opening (runOf r) ks) (clauses-variables (runOf r) ks) (m .is c) g e
 
   pub clause-same : {r : code.Run} {k : Clause} → Adds l r k n st cl n′ st′ cl′ → Good c l n st cl [] → n′ .full ≡ false → Same n st n′ st′
-  clause-same {r} {k} a g e = same-after (clause-opening (runOf r) k) (clause-variables (runOf r) k) (adds-makes c a) g e
+  clause-same {r} {k} a g e = same-after (addClause-opening (runOf r) k) (addClause-variables (runOf r) k) (adds-makes c a) g e
 
 module _ {l : Limits} {n n′ : Counters} {st st′ : ℕ → List ℕ} {cl cl′ : List ℕ} where
   pub some-after : {r : code.Run} {k : Clause} → GoodSome l n st cl → Adds l r k n st cl n′ st′ cl′ → GoodSome l n′ st′ cl′
@@ -309,14 +296,6 @@ module _ {l : Limits} {n n′ : Counters} {st st′ : ℕ → List ℕ} {cl cl�
 pub known-same : {n n′ : Counters} {st st′ : ℕ → List ℕ} → Same n st n′ st′ → AllKnown (variables (n .variables) st) (listed (n .tracked) 10 st)
     → AllKnown (variables (n′ .variables) st′) (listed (n′ .tracked) 10 st′)
 known-same s k = rw (s .variables, s .tracked) k
-
--- ---- areas that a call has changed
-
-pub fits-same : {l : Limits} {a b : ℕ} → Fits l a → b ≡ a → Fits l b
-fits-same f e = rw e f
-
-pub long-same : {l : Limits} {a b : ℕ} → LongEnough l a 16384 → b ≡ a → LongEnough l b 16384
-long-same f e = rw e f
 
 pub some-named : {l : Limits} {os : List Origin} {n n′ : Counters} {st st′ : ℕ → List ℕ} {cl : List ℕ} → GoodSome l n st cl → NamesAll l os n st n′ st′ → GoodSome l n′ st′ cl
 some-named {cl = cl} (GoodSome.some c g) d = GoodSome.some c (d .is c .is cl [] .good g)

@@ -23,12 +23,11 @@ use Rattle.tables.specs.Tables.{tables}
 use Rattle.cache.specs.Areas.{catalogue}
 use Rattle.state.specs.declared.Limits.{Limits}
 use Rattle.marked.specs.Marked.{listed}
-use Rattle.variable_map.specs.Mapping.{variables}
+use Rattle.variable_map.specs.Mapping.{variables, AllKnown}
 use Rattle.encoder.specs.declared.Counters.{Counters}
 use Rattle.encoder.specs.declared.Run as code
 use Rattle.encoder.specs.Held.{runOf, Good}
 use Rattle.encoder.specs.Did.{onOpening, StateDid, ClausesDid}
-use Rattle.goals.specs.Goals.{AllKnown}
 use Rattle.binary_encoding.specs.declared.Tracker.{Tracker}
 
 -- ---- steps by what they do
@@ -55,8 +54,8 @@ pub data GoodOf (k : Counts) (t : List ℕ) (l : Limits) (n : Counters) (st : �
 pub data GoodSome (l : Limits) (n : Counters) (st : ℕ → List ℕ) (cl : List ℕ) : Type 0 where
   some : (c : Catalogue) → Good c l n st cl [] → GoodSome l n st cl
 
-pub data GoodAlone (l : Limits) (n : Counters) (st : ℕ → List ℕ) : Type 0 where
-  alone : (c : Catalogue) (cl : List ℕ) → Good c l n st cl [] → GoodAlone l n st
+pub data GoodAny (l : Limits) (n : Counters) (st : ℕ → List ℕ) : Type 0 where
+  any : (c : Catalogue) (cl : List ℕ) → Good c l n st cl [] → GoodAny l n st
 
 -- ---- the tracker
 

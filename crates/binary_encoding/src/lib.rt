@@ -20,13 +20,13 @@ ghost use Rattle.tables.specs.Tables.{Laid};
 ghost use Rattle.cache.specs.Areas.{catalogue};
 ghost use Rattle.catalogue.specs.Reading.{Kept};
 ghost use Rattle.state.specs.Layout.{held, Fits};
-ghost use Rattle.variable_map.specs.Mapping.{variables, Mapped};
+ghost use Rattle.variable_map.specs.Mapping.{variables, Mapped, AllKnown};
 ghost use Rattle.marked.specs.Marked.{listed, Marked};
 ghost use Rattle.encoder.specs.Held.{runOf, LongEnough, Good};
 ghost use Rattle.encoder.specs.Did.{ClausesDid};
 ghost use Rattle.clauses.specs.Adding.{Adds};
-ghost use Rattle.goals.specs.Goals.{AllKnown, Gathers};
-ghost use Rattle.binary_encoding.specs.Joining.{AddsAll, NamesAll, GoodOf, GoodSome, GoodAlone, Holds, helpersIn, firstHelpers, joinOrigins, helperVariables, HelpersKnown, HelpersBelow, partName, ofName, namesOf, NamesLow, variablesOf, variableAt, IsAt, NextOf, newHelperClauses, oneClauses, anyClauses, linkClauses, trackedClauses, joinedClauses, Tracks, MakesOf, trackWith, joinStep, joinIf, joinName, joinNames, Forgets, CanJoin, CanAddPart, CanLink};
+ghost use Rattle.goals.specs.Goals.{Gathers};
+ghost use Rattle.binary_encoding.specs.Joining.{AddsAll, NamesAll, GoodOf, GoodSome, GoodAny, Holds, helpersIn, firstHelpers, joinOrigins, helperVariables, HelpersKnown, HelpersBelow, partName, ofName, namesOf, NamesLow, variablesOf, variableAt, IsAt, NextOf, newHelperClauses, oneClauses, anyClauses, linkClauses, trackedClauses, joinedClauses, Tracks, MakesOf, trackWith, joinStep, joinIf, joinName, joinNames, Forgets, CanJoin, CanAddPart, CanLink};
 
 // A name's helper variables: the first `count` of ten.
 pub struct Tracker {
@@ -64,7 +64,7 @@ fn helpers_for(k: u16) -> usize
 // The first h helpers of a name get their variables.
 fn name_helpers(s: &mut [u8], l: Limits, n: Counters, name: u16, h: usize) -> Counters
     requires { ⌜ Fits l (length (now s)) ⌝ }
-    requires { ⌜ GoodAlone l n (held l (now s)) ⌝ }
+    requires { ⌜ GoodAny l n (held l (now s)) ⌝ }
     requires { ⌜ (name < 64) × (h ≤ 10) ⌝ }
     ensures { λ m. ⌜ NamesAll l (firstHelpers name h) n (held l (now (s .entry))) m (held l (now (s .exit))) ⌝ }
 {
@@ -354,7 +354,7 @@ fn add_tracked(
 // Part p and the first h helpers of its name get their variables.
 fn name_join(s: &mut [u8], l: Limits, n: Counters, name: u16, p: u16, h: usize) -> Counters
     requires { ⌜ Fits l (length (now s)) ⌝ }
-    requires { ⌜ GoodAlone l n (held l (now s)) ⌝ }
+    requires { ⌜ GoodAny l n (held l (now s)) ⌝ }
     requires { ⌜ (name < 64) × (h ≤ 10) × (p < 1024) ⌝ }
     ensures { λ m. ⌜ NamesAll l (joinOrigins name p h) n (held l (now (s .entry))) m (held l (now (s .exit))) ⌝ }
 {

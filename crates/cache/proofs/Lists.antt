@@ -13,6 +13,7 @@ use Rattle.rules.specs.Lists.{filter, listIf, upTo}
 use Rattle.rules.specs.Catalogue.{Catalogue, noPart, partAt, nameOf, rangeName}
 use Rattle.rules.specs.Candidates.{member, partsOf, matching, nonMatching, favouredFirst, sorted}
 use Rattle.rules.proofs.ListLaws.{length-filters, length-upTo}
+use Rattle.rules.proofs.MemberLaws.{filter-both}
 use Rattle.words.specs.Words.{words, words-in}
 use Rattle.tables.specs.declared.Counts.{Counts}
 use Rattle.tables.specs.Tables.{tables}
@@ -78,27 +79,12 @@ module _ {A : Type 0} (f : A → Bool) where
       go true = refl
       go false = refl
 
-  filter-both : (g : A → Bool) (xs : List A) → filter f (filter g xs) ≡ filter (λ (x : A). g x && f x) xs
-  unfolding filter
-  filter-both g [] = refl
-  filter-both g (x ∷ xs) = go (g x) (filter-both g xs)
-    where
-      here : (b : Bool) (ys zs : List A) → ys ≡ zs → _≡_ {A = List A} (elim b [ true ↦ x ∷ ys | false ↦ ys ]) (elim b [ true ↦ x ∷ zs | false ↦ zs ])
-      here true ys zs e = rw e
-      here false ys zs e = e
-
-      go : (b : Bool) → filter f (filter g xs) ≡ filter (λ (x : A). g x && f x) xs
-          → filter f (elim b [ true ↦ x ∷ filter g xs | false ↦ filter g xs ])
-          ≡ elim (b && f x) [ true ↦ x ∷ filter (λ (x : A). g x && f x) xs | false ↦ filter (λ (x : A). g x && f x) xs ]
-      go true e = here (f x) _ _ e
-      go false e = e
-
 module _ (c : Catalogue) (r : ℕ) where
   abbrev favoured : ℕ → Bool
   favoured p = (partAt c p) .favoured
 
   -- a test on the parts of the range's name, as one on all parts
-  of-name : (f : ℕ → Bool) → filter f (partsOf c (rangeName c r)) ≡ filter (λ (p : ℕ). eqb (nameOf c p) (rangeName c r) && f p) (upTo 0 (length (c .parts)))
+  pub of-name : (f : ℕ → Bool) → filter f (partsOf c (rangeName c r)) ≡ filter (λ (p : ℕ). eqb (nameOf c p) (rangeName c r) && f p) (upTo 0 (length (c .parts)))
   unfolding partsOf
   of-name f = filter-both f (λ (p : ℕ). eqb (nameOf c p) (rangeName c r)) (upTo 0 (length (c .parts)))
 
@@ -118,7 +104,7 @@ module _ (c : Catalogue) (r : ℕ) where
   unfolding choice chosen asked matching
   others-is = sym (filter-both (λ (p : ℕ). not (favoured p)) (member c r) (partsOf c (rangeName c r)) ∙ of-name (λ (p : ℕ). member c r p && not (favoured p)))
 
-  sorted-is : choice c r Favoured ++ choice c r Others ≡ sorted c r
+  pub sorted-is : choice c r Favoured ++ choice c r Others ≡ sorted c r
   unfolding sorted favouredFirst
   sorted-is = rw (favoured-is, others-is)
 

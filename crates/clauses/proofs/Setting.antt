@@ -19,8 +19,8 @@ use Rattle.clause.specs.Literals.{literalOf}
 use Rattle.state.specs.declared.Limits.{Limits}
 use Rattle.variable_map.proofs.Laws.{variables-kept}
 use Rattle.decision_tracker.specs.declared.Decision as tracker
-use Rattle.decision_tracker.specs.Tracking.{clauseBy, decisionBy, decisionOf, decisions, seen, saysUndecided, Kept, Free, Told}
-use Rattle.decision_tracker.proofs.Laws.{clause-some, literal-free}
+use Rattle.decision_tracker.specs.Tracking.{clauseBy, decisionBy, decisionOf, decisions, seen, saysUndecided, Told}
+use Rattle.decision_tracker.proofs.Laws.{clause-some}
 use Rattle.decision_tracker.proofs.Values.{undecided-seen, reads-undecided}
 use Rattle.encoder.specs.declared.Counters.{Counters}
 use Rattle.encoder.specs.declared.Run as encoder
@@ -29,6 +29,7 @@ use Rattle.encoder.specs.Did.{Widens}
 use Rattle.encoder.proofs.Frames.{good-kept, list-kept, line-kept}
 use Rattle.encoder.proofs.Did.{did-idle, did-made, beside-kept}
 use Rattle.encoder.proofs.Widening.{widens-when}
+use Rattle.encoder.proofs.Counted.{withDecisions}
 use Rattle.clauses.specs.Adding.{Forces}
 
 -- ---- a literal is set
@@ -37,32 +38,6 @@ pub force-widens : (r : Run) (i : ℕ) (x : Literal) (s : State) → Widens s (f
 unfolding force
 force-widens r i x s =
     widens-when _ _ (λ u. record { grows = record { variables = whole; clauses = whole; waiting = whole }; line = omega arith; several = omega arith }) s
-
--- counters with another number of decisions
-abbrev pub deciding : ℕ → Counters → Counters
-deciding x n =
-    record {
-      variables = n .variables;
-      clauses = n .clauses;
-      literals = n .literals;
-      decisions = x;
-      owners = n .owners;
-      names = n .names;
-      several = n .several;
-      added = n .added;
-      named = n .named;
-      tracked = n .tracked;
-      waiting = n .waiting;
-      drawn = n .drawn;
-      first = n .first;
-      tail = n .tail;
-      runs = n .runs;
-      full = n .full;
-    }
-
-pub force-free : {l : Limits} {d y : ℕ} {st : ℕ → List ℕ} {v : Value} (x : code.Literal) → Kept l d st → y ≡ (literalOf x) .variable
-    → (literalOf x) .variable < l .variables → v ≡ seen (evaluate (decisions d st) (literalOf x)) → v ≡ values.Undecided → Free l d y st
-force-free x k e h f q = literal-free (literalOf x) k e (rw e h) f q
 
 abbrev pub newDecision : (x : ℕ) (b : Bool) (level clause : ℕ) → tracker.Decision
 newDecision x b level clause = record { variable = x; value = b; level = level; clause = clause }
@@ -86,14 +61,14 @@ module _ (l : Limits) (r : encoder.Run) (n : Counters) (x : code.Literal) (st : 
 
     module _ (count : ℕ) (st′ : ℕ → List ℕ) (t : Told l count (snoc (decisions (n .decisions) st) (decisionOf (newDecision y b (r .level) (n .clauses)))) st st′)
         (c : Catalogue) (cl wt : List ℕ) where
-      force-state : (w : Reading) → stateOf c l w (deciding count n) st′ cl wt ≡ force (runOf r) (n .clauses - 1) (literalOf x) (stateOf c l w n st cl wt)
+      force-state : (w : Reading) → stateOf c l w (withDecisions count n) st′ cl wt ≡ force (runOf r) (n .clauses - 1) (literalOf x) (stateOf c l w n st cl wt)
       unfolding stateOf openingOf force when any
       force-state w =
           let ch = t .rest in
           let u = reads-undecided (decisions (n .decisions) st) (literalOf x) v e q in
           simp (t .is, new-is, u, list-kept ch, line-kept ch, variables-kept ch, ch .same)
 
-      force-good : Good c l n st cl wt → Good c l (deciding count n) st′ cl wt
+      force-good : Good c l n st cl wt → Good c l (withDecisions count n) st′ cl wt
       unfolding any
       force-good g = good-kept (t .rest) g (search) refl refl refl refl refl (g .entries)
 
@@ -107,7 +82,7 @@ module _ {l : Limits} {r : encoder.Run} {n : Counters} {x : code.Literal} {st : 
 
   pub force-sets : v ≡ values.Undecided → {y : ℕ} {b : Bool} → y ≡ (literalOf x) .variable → b ≡ (literalOf x) .positive → 0 < n .clauses
       → {count : ℕ} {st′ : ℕ → List ℕ} → Told l count (snoc (decisions (n .decisions) st) (decisionOf (newDecision y b (r .level) (n .clauses)))) st st′
-      → Forces l r x n st (deciding count n) st′
+      → Forces l r x n st (withDecisions count n) st′
   force-sets q ey eb h t =
       record {
         is = λ c cl wt. did-made (λ w s. force-widens _ _ _ s) refl (λ g. unfold any in beside-kept (t .rest) refl refl refl) refl refl (λ i. refl) (force-good l r n x _ e q ey eb h _ _ t c cl wt)

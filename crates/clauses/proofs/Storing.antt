@@ -1,5 +1,5 @@
 -- A clause is stored: the rows have one more, and with it the clauses and the conflicts.
-use mathlib.Core.Path.{_≡_, refl, sym, _∙_, ap}
+use mathlib.Core.Path.{_≡_, refl, sym, _∙_}
 use mathlib.Core.Bool.{true, true≢false}
 use mathlib.Core.List.{List, [], _∷_, _++_, map, append-nil, append-assoc}
 use Prim.Native.Nat.{ℕ, suc, _+_, _<_, _≤_}
@@ -17,7 +17,7 @@ use Rattle.rules.specs.Limits.{above}
 use Rattle.rules.proofs.Bools.{or-true}
 use Rattle.rules.proofs.Each.{each-imp, each-snoc}
 use Rattle.rules.proofs.Grows.{whole, ending}
-use Rattle.rules.proofs.ListLaws.{length-snoc, sum-append}
+use Rattle.rules.proofs.ListLaws.{length-snoc, sum-append, map-snoc}
 use Rattle.state.specs.declared.Limits.{Limits}
 use Rattle.state.proofs.Changed.{changed-none}
 use Rattle.variable_map.specs.Mapping.{variables}
@@ -29,11 +29,6 @@ use Rattle.encoder.specs.Did.{limitsOf, roomOf, beyond, Widens, filled}
 use Rattle.encoder.proofs.Frames.{state-kept, clauses-counted}
 use Rattle.encoder.proofs.Did.{did-full, did-filled, did-made, beside-same}
 use Rattle.clauses.specs.Adding.{withClause, Fitting, Stores}
-
-map-snoc : {A B : Type 0} (f : A → B) (xs : List A) (x : A) → map f (snoc xs x) ≡ snoc (map f xs) (f x)
-unfolding snoc
-map-snoc f [] x = refl
-map-snoc f (y ∷ xs) x = ap (λ (r : List _). f y ∷ r) (map-snoc f xs x)
 
 conflicts-more : (i : ℕ) (rs : List Row) (r : Row) → conflictsFrom i (snoc rs r) ≡ conflictsFrom i rs ++ conflictIf (r .conflict) (i + length rs)
 unfolding conflictsFrom snoc

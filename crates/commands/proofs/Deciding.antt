@@ -30,14 +30,14 @@ use Rattle.variable_map.specs.Mapping.{variables}
 use Rattle.variable_map.proofs.Laws as variables
 use Rattle.variable_map.proofs.Laws.{variables-kept}
 use Rattle.decision_tracker.specs.declared.Decision as tracker
-use Rattle.decision_tracker.specs.Tracking.{clauseBy, decisionBy, decisionOf, decisions, seen, Kept, Free, Told}
-use Rattle.decision_tracker.proofs.Laws.{literal-free}
+use Rattle.decision_tracker.specs.Tracking.{clauseBy, decisionBy, decisionOf, decisions, seen, Told}
 use Rattle.decision_tracker.proofs.Values.{undecided-seen, reads-undecided, falsified-undecided, falsified-false, falsified-true}
 use Rattle.marked.proofs.Laws.{marked-same}
 use Rattle.encoder.specs.declared.Counters.{Counters}
 use Rattle.encoder.specs.Held.{Reading, openingOf, stateOf, Good}
 use Rattle.encoder.specs.Did.{limitsOf}
 use Rattle.encoder.proofs.Frames.{good-kept, list-kept, line-kept}
+use Rattle.encoder.proofs.Counted.{withDecisions}
 use Rattle.commands.specs.declared.Outcome.{Outcome}
 use Rattle.commands.specs.declared.Outcome.the-variants.{Carried, Refused}
 use Rattle.commands.specs.Commands.{ChangesOf, Changes, decidedTo, DecidesLiteral, CarriedOut, PlainOutcomes}
@@ -60,48 +60,22 @@ low-is c l v n st cl wt level e = sym e
 
 -- ---- other decisions
 
--- counters with another number of decisions
-abbrev pub deciding : ℕ → Counters → Counters
-deciding x n =
-    record {
-      variables = n .variables;
-      clauses = n .clauses;
-      literals = n .literals;
-      decisions = x;
-      owners = n .owners;
-      names = n .names;
-      several = n .several;
-      added = n .added;
-      named = n .named;
-      tracked = n .tracked;
-      waiting = n .waiting;
-      drawn = n .drawn;
-      first = n .first;
-      tail = n .tail;
-      runs = n .runs;
-      full = n .full;
-    }
-
 module _ {l : Limits} (n : Counters) {count : ℕ} {ds : List Decision} {st st′ : ℕ → List ℕ} (t : Told l count ds st st′) (c : Catalogue) (cl wt : List ℕ) where
-  told-state : (v : Reading) → stateOf c l v (deciding count n) st′ cl wt ≡ setDecisions ds (stateOf c l v n st cl wt)
+  told-state : (v : Reading) → stateOf c l v (withDecisions count n) st′ cl wt ≡ setDecisions ds (stateOf c l v n st cl wt)
   unfolding stateOf openingOf any
   told-state v =
       let ch = t .rest in
       simp (t .is, list-kept ch, line-kept ch, variables-kept ch, ch .same)
 
-  told-good : Good c l n st cl wt → Good c l (deciding count n) st′ cl wt
+  told-good : Good c l n st cl wt → Good c l (withDecisions count n) st′ cl wt
   unfolding any
   told-good g = good-kept (t .rest) g (search) refl refl refl refl refl (g .entries)
 
-  told-changes : ChangesOf c l (setDecisions ds) n st cl wt (deciding count n) st′
+  told-changes : ChangesOf c l (setDecisions ds) n st cl wt (withDecisions count n) st′
   unfolding any
   told-changes = record { good = told-good; hand = λ h. marked-same h (t .rest) refl refl; full = refl; runs = refl; is = told-state }
 
 -- ---- a literal is decided
-
-pub decide-free : {l : Limits} {d y : ℕ} {st : ℕ → List ℕ} {v : Value} (x : code.Literal) → Kept l d st → y ≡ (literalOf x) .variable
-    → (literalOf x) .variable < l .variables → v ≡ seen (evaluate (decisions d st) (literalOf x)) → v ≡ values.Undecided → Free l d y st
-decide-free x k e h f q = literal-free (literalOf x) k e (rw e h) f q
 
 abbrev pub newDecision : (x : ℕ) (b : Bool) (level : ℕ) → tracker.Decision
 newDecision x b level = record { variable = x; value = b; level = level; clause = 0 }
@@ -133,7 +107,7 @@ module _ {l : Limits} {n : Counters} (x : code.Literal) {level : ℕ} {st : ℕ 
 
   pub decided-new : v ≡ values.Undecided → {y : ℕ} {b : Bool} → y ≡ (literalOf x) .variable → b ≡ (literalOf x) .positive
       → {count : ℕ} {st′ : ℕ → List ℕ} → Told l count (snoc (decisions (n .decisions) st) (decisionOf (newDecision y b level))) st st′
-      → DecidesLiteral l (literalOf x) level n st (Carried (deciding count n)) st′
+      → DecidesLiteral l (literalOf x) level n st (Carried (withDecisions count n)) st′
   decided-new q {y} {b} ey eb t =
       literal-carried (record { is = λ c cl wt. changes-as (told-changes n t c cl wt) (new c cl wt) })
       (sym (falsified-undecided (decisions (n .decisions) st) (literalOf x) e q))
@@ -226,6 +200,6 @@ module _ (l : Limits) (n : Counters) (st : ℕ → List ℕ) (x value level : �
 -- ---- the command undo: it has no refusals
 
 pub undone : {l : Limits} {n : Counters} {level count : ℕ} {st st′ : ℕ → List ℕ} → Told l count (upToLevel level (decisions (n .decisions) st)) st st′
-    → PlainOutcomes l (Command.undo level) n st (Carried (deciding count n)) st′
+    → PlainOutcomes l (Command.undo level) n st (Carried (withDecisions count n)) st′
 undone {l} {n} {level} {count} {st} {st′} t =
     record { is = λ c. outcome-carried (record { is = λ c cl wt. told-changes n t c cl wt }) (λ cl wt v. unfold carryOut commandRefusals carriedOut unlessAny stateOf in refl) }

@@ -14,8 +14,6 @@ use Rattle.rules.specs.Decisions.{evaluate, isFalsified, isUndecided}
 use Rattle.rules.specs.Opening as opening
 use Rattle.rules.specs.State.{State, setDecisions, decidedTrue}
 use Rattle.rules.specs.Sheet.{carryOut}
-use Rattle.rules.proofs.Each.{Each}
-use Rattle.rules.proofs.Valid.{Entry}
 use Rattle.refusal.specs.declared.Refusal.{Refusal}
 use Rattle.refusal.specs.declared.Refusal.the-variants.{DecidedAgainst}
 use Rattle.refusal.specs.Refusing.{refusalOf}
@@ -27,10 +25,6 @@ use Rattle.encoder.specs.Held.{Reading, stateOf, Good}
 use Rattle.encoder.specs.Did.{limitsOf, onOpening}
 use Rattle.commands.specs.declared.Outcome.{Outcome}
 use Rattle.commands.specs.declared.Outcome.the-variants.{Carried, Refused}
-
--- each of these entries is a disjunct of a requirement
-pub record AllGiven (c : Catalogue) (es : List (ℕ × ℕ)) : Type 0 where
-  pub given : Each (Entry c) es
 
 -- between two records the state area changed from st to st′, and the state by F
 pub record ChangesOf (c : Catalogue) (l : Limits) (F : State → State) (n : Counters) (st : ℕ → List ℕ) (cl wt : List ℕ) (n′ : Counters) (st′ : ℕ → List ℕ) : Type 0 where

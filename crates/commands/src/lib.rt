@@ -27,8 +27,8 @@ ghost use Rattle.decision_tracker.specs.Tracking.{decisions, Kept};
 ghost use Rattle.marked.specs.Marked.{ownerOf, Marked};
 ghost use Rattle.entries.specs.Entries.{noEntry, waitingIn, Long};
 ghost use Rattle.encoder.specs.Did.{onOpening};
-ghost use Rattle.goals.specs.Goals.{Catalogued, trueOf};
-ghost use Rattle.commands.specs.Commands.{AllGiven, Changes, Draws, DecidesLiteral, PlainOutcomes, PartOutcomes};
+ghost use Rattle.goals.specs.Goals.{Catalogued, trueOf, AllGiven};
+ghost use Rattle.commands.specs.Commands.{Changes, Draws, DecidesLiteral, PlainOutcomes, PartOutcomes};
 
 // What a command gives.
 pub enum Outcome {

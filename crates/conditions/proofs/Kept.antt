@@ -14,7 +14,7 @@ use Rattle.rules.specs.Lists.{snoc}
 use Rattle.rules.specs.Catalogue.{Operator, and, or, Part, Condition, leaf, joined, noCondition, Requirement, Constraint}
 use Rattle.rules.specs.Conditions.{Disjunct, combined, disjuncts, tooWide, tooManyDisjuncts}
 use Rattle.rules.specs.Items.{operatorOf}
-use Rattle.rules.proofs.ListLaws.{length-snoc, each-snoc}
+use Rattle.rules.proofs.ListLaws.{length-snoc, each-snoc, no-element}
 use Rattle.rules.proofs.DisjunctLaws.{disjuncts-old, disjuncts-new-leaf, disjuncts-new-joined, length-or, length-and}
 use Rattle.tables.specs.declared.Counts.{Counts}
 use Rattle.tables.specs.declared.Condition as C
@@ -82,10 +82,6 @@ module _ (t : Tables) (s : Sized t) where
   pub sized-constraint : (x : Constraint) → Sized (withConstraint t x)
   unfolding withConstraint
   sized-constraint x = sized-same t (withConstraint t x) refl refl s
-
-no-element : {A : Type 0} (xs : List A) → length xs ≡ 0 → xs ≡ []
-no-element [] e = refl
-no-element (x ∷ xs) e = let no-such : ⊥ = omega arith in absurd no-such
 
 length-sizes : (cs : List Condition) → length (sizesOf cs) ≡ length cs
 unfolding sizesOf

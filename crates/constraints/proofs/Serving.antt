@@ -1,6 +1,6 @@
 -- A constraint's task: what its steps do together.
 use mathlib.Core.Path.{_≡_, refl, sym, _∙_, ap}
-use mathlib.Core.Bool.{Bool, true, false, not, _||_}
+use mathlib.Core.Bool.{Bool, true, false, not}
 use mathlib.Core.List.{List, [], _∷_, _++_, map}
 use Prim.Native.Nat.{ℕ, _<_, _≤_}
 use native.Mathlib.Omega.{arith}
@@ -19,6 +19,7 @@ use Rattle.rules.proofs.Each.{unless-cases}
 use Rattle.rules.proofs.DistinctEnough.{fold-append}
 use Rattle.rules.proofs.ClauseByClause.{addClause, emit-one-by-one}
 use Rattle.rules.proofs.Capped.{addVariable}
+use Rattle.rules.proofs.Bools.{or-none}
 use Rattle.tables.specs.declared.Counts.{Counts}
 use Rattle.tables.specs.declared.Constraint as code
 use Rattle.tables.specs.Tables.{tables, constraintIs}
@@ -31,10 +32,10 @@ use Rattle.variable_map.proofs.Places.{known-after}
 use Rattle.marked.specs.Marked.{ownerOf}
 use Rattle.encoder.specs.declared.Counters.{Counters}
 use Rattle.encoder.specs.Did.{ClausesDid, PlainDid}
+use Rattle.encoder.proofs.Steps.{state-then-clauses}
 use Rattle.parts.specs.declared.Naming.the-variants.{Variable}
 use Rattle.parts.specs.declared.Adding.the-variants.{Constrains, AuxOut}
 use Rattle.parts.specs.Parts.{namingOf, clauseFor, addingOf}
-use Rattle.parts.proofs.Steps.{state-then-clauses}
 use Rattle.parts.proofs.Clauses.{adds-are}
 use Rattle.parts.proofs.Serving.{names-are, task-served}
 use Rattle.owners.specs.Owners.{ownerIs, serving}
@@ -57,10 +58,6 @@ apart : (r : ℕ) (o : Owner) → sameOrigin (violation r) (chosen o) ≡ false
 unfolding key sameKey
 apart r root = refl
 apart r (part p) = refl
-
-or-none : (a : Bool) → (a || false) ≡ a
-or-none true = refl
-or-none false = refl
 
 same-violation : (vs : List Origin) (o : Owner) (r : ℕ) → known (withVariable (chosen o) vs) (violation r) ≡ known vs (violation r)
 unfolding withVariable

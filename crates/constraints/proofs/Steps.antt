@@ -2,10 +2,8 @@
 use mathlib.Core.Path.{_≡_, _∙_, ap}
 use mathlib.Core.Bool.{Bool, true, false, not}
 use mathlib.Core.List.{List, []}
-use Prim.Native.Nat.{ℕ, _+_, _<_}
+use Prim.Native.Nat.{ℕ, _<_}
 use native.Mathlib.Omega.{arith}
-use lib.Dec.{eqb}
-use borrow.Author.Tests.{eq-eqb, ne-eqb}
 use Rattle.rules.specs.Lists.{fold, when}
 use Rattle.rules.specs.Clause.{auxOwner}
 use Rattle.rules.specs.Catalogue.{Owner, Catalogue}
@@ -13,29 +11,27 @@ use Rattle.rules.specs.Candidates.{nonMatching}
 use Rattle.rules.specs.Variables.{Origin, chosen, violation, known, variableOf}
 use Rattle.rules.specs.State.{State}
 use Rattle.rules.specs.State as rules
-use Rattle.rules.proofs.Bools.{by-cases}
 use Rattle.rules.proofs.Places.{withVariable-known}
 use Rattle.rules.proofs.Capped.{addVariable}
 use Rattle.state.specs.declared.Limits.{Limits}
 use Rattle.variable_map.specs.declared.Origin as code
-use Rattle.variable_map.specs.Mapping.{originOf, variables, place, Mapped}
+use Rattle.variable_map.specs.Mapping.{originOf, variables, Mapped}
 use Rattle.variable_map.proofs.Laws.{count}
-use Rattle.variable_map.proofs.Places.{place-known, place-unknown}
 use Rattle.encoder.specs.declared.Counters.{Counters}
 use Rattle.encoder.specs.declared.Run.{Run}
-use Rattle.encoder.specs.Held.{runOf, Reading, stateOf}
+use Rattle.encoder.specs.Held.{runOf, Reading, stateOf, GoodAlone, KnownUnlessFull}
 use Rattle.encoder.specs.Did.{Widens, Looked, StateDid, ClausesDid, PlainDid}
 use Rattle.encoder.proofs.Did.{widens-then, widens-fold, did-as, did-then, did-stop}
 use Rattle.encoder.proofs.Widening.{widens-when, addVariable-widens, addClause-widens}
 use Rattle.cache.specs.declared.Choice.the-variants.{NonMatching}
+use Rattle.encoder.proofs.Steps.{clauses-same, state-then, state-then-clauses, not-full, variables-after, still-known}
 use Rattle.clauses.specs.Adding.{Adds}
 use Rattle.parts.specs.declared.Parts.the-variants.{Chosen}
 use Rattle.parts.specs.declared.Naming.the-variants.{Variable}
 use Rattle.parts.specs.declared.Adding.{Adding}
 use Rattle.parts.specs.declared.Adding.the-variants.{Constrains, AuxOut}
-use Rattle.parts.specs.Parts.{partsFor, namingOf, addingOf, AllKnown, GoodAlone}
+use Rattle.parts.specs.Parts.{partsFor, namingOf, addingOf}
 use Rattle.parts.proofs.Selecting.{non-matching-parts}
-use Rattle.parts.proofs.Steps.{clauses-same, state-then, state-then-clauses, not-full, variables-after, still-known}
 use Rattle.constraints.specs.Constraints.{Knows, constrainFew, addViolation, constrainMany}
 
 -- ---- origins that have their variables
@@ -62,10 +58,10 @@ pub looked-below : {l : Limits} (n : ℕ) (st : ℕ → List ℕ) {x : ℕ} (w :
     → known (variables n st) o ≡ true → x < l .variables
 looked-below n st w i m k h = omega (arith, m .room, k .below (rw i h), count n st)
 
-pub non-matching-known : (c : Catalogue) (r : ℕ) {full : Bool} {vs : List Origin} → AllKnown full vs (nonMatching c r) → AllKnown full vs (partsFor c (Chosen r NonMatching))
+pub non-matching-known : (c : Catalogue) (r : ℕ) {full : Bool} {vs : List Origin} → KnownUnlessFull full vs (nonMatching c r) → KnownUnlessFull full vs (partsFor c (Chosen r NonMatching))
 non-matching-known c r a = rw (non-matching-parts c r) a
 
-pub known-non-matching : (c : Catalogue) (r : ℕ) {full : Bool} {vs : List Origin} → AllKnown full vs (partsFor c (Chosen r NonMatching)) → AllKnown full vs (nonMatching c r)
+pub known-non-matching : (c : Catalogue) (r : ℕ) {full : Bool} {vs : List Origin} → KnownUnlessFull full vs (partsFor c (Chosen r NonMatching)) → KnownUnlessFull full vs (nonMatching c r)
 known-non-matching c r a = rw (non-matching-parts c r) at a
 
 -- ---- the steps
@@ -120,14 +116,6 @@ module _ {c : Catalogue} {l : Limits} (run : Run) (o : Owner) (r : ℕ) {n n′ 
       record {
         is = λ wt. did-as (g .is c wt) (λ v s. violation-widens c (runOf run) o r new s) (λ _ f v. unfold addViolation stateOf when in rw (e, ← i, ← j));
       }
-
--- a place is 0 where there is none
-pub new-is : (vs : List Origin) (w : code.Origin) (o : Origin) (p : ℕ) → originOf w ≡ o → p ≡ place vs (originOf w) → eqb p 0 ≡ not (known vs o)
-new-is vs w o p i e =
-    let q : p ≡ place vs o = e ∙ ap (place vs) i in
-    by-cases (known vs o)
-    (λ h. let z : p ≡ variableOf vs o + 1 = q ∙ place-known vs o h in rw (h, ne-eqb p 0 (λ u. omega arith)))
-    (λ h. let z : p ≡ 0 = q ∙ place-unknown vs o h in rw (h, eq-eqb p 0 z))
 
 module _ {c : Catalogue} {l : Limits} (run : Run) (o : Owner) (r : ℕ) (w : code.Origin) {n n₁ n₂ : Counters} {st st₁ st₂ : ℕ → List ℕ} {new : Bool}
     (e : new ≡ not (known (variables (n .variables) st) (violation r))) (i : originOf w ≡ violation r)

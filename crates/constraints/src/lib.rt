@@ -19,11 +19,10 @@ ghost use Rattle.rules.proofs.WellFormed.{WellFormed};
 ghost use Rattle.cache.specs.Areas.{catalogue};
 ghost use Rattle.catalogue.specs.Reading.{Kept};
 ghost use Rattle.state.specs.Layout.{held, Fits};
-ghost use Rattle.variable_map.specs.Mapping.{originOf, variables};
+ghost use Rattle.variable_map.specs.Mapping.{variables};
 ghost use Rattle.marked.specs.Marked.{ownerOf};
-ghost use Rattle.encoder.specs.Held.{runOf, LongEnough, Good};
+ghost use Rattle.encoder.specs.Held.{runOf, LongEnough, Good, KnownUnlessFull};
 ghost use Rattle.encoder.specs.Did.{ClausesDid};
-ghost use Rattle.parts.specs.Parts.{AllKnown};
 ghost use Rattle.owners.specs.Owners.{serving};
 ghost use Rattle.constraints.specs.Constraints.{Knows, constrainFew, addViolation, constrainMany};
 
@@ -103,7 +102,7 @@ fn add_violation(
     requires { ⌜ LongEnough l (length (now clauses)) 16384 ⌝ }
     requires { ⌜ (0 < run .number) × (r < k .ranges) × (o < 1025) ⌝ }
     requires { ⌜ (known (variables (n .variables) (held l (now s))) (chosen (ownerOf o)) ≡ true) × (known (variables (n .variables) (held l (now s))) (violation r) ≡ true) ⌝ }
-    requires { ⌜ AllKnown (n .full) (variables (n .variables) (held l (now s))) (nonMatching (catalogue k (now marks) (now unions) (now t)) r) ⌝ }
+    requires { ⌜ KnownUnlessFull (n .full) (variables (n .variables) (held l (now s))) (nonMatching (catalogue k (now marks) (now unions) (now t)) r) ⌝ }
     ensures { λ m. ⌜ ClausesDid (catalogue k (now (marks .entry)) (now (unions .entry)) (now (t .entry))) l (λ v. addViolation (catalogue k (now (marks .entry)) (now (unions .entry)) (now (t .entry))) (runOf run) (ownerOf o) r new) n (held l (now (s .entry))) (now (clauses .entry)) m (held l (now (s .exit))) (now (clauses .exit)) ⌝ }
 {
     let y = opening::variable_of(s, l, n, variable_map::violation(r as u16));

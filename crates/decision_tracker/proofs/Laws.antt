@@ -101,10 +101,10 @@ pub read-free : {l : Limits} {d x : ℕ} {st : ℕ → List ℕ} {v : Value} →
     → v ≡ values.Undecided → Free l d x st
 read-free {d = d} {x = x} {st = st} {v = v} k h e q = record { kept = k; exists = h; free = reads-undecided (decisions d st) (pos x) v e q }
 
-pub literal-free : {l : Limits} {d x : ℕ} {st : ℕ → List ℕ} {v : Value} (k : Literal) → Kept l d st → x ≡ k .variable → x < l .variables
-    → v ≡ seen (evaluate (decisions d st) k) → v ≡ values.Undecided → Free l d x st
-literal-free {d = d} {st = st} {v = v} k p n h e q =
-    record { kept = p; exists = h; free = rw n (variable-free (decisions d st) k (reads-undecided (decisions d st) k v e q)) }
+pub literal-free : {l : Limits} {d y : ℕ} {st : ℕ → List ℕ} {v : Value} (x : clause.Literal) → Kept l d st → y ≡ (literalOf x) .variable
+    → (literalOf x) .variable < l .variables → v ≡ seen (evaluate (decisions d st) (literalOf x)) → v ≡ values.Undecided → Free l d y st
+literal-free {d = d} {st = st} {v = v} x p n h e q =
+    record { kept = p; exists = rw n h; free = rw n (variable-free (decisions d st) (literalOf x) (reads-undecided (decisions d st) (literalOf x) v e q)) }
 
 -- ---- values
 

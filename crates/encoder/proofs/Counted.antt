@@ -23,6 +23,27 @@ withVariables x n =
       full = n .full;
     }
 
+abbrev pub withDecisions : ℕ → Counters → Counters
+withDecisions x n =
+    record {
+      variables = n .variables;
+      clauses = n .clauses;
+      literals = n .literals;
+      decisions = x;
+      owners = n .owners;
+      names = n .names;
+      several = n .several;
+      added = n .added;
+      named = n .named;
+      tracked = n .tracked;
+      waiting = n .waiting;
+      drawn = n .drawn;
+      first = n .first;
+      tail = n .tail;
+      runs = n .runs;
+      full = n .full;
+    }
+
 abbrev pub withOwners : ℕ → Counters → Counters
 withOwners x n =
     record {

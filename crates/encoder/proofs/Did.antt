@@ -1,17 +1,15 @@
 -- Steps one after another.
 use mathlib.Core.Path.{_≡_, refl, sym, _∙_, ap}
-use mathlib.Core.Bool.{Bool, true, false, _||_, true≢false}
+use mathlib.Core.Bool.{true, false, true≢false}
 use mathlib.Core.List.{List, [], _∷_}
-use Prim.Native.Nat.{ℕ, _≤_}
+use Prim.Native.Nat.{ℕ}
 use native.Mathlib.Omega.{arith}
-use lib.Dec.{ltb}
 use lib.ListN.{take}
-use borrow.Author.Tests.{ltb-true, lt-ltb}
 use Rattle.rules.specs.Catalogue.{Catalogue}
 use Rattle.rules.specs.Lists.{fold, elem}
 use Rattle.rules.specs.State.{State}
 use Rattle.rules.proofs.Bools.{by-cases}
-use Rattle.rules.proofs.Grows.{same, and-then, stays-above}
+use Rattle.rules.proofs.Grows.{same, and-then, stays-above, more-than, either}
 use Rattle.state.specs.declared.Limits.{Limits}
 use Rattle.state.specs.Changed.{Changed}
 use Rattle.entries.specs.Entries.{drawnIn}
@@ -33,14 +31,6 @@ pub widens-fold : {A : Type 0} (f : A → State → State) → ((x : A) (s : Sta
 unfolding fold
 widens-fold f h [] s = widens-same
 widens-fold f h (x ∷ xs) s = widens-then (h x s) (widens-fold f h xs (f x s))
-
-more-than : (l m n : ℕ) → m ≤ n → ltb l m ≡ true → ltb l n ≡ true
-more-than l m n h e = let a = ltb-true l m e in lt-ltb l n (omega arith)
-
-either : (a a′ b b′ : Bool) → (a ≡ true → a′ ≡ true) → (b ≡ true → b′ ≡ true) → (a || b) ≡ true → (a′ || b′) ≡ true
-either true a′ b b′ f g e = rw (f refl)
-either false true b b′ f g e = refl
-either false false b b′ f g e = g e
 
 pub stays-beyond : (l : Limits) (room : ℕ) {s s′ : State} → Widens s s′ → beyond l room s ≡ true → beyond l room s′ ≡ true
 unfolding beyond

@@ -1,4 +1,5 @@
 pub mod Did
+pub mod Steps
 pub mod Counted
 pub mod Frames
 pub mod Widening

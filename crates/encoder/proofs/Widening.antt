@@ -124,7 +124,11 @@ addWaiting-widens e s = record { grows = addWaiting-grows e s; line = unfold add
 pub addVariable-widens : (o : Origin) (s : State) → Widens s (addVariable o s)
 addVariable-widens o s = record { grows = addVariable-grows o s; line = unfold addVariable in omega arith; several = unfold addVariable in omega arith }
 
-addClause-opening : (r : Run) (k : Clause) (s : State) → (addClause r k s) .opening ≡ s .opening
+pub addClause-variables : (r : Run) (k : Clause) (s : State) → (addClause r k s) .variables ≡ s .variables
+unfolding addClause
+addClause-variables r k s = effect-leaves (effect-is r (length (s .clauses)) k (setClauses (snoc (s .clauses) k) s)) .variables
+
+pub addClause-opening : (r : Run) (k : Clause) (s : State) → (addClause r k s) .opening ≡ s .opening
 unfolding addClause
 addClause-opening r k s = effect-leaves (effect-is r (length (s .clauses)) k (setClauses (snoc (s .clauses) k) s)) .opening
 

@@ -2,13 +2,13 @@
 use mathlib.Core.Path.{_≡_}
 use mathlib.Core.Bool.{Bool, true, false, cond}
 use mathlib.Core.List.{List, [], _∷_, _++_, map}
-use Prim.Native.Nat.{ℕ, suc, _+_, _-_, _*_, _/_, _%_, _<_, _≤_}
+use Prim.Native.Nat.{ℕ, suc, _+_, _*_, _/_, _%_, _<_, _≤_}
 use lib.Dec.{eqb}
 use lib.ListN.{length, getD, take, drop}
-use Rattle.rules.specs.Lists.{filter, concatMap, listIf, sum}
+use Rattle.rules.specs.Lists.{filter, sum}
 use Rattle.rules.specs.Literal.{Literal}
 use Rattle.rules.specs.Clause.{Clause, install, requires, gated, excluded, constrains, forbid, auxOut, auxOwner, lock, anyGate, anyOne, exclusion, unknownDependencies, conditionLiterals}
-use Rattle.rules.specs.Catalogue.{Goal, Catalogue}
+use Rattle.rules.specs.Catalogue.{Catalogue}
 use Rattle.rules.specs.Candidates.{candidates}
 use Rattle.rules.specs.Conditions.{indices}
 use Rattle.rules.specs.Items.{goalOf}
@@ -19,7 +19,7 @@ use Rattle.rules.specs.State as rules
 use Rattle.rules.proofs.Each.{Each}
 use Rattle.clause.specs.Literals.{signed}
 use Rattle.state.specs.declared.Limits.{Limits}
-use Rattle.variable_map.specs.Mapping.{variables, Mapped}
+use Rattle.variable_map.specs.Mapping.{variables, Mapped, AllKnown}
 use Rattle.decision_tracker.specs.Tracking.{decisions, Kept}
 use Rattle.marked.specs.Marked.{listed, ownerOf, Marked}
 use Rattle.line.specs.declared.Task as line
@@ -163,6 +163,15 @@ pub record Good (c : Catalogue) (l : Limits) (n : Counters) (st : ℕ → List �
   pub state : GoodState c l n st
   pub clauses : GoodClauses c l n st cl
   pub entries : n .waiting + n .drawn ≤ l .waiting
+
+-- what holds between two steps, of the state area and some clauses: a step of the state area alone keeps it, whichever they are
+pub record GoodAlone (c : Catalogue) (l : Limits) (n : Counters) (st : ℕ → List ℕ) : Type 0 where
+  pub clauses : List ℕ
+  pub good : Good c l n st clauses []
+
+-- each of these parts has a variable, if it is not full
+pub record KnownUnlessFull (full : Bool) (vs : List Origin) (ps : List ℕ) : Type 0 where
+  pub known : full ≡ false → AllKnown vs ps
 
 -- areas of these lengths are long enough
 pub record LongEnough (l : Limits) (cl wt : ℕ) : Type 0 where

@@ -20,12 +20,11 @@ use Rattle.state.specs.Layout.{held, Fits}
 use Rattle.marked.specs.Marked.{listed, ownerOf, Marked}
 use Rattle.marked.proofs.Laws.{length-listed, at-low}
 use Rattle.encoder.specs.declared.Counters.{Counters}
-use Rattle.encoder.specs.Held.{Reading, openingOf, stateOf}
+use Rattle.encoder.specs.Held.{Reading, openingOf, stateOf, GoodAlone}
 use Rattle.encoder.specs.Did.{Widens, onOpening, PlainDid}
 use Rattle.encoder.proofs.Did.{did-then, did-stop, did-as}
 use Rattle.encoder.proofs.Widening.{Lengthens, lengthens-fold, openOwner-lengthens, widens-opening}
-use Rattle.owners.specs.Owners.{GoodAlone}
-use Rattle.owners.proofs.Steps.{alone-after, state-idle}
+use Rattle.encoder.proofs.Steps.{state-none, alone-after}
 use Rattle.encoding.specs.Running.{GoodSome, openAdded}
 
 -- ---- openings
@@ -117,7 +116,7 @@ pub record Opened (l : Limits) (n₀ : Counters) (b₀ : List ℕ) (n : Counters
 
 pub opened-start : {l : Limits} {n : Counters} {b : List ℕ} → Fits l (length b) → GoodSome l n (held l b) → Opened l n b n b 0
 opened-start f g =
-    record { fits = f; same = refl; start = g; did = record { is = λ c. state-idle (λ v s. unfold onOpening in rw (first-none (s .opening))) } }
+    record { fits = f; same = refl; start = g; did = record { is = λ c. state-none (λ v s. unfold onOpening in rw (first-none (s .opening))) } }
 
 -- some reading: what is added does not depend on it
 abbrev some : Reading
@@ -128,7 +127,7 @@ module _ {l : Limits} {n₀ n : Counters} {b₀ b : List ℕ} {i : ℕ} (x : Ope
   c₀ = x .start .catalogue
 
   good-now : GoodAlone c₀ l n (held l b)
-  good-now = alone-after (x .start .good) (x .did .is c₀)
+  good-now = alone-after (x .did .is c₀) (x .start .good)
 
   pub opened-owners : Marked 1 2 (n .owners) (held l b)
   opened-owners = good-now .good .state .owners

@@ -16,10 +16,8 @@ use Rattle.rules.specs.State.{State}
 use Rattle.rules.specs.Run.{begun, runOnce}
 use Rattle.rules.specs.Limits.{above}
 use Rattle.rules.proofs.ListLaws.{length-snoc}
-use Rattle.rules.proofs.MemberLaws.{all-in}
-use Rattle.rules.proofs.Each.{each-in}
 use Rattle.rules.proofs.Reached.{Given, Reached}
-use Rattle.rules.proofs.Valid.{Entry, valid}
+use Rattle.rules.proofs.Valid.{valid}
 use Rattle.rules.proofs.Line.{begins, runFrom}
 use Rattle.rules.proofs.Ends.{room}
 use Rattle.rules.proofs.Drawn.{places}
@@ -36,18 +34,19 @@ use Rattle.line.proofs.Line.{queued-none}
 use Rattle.line.proofs.Tasks.{task-drawn}
 use Rattle.entries.specs.Entries.{drawnIn}
 use Rattle.encoder.specs.declared.Counters.{Counters}
-use Rattle.encoder.specs.Held.{Reading, drawnTask, noSuch, taskFrom, taskIn, openingOf, stateOf, Good}
+use Rattle.encoder.specs.Held.{Reading, drawnTask, noSuch, taskFrom, taskIn, openingOf, stateOf, Good, GoodAlone}
 use Rattle.encoder.specs.Did.{limitsOf, roomOf, beyond, onOpening, Did, StateDid, PlainDid}
 use Rattle.encoder.proofs.Did.{beside-kept, did-made, did-then}
 use Rattle.encoder.proofs.Frames.{good-kept, list-kept, line-kept}
 use Rattle.encoder.proofs.Widening.{Lengthens, widens-opening}
+use Rattle.encoder.proofs.Steps.{good-alone, alone-after}
+use Rattle.goals.specs.Goals.{AllGiven}
+use Rattle.goals.proofs.Given.{all-given}
 use Rattle.firing.proofs.Callers.{queued-fire}
-use Rattle.owners.specs.Owners.{GoodAlone}
-use Rattle.owners.proofs.Steps.{alone, alone-after}
 use Rattle.serving.specs.Line.{readingOf}
 use Rattle.serving.proofs.Points.{only-first}
 use Rattle.encoding.proofs.Drawn.{drawn-counted}
-use Rattle.encoding.specs.Running.{Holds, Reaches, GoodSome, AllGiven, openAdded, forgetAdded, fireFrom, fireDrawn, emptied, Begins}
+use Rattle.encoding.specs.Running.{Holds, Reaches, GoodSome, openAdded, forgetAdded, fireFrom, fireDrawn, emptied, Begins}
 
 -- ---- one run more, nothing drawn and nothing in the line
 
@@ -179,11 +178,8 @@ module _ {c : Catalogue} {l : Limits} {s : State} {n : Counters} {st : ℕ → L
   pub held-count : n .drawn ≡ length (s .opening .drawn)
   held-count = sym (drawn-counted l (n .drawn) wt) ∙ ap length held-drawn
 
-pub all-given : {c : Catalogue} {l : Limits} {n : Counters} {st : ℕ → List ℕ} {cl wt : List ℕ} → Reaches c l n st cl wt → AllGiven c (drawnIn l (n .drawn) wt)
-all-given {c} h =
-    let ds = h .state .opening .drawn in
-    let given = valid (h .given) (h .reached) .opening .drawn in
-    rw (held-drawn (h .holds)) (record { given = each-in ds (λ x m. all-in (Entry c) ds given m) })
+pub drawn-given : {c : Catalogue} {l : Limits} {n : Counters} {st : ℕ → List ℕ} {cl wt : List ℕ} → Reaches c l n st cl wt → AllGiven c (drawnIn l (n .drawn) wt)
+drawn-given h = rw (held-drawn (h .holds)) (all-given (valid (h .given) (h .reached) .opening .drawn))
 
 pub drawn-few : {c : Catalogue} {l : Limits} {n : Counters} {st : ℕ → List ℕ} {cl wt : List ℕ} → Reaches c l n st cl wt → n .drawn ≤ l .waiting
 drawn-few h = omega (arith, h .holds .good .entries)
@@ -191,15 +187,15 @@ drawn-few h = omega (arith, h .holds .good .entries)
 -- ---- what holds between the steps
 
 pub some-emptied : {c : Catalogue} {l : Limits} {n : Counters} {st : ℕ → List ℕ} {cl wt : List ℕ} → Good c l n st cl wt → GoodSome l (emptied n) st
-some-emptied {c} g = record { catalogue = c; good = alone (emptied-good g) }
+some-emptied {c} g = record { catalogue = c; good = good-alone (emptied-good g) }
 
 pub added-after : {l : Limits} {n a : Counters} {st st₁ : ℕ → List ℕ} → GoodSome l n st → PlainDid l (λ c v. onOpening openAdded) n st a st₁
     → Marked 6 7 (a .added) st₁
-added-after g x = alone-after (g .good) (x .is (g .catalogue)) .good .state .added
+added-after g x = alone-after (x .is (g .catalogue)) (g .good) .good .state .added
 
 pub alone-begun : {c : Catalogue} {l : Limits} {n n₀ a b : Counters} {st st₁ st₂ : ℕ → List ℕ} {cl wt : List ℕ} → Good c l n st cl wt → n₀ ≡ emptied n
     → PlainDid l (λ c v. onOpening openAdded) n₀ st a st₁ → PlainDid l (λ c v. onOpening forgetAdded) a st₁ b st₂ → GoodAlone c l b st₂
-alone-begun {c} g e x y = alone-after (alone-after (rw e (alone (emptied-good g))) (x .is c)) (y .is c)
+alone-begun {c} g e x y = alone-after (y .is c) (alone-after (x .is c) (rw e (good-alone (emptied-good g))))
 
 -- ---- the steps together
 

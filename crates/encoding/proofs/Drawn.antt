@@ -20,13 +20,13 @@ use Rattle.state.proofs.Rows.{length-rows}
 use Rattle.entries.specs.declared.Entry.{Entry}
 use Rattle.entries.specs.Entries.{noEntry, entryOf, rowAt, drawnIn}
 use Rattle.encoder.specs.declared.Counters.{Counters}
-use Rattle.encoder.specs.Held.{Reading, taskIn}
+use Rattle.encoder.specs.Held.{Reading, taskIn, GoodAlone}
 use Rattle.encoder.specs.Did.{Widens, onOpening, StateDid}
 use Rattle.encoder.proofs.Widening.{Lengthens, lengthens-same, lengthens-then, openNames-lengthens, queue-lengthens, widens-opening}
+use Rattle.encoder.proofs.Steps.{state-same, state-none, state-then, alone-after}
+use Rattle.goals.specs.Goals.{AllGiven}
 use Rattle.firing.specs.Firing.{queued}
-use Rattle.owners.specs.Owners.{GoodAlone}
-use Rattle.owners.proofs.Steps.{alone-after, state-idle, state-then}
-use Rattle.encoding.specs.Running.{AllGiven, fireFrom, fireDrawn}
+use Rattle.encoding.specs.Running.{fireFrom, fireDrawn}
 
 -- how many were drawn
 pub drawn-counted : (l : Limits) (k : ℕ) (wt : List ℕ) → length (drawnIn l k wt) ≡ k
@@ -78,11 +78,11 @@ pub record Fired (c : Catalogue) (l : Limits) (ds : List (ℕ × ℕ)) (n₀ : C
   pub did : StateDid c l (λ v. onOpening (fireDrawn c v (take e ds))) n₀ (held l b₀) n (held l b)
 
 pub fired-start : {c : Catalogue} {l : Limits} (ds : List (ℕ × ℕ)) {n : Counters} {b : List ℕ} → Fits l (length b) → GoodAlone c l n (held l b) → Fired c l ds n b n b 0
-fired-start {c} ds f g = record { fits = f; same = refl; start = g; did = state-idle (λ v s. unfold onOpening in rw (drawn-none c v (s .opening))) }
+fired-start {c} ds f g = record { fits = f; same = refl; start = g; did = state-none (λ v s. unfold onOpening in rw (drawn-none c v (s .opening))) }
 
 module _ {c : Catalogue} {l : Limits} {ds : List (ℕ × ℕ)} {n₀ n : Counters} {b₀ b : List ℕ} {e : ℕ} (x : Fired c l ds n₀ b₀ n b e) where
   pub fired-good : GoodAlone c l n (held l b)
-  fired-good = alone-after (x .start) (x .did)
+  fired-good = alone-after (x .did) (x .start)
 
   module _ (it : Entry) (h : e < length ds) (is : entryOf it ≡ getD ds e noEntry) where
     next-is : (v : Reading) (s : State)
@@ -94,7 +94,7 @@ module _ {c : Catalogue} {l : Limits} {ds : List (ℕ × ℕ)} {n₀ n : Counter
 
     pub fired-step : {n′ : Counters} {b′ : List ℕ} → length b′ ≡ length b
         → StateDid c l (λ v. onOpening (queued c (it .requirement) (taskIn c v (3649 + e)))) n (held l b) n′ (held l b′) → Fired c l ds n₀ b₀ n′ b′ (e + 1)
-    fired-step same d = record { fits = rw same (x .fits); same = same ∙ x .same; start = x .start; did = state-then (x .did) d next-is }
+    fired-step same d = record { fits = rw same (x .fits); same = same ∙ x .same; start = x .start; did = state-same (state-then (x .did) d) next-is }
 
   pub fired-end : length ds ≤ e → StateDid c l (λ v. onOpening (fireDrawn c v ds)) n₀ (held l b₀) n (held l b)
   fired-end h = rw (take-all e ds h) at (x .did)

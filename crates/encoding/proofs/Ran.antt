@@ -17,17 +17,18 @@ use Rattle.rules.proofs.Line.{runFrom}
 use Rattle.rules.proofs.Grows.{prefix-length}
 use Rattle.rules.proofs.Forgotten.{forget}
 use Rattle.state.specs.declared.Limits.{Limits}
-use Rattle.variable_map.specs.Mapping.{variables}
+use Rattle.variable_map.specs.Mapping.{variables, AllKnown}
 use Rattle.variable_map.proofs.Laws.{count}
 use Rattle.marked.specs.Marked.{listed}
 use Rattle.encoder.specs.declared.Counters.{Counters}
 use Rattle.encoder.specs.declared.Run.{Run}
 use Rattle.encoder.specs.Held.{Reading, runOf, openingOf, stateOf, LongEnough, Good}
 use Rattle.encoder.specs.Did.{limitsOf, roomOf, ClausesDid}
-use Rattle.goals.specs.Goals.{AllKnown}
+use Rattle.encoder.proofs.Steps.{long-same}
 use Rattle.binary_encoding.specs.Joining.{CanJoin, CanLink}
 use Rattle.serving.specs.Line.{readingOf, taken, Point, Begun, LineServed}
 use Rattle.serving.proofs.Point.{taken-none}
+use Rattle.serving.proofs.Tasks.{long-most}
 use Rattle.encoding.specs.Running.{Holds, Reaches, Begins, RunDid}
 use Rattle.encoding.proofs.Begin.{held-count, drawn-few}
 use Rattle.encoding.proofs.BothEnds.{held-run, held-entries, run-begins, any-reading, joined, run-ends, joined-over, linked-over}
@@ -35,7 +36,7 @@ use Rattle.encoding.proofs.Known.{Tracked, first-tracked, point-tracked
 
 -- for a step that does not look at the waiting area
 pub long-alone : {l : Limits} {cl cl′ wt : ℕ} → cl′ ≡ cl → LongEnough l cl wt → LongEnough l cl′ 16384
-long-alone e h = record { clauses = rw e (h .clauses); most = h .most; waiting = h .waiting; entries = omega (arith, h .waiting) }
+long-alone e h = long-most (long-same e h)
 
 -- ---- in the areas
 

@@ -9,16 +9,13 @@ use Rattle.rules.specs.Opening.{Opening, setAdded, openOwner}
 use Rattle.rules.specs.State.{State}
 use Rattle.rules.specs.Run.{begun, runOnce}
 use Rattle.rules.specs.Limits.{above}
-use Rattle.rules.proofs.Each.{Each}
-use Rattle.rules.proofs.Valid.{Entry}
 use Rattle.rules.proofs.Reached.{Given, Reached}
 use Rattle.rules.proofs.Forgotten.{forget}
 use Rattle.state.specs.declared.Limits.{Limits}
 use Rattle.marked.specs.Marked.{Marked}
 use Rattle.encoder.specs.declared.Counters.{Counters}
-use Rattle.encoder.specs.Held.{Reading, taskIn, stateOf, Good}
+use Rattle.encoder.specs.Held.{Reading, taskIn, stateOf, Good, GoodAlone}
 use Rattle.encoder.specs.Did.{limitsOf}
-use Rattle.owners.specs.Owners.{GoodAlone}
 use Rattle.firing.specs.Firing.{queued}
 use Rattle.serving.specs.Line.{readingOf}
 
@@ -42,10 +39,6 @@ pub record Reaches (c : Catalogue) (l : Limits) (n : Counters) (st : ℕ → Lis
 pub record GoodSome (l : Limits) (n : Counters) (st : ℕ → List ℕ) : Type 0 where
   pub catalogue : Catalogue
   pub good : GoodAlone catalogue l n st
-
--- each of these entries is a disjunct of a requirement
-pub record AllGiven (c : Catalogue) (es : List (ℕ × ℕ)) : Type 0 where
-  pub given : Each (Entry c) es
 
 unfoldable pub openAdded : Opening → Opening
 openAdded o = fold openOwner (o .added) o

@@ -10,11 +10,10 @@ ghost use Rattle.cache.specs.Areas.{catalogue};
 ghost use Rattle.state.specs.Layout.{held, Fits};
 ghost use Rattle.marked.specs.Marked.{Marked};
 ghost use Rattle.entries.specs.Entries.{Long, drawnIn};
-ghost use Rattle.encoder.specs.Held.{LongEnough};
+ghost use Rattle.encoder.specs.Held.{LongEnough, GoodAlone};
 ghost use Rattle.encoder.specs.Did.{onOpening, StateDid, PlainDid};
-ghost use Rattle.goals.specs.Goals.{Catalogued};
-ghost use Rattle.owners.specs.Owners.{GoodAlone};
-ghost use Rattle.encoding.specs.Running.{Reaches, GoodSome, AllGiven, openAdded, forgetAdded, fireDrawn, emptied, Begins, RunDid};
+ghost use Rattle.goals.specs.Goals.{Catalogued, AllGiven};
+ghost use Rattle.encoding.specs.Running.{Reaches, GoodSome, openAdded, forgetAdded, fireDrawn, emptied, Begins, RunDid};
 
 // ---- a run begins
 

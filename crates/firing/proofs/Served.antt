@@ -20,13 +20,12 @@ use Rattle.state.specs.declared.Limits.{Limits}
 use Rattle.variable_map.specs.Mapping.{variables}
 use Rattle.decision_tracker.specs.Tracking.{decisions}
 use Rattle.encoder.specs.declared.Counters.{Counters}
-use Rattle.encoder.specs.Held.{Reading, taskIn, firedNow, stateOf}
+use Rattle.encoder.specs.Held.{Reading, taskIn, firedNow, stateOf, GoodAlone}
 use Rattle.encoder.specs.Did.{Widens, onOpening, StateDid, PlainDid, WaitingDid}
 use Rattle.encoder.proofs.Did.{widens-then, did-then, did-as}
 use Rattle.encoder.proofs.Widening.{Lengthens, lengthens-same, lengthens-then, queue-lengthens, openNames-lengthens, widens-opening}
+use Rattle.encoder.proofs.Steps.{good-waiting, good-alone, state-same, state-then}
 use Rattle.goals.specs.Goals.{trueOf}
-use Rattle.owners.specs.Owners.{GoodAlone}
-use Rattle.owners.proofs.Steps.{good-waiting, alone, state-then}
 use Rattle.firing.specs.declared.Indices.{Indices}
 use Rattle.firing.specs.Firing.{judging, indicesIn, Lists, waits, queued, queuedIf, conditionServed, EntriesDid}
 use Rattle.firing.proofs.Required.{goal-is}
@@ -39,7 +38,7 @@ pub fired : (k : Counts) (m us t : List ℕ) (q x : ℕ) (it : ConditionalRequir
     → StateDid (catalogue k m us t) l (λ v. onOpening (openNames (catalogue k m us t) (goalRanges (catalogue k m us t) (goalOf (it .requirement))))) n st n′ st′
     → PlainDid l (λ c v. onOpening (queue (taskIn c v x))) n′ st′ n″ st″
     → StateDid (catalogue k m us t) l (λ v. onOpening (queued (catalogue k m us t) q (taskIn (catalogue k m us t) v x))) n st n″ st″
-fired k m us t q x it e d p = state-then d (p .is (catalogue k m us t)) (λ v s. unfold onOpening queued in rw (goal-is k m us t q it e))
+fired k m us t q x it e d p = state-same (state-then d (p .is (catalogue k m us t))) (λ v s. unfold onOpening queued in rw (goal-is k m us t q it e))
 
 -- ---- a condition is served
 
@@ -65,7 +64,7 @@ queued-some c q t (i ∷ is) s e = refl
 -- what holds of the state area holds when some wait
 pub alone-waiting : {c : Catalogue} {l : Limits} {F : Reading → State → State} {n n′ : Counters} {st : ℕ → List ℕ} {wt wt′ : List ℕ}
     → WaitingDid l F n wt n′ wt′ → GoodAlone c l n st → GoodAlone c l n′ st
-alone-waiting {c} {st = st} {wt = wt} d g = alone (d .is c st (g .clauses) .good (good-waiting wt (g .good)))
+alone-waiting {c} {st = st} {wt = wt} d g = good-alone (d .is c st (g .clauses) .good (good-waiting wt (g .good)))
 
 -- n, st: when the two lists are made; n′: when the others wait
 module _ (c : Catalogue) (q : ℕ) (st : ℕ → List ℕ) {l : Limits} {n n′ : Counters} {wt wt′ : List ℕ} {stay fire : Indices}

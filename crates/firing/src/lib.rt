@@ -16,10 +16,9 @@ ghost use Rattle.variable_map.specs.Mapping.{variables, Mapped};
 ghost use Rattle.decision_tracker.specs.Tracking.{decisions};
 ghost use Rattle.decision_tracker.specs.Tracking as Tracking;
 ghost use Rattle.entries.specs.Entries.{Long};
-ghost use Rattle.encoder.specs.Held.{taskIn};
+ghost use Rattle.encoder.specs.Held.{taskIn, GoodAlone};
 ghost use Rattle.encoder.specs.Did.{onOpening, StateDid, WaitingDid};
 ghost use Rattle.goals.specs.Goals.{Catalogued, trueOf};
-ghost use Rattle.owners.specs.Owners.{GoodAlone};
 ghost use Rattle.firing.specs.Firing.{judging, indicesIn, Lists, waits, queued, EntriesDid, conditionServed};
 
 // Some disjuncts of one requirement, by index: the first `len`.

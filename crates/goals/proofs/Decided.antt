@@ -24,12 +24,12 @@ use Rattle.cache.specs.declared.Choice.the-variants.{Matching}
 use Rattle.cache.specs.Areas.{catalogue}
 use Rattle.cache.specs.Lists.{chosen, Counted}
 use Rattle.variable_map.specs.declared.Origin as code
-use Rattle.variable_map.specs.Mapping.{originBy, originOf, inTables, place}
+use Rattle.variable_map.specs.Mapping.{originBy, originOf, inTables, place, AllKnown}
 use Rattle.variable_map.proofs.Places.{place-known, placed, unplaced}
 use Rattle.encoder.specs.Did.{Looked}
 use Rattle.marked.specs.Marked.{listed, Marked}
 use Rattle.marked.proofs.Laws.{length-listed}
-use Rattle.goals.specs.Goals.{trueOf, falseOf, AllKnown}
+use Rattle.goals.specs.Goals.{trueOf, falseOf}
 use Rattle.goals.proofs.Parts.{all-both, onward, onward-start, onward-here, onward-past, onward-end}
 
 -- ---- one part

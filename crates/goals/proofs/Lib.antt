@@ -3,3 +3,4 @@ pub mod Released
 pub mod Counting
 pub mod Parts
 pub mod Decided
+pub mod Given

@@ -18,11 +18,11 @@ use Rattle.cache.specs.Lists.{asked, chosen}
 use Rattle.cache.proofs.Laws.{parts-held}
 
 module _ {A : Type 0} (f g : A → Bool) (x : A) (xs : List A) where
-  both-here : (g x && f x) ≡ true → filter f (filter g (x ∷ xs)) ≡ x ∷ filter f (filter g xs)
+  pub both-here : (g x && f x) ≡ true → filter f (filter g (x ∷ xs)) ≡ x ∷ filter f (filter g xs)
   unfolding filter
   both-here e = rw (and-left (g x) (f x) e, filter, and-right (g x) (f x) e, filter)
 
-  both-past : (g x && f x) ≡ false → filter f (filter g (x ∷ xs)) ≡ filter f (filter g xs)
+  pub both-past : (g x && f x) ≡ false → filter f (filter g (x ∷ xs)) ≡ filter f (filter g xs)
   unfolding filter
   both-past e =
       by-cases (g x) (λ h. by-cases (f x) (λ d. absurd (true≢false (rw (h, d) at e))) (λ d. rw (h, filter, d, filter))) (λ h. rw (h, filter))

@@ -1,13 +1,15 @@
 -- The distinct ranges of a goal as the list at hand, and what is decided of parts.
 use mathlib.Core.Path.{_≡_}
-use mathlib.Core.Bool.{Bool, true, _&&_, cond}
+use mathlib.Core.Bool.{Bool, _&&_, cond}
 use mathlib.Core.List.{List, [], _∷_}
 use Prim.Native.Nat.{ℕ}
 use Rattle.rules.specs.Lists.{elem, snoc}
 use Rattle.rules.specs.Variables.{Origin, known, partOrigin, partVariable}
 use Rattle.rules.specs.Decisions.{Decision, isTrue, isFalse}
+use Rattle.rules.specs.Catalogue.{Catalogue}
 use Rattle.rules.proofs.Each.{Each}
 use Rattle.rules.proofs.WellFormed.{WellFormed}
+use Rattle.rules.proofs.Valid.{Entry}
 use Rattle.tables.specs.declared.Counts.{Counts}
 use Rattle.cache.specs.Areas.{catalogue}
 use Rattle.catalogue.specs.Reading.{Kept}
@@ -43,6 +45,6 @@ trueOf vs ds p = known vs (partOrigin p) && isTrue ds (partVariable vs p)
 unfoldable pub falseOf : List Origin → List Decision → ℕ → Bool
 falseOf vs ds p = isFalse ds (partVariable vs p)
 
--- each of these parts has a variable
-pub record AllKnown (vs : List Origin) (ps : List ℕ) : Type 0 where
-  pub known : Each (λ p. known vs (partOrigin p) ≡ true) ps
+-- each of these entries is a disjunct of a requirement
+pub record AllGiven (c : Catalogue) (es : List (ℕ × ℕ)) : Type 0 where
+  pub given : Each (Entry c) es

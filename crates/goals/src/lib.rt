@@ -23,10 +23,10 @@ ghost use Rattle.requirement.specs.Requirements.{goalOf};
 ghost use Rattle.tables.specs.Tables.{tables};
 ghost use Rattle.cache.specs.Areas.{catalogue};
 ghost use Rattle.state.specs.Layout.{held, Fits};
-ghost use Rattle.variable_map.specs.Mapping.{originOf, variables, Mapped};
+ghost use Rattle.variable_map.specs.Mapping.{originOf, variables, Mapped, AllKnown};
 ghost use Rattle.decision_tracker.specs.Tracking.{decisions, Kept};
 ghost use Rattle.marked.specs.Marked.{listed, Marked, Emptied};
-ghost use Rattle.goals.specs.Goals.{Catalogued, trueOf, falseOf, AllKnown, Notes, Gathers};
+ghost use Rattle.goals.specs.Goals.{Catalogued, trueOf, falseOf, Notes, Gathers};
 
 // ---- the list at hand
 

@@ -1,12 +1,10 @@
 -- The clauses of a requirement, by its shape.
-use mathlib.Core.Path.{_≡_, refl, sym, _∙_, ap}
+use mathlib.Core.Path.{_≡_, refl, sym, _∙_}
 use mathlib.Core.Bool.{Bool, true, false, not}
 use mathlib.Core.List.{List, [], _++_, map}
 use Prim.Native.Nat.{ℕ, _+_, _-_, _<_, _≤_}
 use native.Mathlib.Omega.{arith}
-use lib.Dec.{eqb}
 use lib.ListN.{length}
-use borrow.Author.Tests.{eq-eqb, ne-eqb}
 use Rattle.rules.specs.Lists.{when}
 use Rattle.rules.specs.Literal.{Literal, pos}
 use Rattle.rules.specs.Clause.{requires, anyGate}
@@ -19,27 +17,24 @@ use Rattle.rules.specs.Variables.{Origin, chosen, gate, known, variableOf, part
 use Rattle.rules.specs.Encoding.{disjunctLiterals}
 use Rattle.rules.specs.State.{State}
 use Rattle.rules.specs.State as rules
-use Rattle.rules.proofs.Bools.{by-cases}
 use Rattle.rules.proofs.Places.{withVariable-known}
 use Rattle.rules.proofs.Capped.{addVariable}
 use Rattle.rules.proofs.ClauseByClause.{addClause}
 use Rattle.requirement.specs.Requirements.{formOf, numberOf}
 use Rattle.state.specs.declared.Limits.{Limits}
 use Rattle.variable_map.specs.declared.Origin as code
-use Rattle.variable_map.specs.Mapping.{originOf, variables, place}
-use Rattle.variable_map.proofs.Places.{place-known, place-unknown}
+use Rattle.variable_map.specs.Mapping.{originOf, variables}
 use Rattle.decision_tracker.specs.Tracking.{decisions}
 use Rattle.encoder.specs.declared.Counters.{Counters}
 use Rattle.encoder.specs.declared.Run.{Run}
 use Rattle.encoder.specs.Held.{runOf, Reading, literalsIn, goalVariables, stateOf, Good}
 use Rattle.encoder.specs.Did.{Widens, filled, Did, ClausesDid, PlainDid}
 use Rattle.encoder.proofs.Did.{widens-then, did-as, did-then, did-stop}
-use Rattle.encoder.proofs.Widening.{addClause-widens}
+use Rattle.encoder.proofs.Widening.{addClause-widens, addClause-variables}
+use Rattle.encoder.proofs.Steps.{clauses-none, variables-after}
 use Rattle.clauses.specs.Adding.{Adds, AddsRequires, AddsGated}
 use Rattle.clauses.proofs.Added.{requires-over}
-use Rattle.parts.proofs.Steps.{clauses-none, variables-after}
 use Rattle.handling.specs.Handling.{Found, Named, Pushes, addDirect, addGate, addThroughGate, addFired}
-use Rattle.handling.proofs.Handled.{clause-variables}
 use Rattle.handling.proofs.Widening.{direct-widens, gate-widens, through-gate-widens, fired-widens}
 use Rattle.handling.proofs.Pushing.{pushed-count, pushed-are, push-variables, push-did}
 use Rattle.handling.proofs.Owning.{goal-own}
@@ -126,18 +121,10 @@ module _ {c : Catalogue} {l : Limits} (r : Run) (q : ℕ) {new : Bool} {n : Coun
 
 -- ---- through a gate
 
--- the variable of a gate that has none yet is new: a place is 0 where there is none
-pub new-is : (vs : List Origin) (w : code.Origin) (o : Origin) (p : ℕ) → originOf w ≡ o → p ≡ place vs (originOf w) → eqb p 0 ≡ not (known vs o)
-new-is vs w o p i e =
-    let q : p ≡ place vs o = e ∙ ap (place vs) i in
-    by-cases (known vs o)
-    (λ h. let z : p ≡ variableOf vs o + 1 = q ∙ place-known vs o h in rw (h, ne-eqb p 0 (λ u. omega arith)))
-    (λ h. let z : p ≡ 0 = q ∙ place-unknown vs o h in rw (h, eq-eqb p 0 z))
-
 module _ (c : Catalogue) (r : rules.Run) (q : ℕ) where
   gate-variables : (new : Bool) (s : State) → (addGate c r q new s) .variables ≡ s .variables
   unfolding addGate when
-  gate-variables true s = clause-variables r _ s
+  gate-variables true s = addClause-variables r _ s
   gate-variables false s = refl
 
   -- the gate having its variable

@@ -20,14 +20,16 @@ use Rattle.rules.proofs.Bools.{and-false}
 use Rattle.rules.proofs.Each.{each-in, each-out}
 use Rattle.rules.proofs.Membership.{_⊆_, in-left, in-right, in-either, filter-within, filter-either, concatMap-in, concatMap-out, distinct-in}
 use Rattle.rules.proofs.DistinctEnough.{distinct-out, all-same}
+use Rattle.rules.proofs.ListLaws.{no-element}
 use Rattle.clause.specs.Literals.{literalOf}
 use Rattle.regions.specs.Regions.{sizeOf}
 use Rattle.state.specs.declared.Limits.{Limits}
 use Rattle.state.specs.Layout.{sizes, held, Fits}
 use Rattle.state.proofs.Changed.{length-held}
+use Rattle.variable_map.specs.Mapping.{AllKnown}
 use Rattle.marked.specs.Marked.{listed}
 use Rattle.encoder.specs.Held.{literalIn, literalsIn}
-use Rattle.goals.specs.Goals.{falseOf, AllKnown}
+use Rattle.goals.specs.Goals.{falseOf}
 use Rattle.goals.proofs.Parts.{all-both}
 use Rattle.handling.specs.Handling.{literalFalse, Named, AtHand}
 
@@ -135,10 +137,6 @@ some-long (x ∷ xs) h = refl
 some-left : {A : Type 0} (xs ys : List A) → 0 < length xs → some (xs ++ ys) ≡ true
 some-left xs ys h = some-long (xs ++ ys) (omega (arith, length-append xs ys))
 
-none-in : {A : Type 0} (xs : List A) → length xs ≡ 0 → xs ≡ []
-none-in [] e = refl
-none-in (x ∷ xs) e = let no : ⊥ = omega arith in absurd no
-
 within-none : {A : Type 0} (xs : List A) → xs ⊆ [] → xs ≡ []
 within-none [] h = refl
 within-none (x ∷ xs) h = absurd (List·Memᴰ·not-nil (h x (List·Memᴰ·head refl)))
@@ -156,7 +154,7 @@ module _ {c : Catalogue} {q ranges : ℕ} {st : ℕ → List ℕ} (a : AtHand c 
   pub rest-none : (b : Bool) → b ≡ not (eqb (length (concatMap (matching c) (listed ranges 14 st))) 0) → b ≡ false → count ≡ 0 → false ≡ allFalse ds literalsOf
   rest-none b e n z =
       let ms = concatMap (matching c) (listed ranges 14 st) in
-      let g : ms ≡ [] = none-in ms (eqb-true (length ms) 0 (not-false (eqb (length ms) 0) (sym e ∙ n))) in
+      let g : ms ≡ [] = no-element ms (eqb-true (length ms) 0 (not-false (eqb (length ms) 0) (sym e ∙ n))) in
       let k : candidates c (goalAt c q) ≡ [] = within-none (candidates c (goalAt c q)) (λ x m. rw g at (hand-all a x m)) in
       rw (z, k) (unfold literalsIn allFalse in refl)
 

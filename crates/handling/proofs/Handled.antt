@@ -13,17 +13,16 @@ use Rattle.rules.specs.Clause.{Clause, requires, gated, anyGate}
 use Rattle.rules.specs.Catalogue.{Owner, root, part, Goal, Catalogue, rangeName, ownerAt, goalAt, conditionAt, sameOwner}
 use Rattle.rules.specs.Candidates.{sorted, nonMatching, goalRanges, candidates}
 use Rattle.rules.specs.Conditions.{disjunctsIf, disjunctsOf, disjunctAt}
-use Rattle.rules.specs.Variables.{Origin, chosen, one, gate, known, variableOf, withVariable, withVariables, partOrigin, partVariable}
+use Rattle.rules.specs.Variables.{Origin, chosen, gate, known, variableOf, withVariable, withVariables, partOrigin, partVariable}
 use Rattle.rules.specs.Opening.{requirement, owner, Opening, setOwners, setHandled, setFired, setNamed, setLine}
 use Rattle.rules.specs.Opening.{queue, openOwner, firedParts, nameForTracking, openReady, serveRequirement, serve}
 use Rattle.rules.specs.Encoding.{Shape, direct, throughGate, onFiring, shapeBy, shape, shapeOf}
 use Rattle.rules.specs.Encoding.{rangeOrigins, disjunctOrigins, disjunctLiterals, shapeOrigins, taskOrigins, requirementClauses, taskClauses, served, origins, clauses}
-use Rattle.rules.specs.State.{State, setOpening, setVariables, setClauses, Run, emit}
+use Rattle.rules.specs.State.{State, setOpening, setVariables, Run, emit}
 use Rattle.rules.specs.Run.{serveTask}
 use Rattle.rules.specs.Called.{_∈_}
 use Rattle.rules.proofs.Member.{not-one}
 use Rattle.rules.proofs.Membership.{map-out}
-use Rattle.rules.proofs.Effects.{effect-is, effect-leaves}
 use Rattle.rules.proofs.Grows.{withVariables-prefix}
 use Rattle.rules.proofs.Places.{keeps-variable}
 use Rattle.rules.proofs.Known.{known-or-named}
@@ -31,7 +30,9 @@ use Rattle.rules.proofs.Capped.{addVariable}
 use Rattle.rules.proofs.ClauseByClause.{addClause, emit-one-by-one}
 use Rattle.rules.proofs.DistinctEnough.{fold-append, fold-map, fold-concatMap, candidates-enough, variables-once, tracking-once, ready-once, passedOver}
 use Rattle.rules.proofs.Forgotten.{erased, fold-commutes, when-commutes, handleAlone, requirement-erased, emit-forgets}
+use Rattle.rules.proofs.Bools.{same-test}
 use Rattle.encoder.specs.Did.{onOpening}
+use Rattle.encoder.proofs.Widening.{addClause-variables}
 use Rattle.parts.specs.declared.Naming.the-variants.{Candidate}
 use Rattle.parts.specs.Parts.{namingOf}
 use Rattle.owners.specs.Owners.{serving}
@@ -169,31 +170,16 @@ disjuncts-named c q is s =
 
 -- ---- the clauses
 
--- a clause leaves the variables alone
-pub clause-variables : (r : Run) (k : Clause) (s : State) → (addClause r k s) .variables ≡ s .variables
-unfolding addClause
-clause-variables r k s = effect-leaves (effect-is r (length (s .clauses)) k (setClauses (snoc (s .clauses) k) s)) .variables
-
--- and the opening
-pub clause-opening : (r : Run) (k : Clause) (s : State) → (addClause r k s) .opening ≡ s .opening
-unfolding addClause
-clause-opening r k s = effect-leaves (effect-is r (length (s .clauses)) k (setClauses (snoc (s .clauses) k) s)) .opening
-
--- so clauses that are each made from the present variables may be made from those at the start
+-- clauses that are each made from the present variables may be made from those at the start
 pub clauses-same : {A : Type 0} (r : Run) (K : List Origin → A → Clause) (xs : List A) (s : State)
     → fold (λ x (u : State). addClause r (K (u .variables) x) u) xs s ≡ fold (addClause r) (map (K (s .variables)) xs) s
 unfolding fold
 clauses-same r K [] s = refl
 clauses-same r K (x ∷ xs) s =
     let u = addClause r (K (s .variables) x) s in
-    clauses-same r K xs u ∙ ap (λ vs. fold (addClause r) (map (K vs) xs) u) (clause-variables r (K (s .variables) x) s)
+    clauses-same r K xs u ∙ ap (λ vs. fold (addClause r) (map (K vs) xs) u) (addClause-variables r (K (s .variables) x) s)
 
 -- ---- a gate
-
-same-test : (a b : Bool) → (a ≡ true → b ≡ true) → (b ≡ true → a ≡ true) → a ≡ b
-same-test true b f g = sym (f refl)
-same-test false true f g = g refl
-same-test false false f g = refl
 
 -- naming chosen parts makes no gate known
 pub gate-asked : (o : Owner) (ps : List ℕ) (g : Goal) (vs : List Origin)
@@ -277,7 +263,7 @@ module _ (c : Catalogue) (r : Run) (q : ℕ) where
   gate-added true s =
       let k = gated (variableOf (s .variables) (gate (goalAt c q))) (map (partVariable (s .variables)) (candidates c (goalAt c q))) in
       let u = addClause r k s in
-      ap (λ vs. addClause r (anyGate (variableOf vs (gate (goalAt c q))) (variableOf vs (chosen (ownerAt c q)))) u) (clause-variables r k s)
+      ap (λ vs. addClause r (anyGate (variableOf vs (gate (goalAt c q))) (variableOf vs (chosen (ownerAt c q)))) u) (addClause-variables r k s)
   gate-added false s = refl
 
   pub gate-named : (is : List ℕ) (s : State) → firedParts c q is ≡ [] → addVariable (gate (goalAt c q)) (candidatesDone s) ≡ namedBy throughGate is s

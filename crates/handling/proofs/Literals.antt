@@ -1,6 +1,6 @@
 -- The literals of a part, of a range and of a disjunct, put behind the stored ones.
 use mathlib.Core.Path.{_≡_, refl, sym, _∙_, ap}
-use mathlib.Core.Bool.{Bool, true, false, not, _&&_, true≢false}
+use mathlib.Core.Bool.{Bool, true, false, not, _&&_}
 use mathlib.Core.List.{List, [], _∷_, _++_, map-append, append-nil, append-assoc}
 use Prim.Native.Nat.{ℕ, suc, _+_, _-_, _*_, _<_, _≤_}
 use native.Mathlib.Numerals.{add-one}
@@ -18,7 +18,7 @@ use Rattle.rules.specs.Conditions.{Disjunct, disjuncts, disjunctsOf, disjunctAt
 use Rattle.rules.specs.Items.{ceiling}
 use Rattle.rules.specs.Variables.{Origin, one, known, variableOf, partOrigin, partVariable}
 use Rattle.rules.specs.Encoding.{rangeLiterals, disjunctLiterals}
-use Rattle.rules.proofs.Bools.{by-cases, and-left, and-right}
+use Rattle.rules.proofs.Bools.{by-cases}
 use Rattle.rules.proofs.Each.{Each, each-left, each-right}
 use Rattle.rules.proofs.ListLaws.{length-filters, length-upTo}
 use Rattle.rules.proofs.Member.{at-member}
@@ -37,16 +37,17 @@ use Rattle.cache.proofs.Laws.{parts-held, ranges-held, range-missing, range-nam
 use Rattle.state.specs.declared.Limits.{Limits}
 use Rattle.state.specs.Layout.{held, Fits}
 use Rattle.variable_map.specs.declared.Origin as Origins
-use Rattle.variable_map.specs.Mapping.{originOf, inTables, variables, Mapped}
+use Rattle.variable_map.specs.Mapping.{originOf, inTables, variables, Mapped, AllKnown}
 use Rattle.variable_map.proofs.Laws as variables
 use Rattle.encoder.specs.declared.Counters.{Counters}
 use Rattle.encoder.specs.Held.{GoodState}
 use Rattle.encoder.specs.Did.{Looked}
-use Rattle.goals.specs.Goals.{Catalogued, AllKnown}
+use Rattle.goals.specs.Goals.{Catalogued}
+use Rattle.goals.proofs.Parts.{both-here, both-past}
+use Rattle.firing.proofs.Required.{its-disjuncts}
 use Rattle.handling.specs.Handling.{Pushes, partLiterals, RangeKnown, DisjunctKnown}
 use Rattle.handling.proofs.Pushing.{push-none, push-then, push-good, push-variables}
 use Rattle.handling.proofs.Named.{range-in, range-one}
-use Rattle.handling.proofs.Required.{its-disjuncts}
 
 literals-both : (vs : List Origin) (ps qs : List ℕ) → partLiterals vs (ps ++ qs) ≡ partLiterals vs ps ++ partLiterals vs qs
 unfolding partLiterals
@@ -95,18 +96,9 @@ if-not c r p b e q vs = rw (sym e ∙ q) push-none
 -- ---- the non-matching parts from part p on
 
 module _ {A : Type 0} (f g : A → Bool) (x : A) (xs : List A) where
-  both-here : (g x && f x) ≡ true → filter f (filter g (x ∷ xs)) ≡ x ∷ filter f (filter g xs)
-  unfolding filter
-  both-here e = rw (and-left (g x) (f x) e, filter, and-right (g x) (f x) e, filter)
-
-  both-past : (g x && f x) ≡ false → filter f (filter g (x ∷ xs)) ≡ filter f (filter g xs)
-  unfolding filter
-  both-past e =
-      by-cases (g x) (λ h. by-cases (f x) (λ d. absurd (true≢false (rw (h, d) at e))) (λ d. rw (h, filter, d, filter))) (λ h. rw (h, filter))
-
   both-head : filter f (filter g (x ∷ xs)) ≡ listIf (g x && f x) (x ∷ []) ++ filter f (filter g xs)
   unfolding listIf
-  both-head = by-cases (g x && f x) (λ e. both-here e ∙ rw e) (λ e. both-past e ∙ rw e)
+  both-head = by-cases (g x && f x) (λ e. both-here f g x xs e ∙ rw e) (λ e. both-past f g x xs e ∙ rw e)
 
 unfoldable pub rest : Catalogue → ℕ → ℕ → List ℕ
 rest c r p = filter (λ q. not (member c r q)) (filter (λ q. eqb (nameOf c q) (rangeName c r)) (upTo p (length (c .parts) - p)))

@@ -22,9 +22,9 @@ use Rattle.rules.proofs.Grows.{Prefix, whole, withVariables-prefix}
 use Rattle.rules.proofs.Places.{keeps-variable, withVariables-known}
 use Rattle.rules.proofs.Capped.{addVariable, addVariable-grows, addClause-grows}
 use Rattle.rules.proofs.ClauseByClause.{addClause}
+use Rattle.variable_map.specs.Mapping.{AllKnown}
 use Rattle.parts.specs.declared.Naming.the-variants.{Candidate}
 use Rattle.parts.specs.Parts.{namingOf}
-use Rattle.goals.specs.Goals.{AllKnown}
 use Rattle.naming.specs.Naming.{nameDisjuncts}
 use Rattle.handling.specs.Handling.{RangeKnown, DisjunctKnown, FiredKnown, Named, addGate, addFired, addBy, addUnconditional, addAllFired}
 use Rattle.handling.proofs.Handled.{candidates-named, disjuncts-named}

@@ -20,6 +20,7 @@ use Rattle.rules.proofs.Bools.{by-cases}
 use Rattle.rules.proofs.WellFormed.{GoalGiven}
 use Rattle.requirement.specs.declared.ConditionalRequirement.{ConditionalRequirement}
 use Rattle.requirement.specs.Requirements.{goalOf, requirementIs, formOf, numberOf}
+use Rattle.requirement.proofs.Laws.{goal-from-parts}
 use Rattle.tables.specs.declared.Counts.{Counts}
 use Rattle.tables.specs.Tables.{tables}
 use Rattle.cache.specs.Areas.{catalogue}
@@ -56,14 +57,9 @@ unfolding inTables
 gate-fits k m us t w (range r) h = let low : r < length (catalogue k m us t .ranges) = h in lt-ltb r 512 (omega (arith, ranges-held k m us t, w .kept .held .laid .ranges))
 gate-fits k m us t w (union u) h = let low : u < length (catalogue k m us t .unions) = h in lt-ltb u 128 (omega (arith, unions-held k m us t, w .kept .held .laid .unions))
 
-goal-by : (g : Goal) → items.goalOf (formOf g) (numberOf g) ≡ g
-unfolding items.goalOf formOf numberOf
-goal-by (range r) = refl
-goal-by (union u) = refl
-
 -- by its own form and number
 pub goal-own : (c : Catalogue) (q : ℕ) → items.goalOf (formOf (goalAt c q)) (numberOf (goalAt c q)) ≡ goalAt c q
-goal-own c q = goal-by (goalAt c q)
+goal-own c q = goal-from-parts (goalAt c q)
 
 -- ---- the shape, without a condition
 
@@ -110,7 +106,7 @@ module _ (k : Counts) (m us t : List ℕ) (q : ℕ) (it : ConditionalRequirement
   condition-is = ap (λ (x : rules.Requirement). x .condition) record-is
 
   pub by-form : {f j : ℕ} → f ≡ formOf (goalOf (it .requirement)) → j ≡ numberOf (goalOf (it .requirement)) → items.goalOf f j ≡ goalAt here q
-  by-form a b = rw (a, b, goal-is k m us t q it e) (goal-by (goalOf (it .requirement)))
+  by-form a b = rw (a, b, goal-is k m us t q it e) (goal-from-parts (goalOf (it .requirement)))
 
   -- with a condition or without
   pub without : it .condition ≡ 65535 → unconditional here q ≡ true

@@ -1,12 +1,11 @@
 -- A requirement's steps one after another: what they keep, the fired disjuncts one by one, and all by its shape.
 use mathlib.Core.Path.{_≡_, refl, sym, _∙_, ap}
 use mathlib.Core.Bool.{true, false}
-use mathlib.Core.List.{List, [], _∷_}
+use mathlib.Core.List.{List, []}
 use Prim.Native.Nat.{ℕ, _+_, _<_, _≤_}
-use native.Mathlib.Numerals.{add-one}
 use native.Mathlib.Omega.{arith}
 use lib.ListN.{length, getD, take, drop, take-append-drop}
-use lib.Seq.{take-all, take-suc, length-take-le, getD-take}
+use lib.Seq.{take-all, length-take-le, getD-take}
 use Rattle.rules.specs.Lists.{fold, distinct}
 use Rattle.rules.specs.Catalogue.{Catalogue, ownerAt, goalAt}
 use Rattle.rules.specs.Candidates.{sorted, goalRanges}
@@ -26,12 +25,13 @@ use Rattle.encoder.specs.declared.Counters.{Counters}
 use Rattle.encoder.specs.Held.{Reading, stateOf, Good}
 use Rattle.encoder.specs.Did.{StateDid, ClausesDid, PlainDid}
 use Rattle.encoder.proofs.Did.{widens-fold, did-as, did-stop}
+use Rattle.encoder.proofs.Steps.{clauses-same, clauses-none, state-then, clauses-then, state-then-clauses, state-clauses, good-later, variables-after, still-known}
 use Rattle.parts.specs.declared.Naming.the-variants.{Candidate}
 use Rattle.parts.specs.Parts.{namingOf}
-use Rattle.parts.proofs.Steps.{clauses-same, clauses-none, state-then, clauses-then, state-then-clauses, state-clauses, good-later, variables-after, still-known}
 use Rattle.firing.specs.declared.Indices.{Indices}
 use Rattle.firing.specs.Firing.{indicesIn}
 use Rattle.naming.specs.Naming.{nameDisjuncts, GivenIndices}
+use Rattle.naming.proofs.Loops.{one-more}
 use Rattle.handling.specs.Handling.{AtHand, DisjunctKnown, FiredKnown, Named, addDirect, addThroughGate, addFired, addAllFired, addBy, addUnconditional, handled}
 use Rattle.handling.proofs.Named.{candidates-known, fired-known, added-unconditional, added-conditional}
 use Rattle.handling.proofs.Widening.{fired-widens, all-fired-widen, added-widens, handled-widens}
@@ -82,10 +82,6 @@ pub record Firing (c : Catalogue) (l : Limits) (r : Run) (q ranges : ℕ) (is : 
   pub named : n .full ≡ false → Named c q (variables (n .variables) (held l s))
   pub fired : n .full ≡ false → FiredKnown c (variables (n .variables) (held l s)) q is
   pub did : ClausesDid c l (λ v. fold (addFired c r q) (take j is)) n₀ (held l s₀) cl₀ n (held l s) cl
-
-one-more : (f : ℕ → State → State) (xs : List ℕ) (j : ℕ) (s : State) → j < length xs → f (getD xs j 0) (fold f (take j xs) s) ≡ fold f (take (j + 1) xs) s
-unfolding fold
-one-more f xs j s h = rw (add-one j, take-suc xs j 0 h) (sym (fold-append f (take j xs) (getD xs j 0 ∷ []) s))
 
 all-of-them : (f : ℕ → State → State) (xs : List ℕ) (j : ℕ) (s : State) → fold f (drop j xs) (fold f (take j xs) s) ≡ fold f xs s
 all-of-them f xs j s = sym (fold-append f (take j xs) (drop j xs) s) ∙ ap (λ (ys : List ℕ). fold f ys s) (take-append-drop j xs)

@@ -13,10 +13,10 @@ ghost use mathlib.Core.Bool.{true, false};
 ghost use mathlib.Core.List.{[], _∷_, _++_, map};
 ghost use Prim.Native.Nat.{_+_, _<_, _≤_};
 ghost use lib.ListN.{length};
-ghost use Rattle.rules.specs.Lists.{fold, all, listIf};
+ghost use Rattle.rules.specs.Lists.{all, listIf};
 ghost use Rattle.rules.specs.Literal.{pos};
 ghost use Rattle.rules.specs.Catalogue.{goalAt, rangeName};
-ghost use Rattle.rules.specs.Candidates.{sorted, nonMatching, candidates};
+ghost use Rattle.rules.specs.Candidates.{nonMatching, candidates};
 ghost use Rattle.rules.specs.Conditions.{disjunctAt, disjunctsOf, unconditional};
 ghost use Rattle.rules.specs.Decisions.{allFalse};
 ghost use Rattle.rules.specs.Encoding.{rangeLiterals, disjunctLiterals};
@@ -28,14 +28,12 @@ ghost use Rattle.cache.specs.Lists.{chosen};
 ghost use Rattle.cache.specs.declared.Choice.the-variants.{NonMatching};
 ghost use Rattle.clause.specs.Literals.{signed, literalOf};
 ghost use Rattle.state.specs.Layout.{held, Fits};
-ghost use Rattle.variable_map.specs.Mapping.{originOf, inTables, variables, Mapped};
+ghost use Rattle.variable_map.specs.Mapping.{originOf, inTables, variables, Mapped, AllKnown};
 ghost use Rattle.decision_tracker.specs.Tracking.{decisions, Kept};
-ghost use Rattle.marked.specs.Marked.{listed, Marked};
+ghost use Rattle.marked.specs.Marked.{Marked};
 ghost use Rattle.encoder.specs.Held.{runOf, literalsIn, LongEnough, GoodState, Good};
-ghost use Rattle.encoder.specs.Did.{StateDid, ClausesDid};
-ghost use Rattle.goals.specs.Goals.{Catalogued, AllKnown};
-ghost use Rattle.parts.specs.declared.Naming.the-variants.{Candidate};
-ghost use Rattle.parts.specs.Parts.{namingOf};
+ghost use Rattle.encoder.specs.Did.{ClausesDid};
+ghost use Rattle.goals.specs.Goals.{Catalogued};
 ghost use Rattle.owners.specs.Owners.{serving};
 ghost use Rattle.firing.specs.Firing.{indicesIn};
 ghost use Rattle.naming.specs.Naming.{nameDisjuncts, GivenIndices};
@@ -65,7 +63,18 @@ fn literal_of(s: &[u8], l: Limits, n: Counters, o: Origin, positive: bool) -> Li
 }
 
 // A part, if it is one of the range's non-matching.
-fn push_if(marks: &[u8], unions: &[u8], t: &[u8], k: Counts, s: &mut [u8], l: Limits, n: Counters, count: usize, r: usize, p: usize) -> usize
+fn push_if(
+    marks: &[u8],
+    unions: &[u8],
+    t: &[u8],
+    k: Counts,
+    s: &mut [u8],
+    l: Limits,
+    n: Counters,
+    count: usize,
+    r: usize,
+    p: usize,
+) -> usize
     requires { ⌜ Catalogued k (now marks) (now unions) (now t) ⌝ }
     requires { ⌜ Fits l (length (now s)) ⌝ }
     requires { ⌜ GoodState (catalogue k (now marks) (now unions) (now t)) l n (held l (now s)) ⌝ }
@@ -80,7 +89,17 @@ fn push_if(marks: &[u8], unions: &[u8], t: &[u8], k: Counts, s: &mut [u8], l: Li
     count
 }
 
-fn part_literals(marks: &[u8], unions: &[u8], t: &[u8], k: Counts, s: &mut [u8], l: Limits, n: Counters, count: usize, r: usize) -> usize
+fn part_literals(
+    marks: &[u8],
+    unions: &[u8],
+    t: &[u8],
+    k: Counts,
+    s: &mut [u8],
+    l: Limits,
+    n: Counters,
+    count: usize,
+    r: usize,
+) -> usize
     requires { ⌜ Catalogued k (now marks) (now unions) (now t) ⌝ }
     requires { ⌜ Fits l (length (now s)) ⌝ }
     requires { ⌜ GoodState (catalogue k (now marks) (now unions) (now t)) l n (held l (now s)) ⌝ }
@@ -98,7 +117,17 @@ fn part_literals(marks: &[u8], unions: &[u8], t: &[u8], k: Counts, s: &mut [u8],
 }
 
 // The literals of a fired range: its non-matching parts; if none, "not one-of-name".
-fn range_literals(marks: &[u8], unions: &[u8], t: &[u8], k: Counts, s: &mut [u8], l: Limits, n: Counters, count: usize, r: usize) -> usize
+fn range_literals(
+    marks: &[u8],
+    unions: &[u8],
+    t: &[u8],
+    k: Counts,
+    s: &mut [u8],
+    l: Limits,
+    n: Counters,
+    count: usize,
+    r: usize,
+) -> usize
     requires { ⌜ Catalogued k (now marks) (now unions) (now t) ⌝ }
     requires { ⌜ Fits l (length (now s)) ⌝ }
     requires { ⌜ GoodState (catalogue k (now marks) (now unions) (now t)) l n (held l (now s)) ⌝ }
@@ -107,13 +136,29 @@ fn range_literals(marks: &[u8], unions: &[u8], t: &[u8], k: Counts, s: &mut [u8]
     ensures { λ m. ⌜ Pushes l n (held l (now (s .entry))) count (rangeLiterals (variables (n .variables) (held l (now (s .entry)))) (rangeName (catalogue k (now (marks .entry)) (now (unions .entry)) (now (t .entry))) r) (nonMatching (catalogue k (now (marks .entry)) (now (unions .entry)) (now (t .entry))) r)) m (held l (now (s .exit))) ⌝ }
 {
     if cache::non_matching_count(marks, unions, t, k, r) == 0 {
-        let literal = literal_of(s, l, n, variable_map::one(tables::range_name(t, k, r)), false);
+        let literal = literal_of(
+            s,
+            l,
+            n,
+            variable_map::one(tables::range_name(t, k, r)),
+            false,
+        );
         return push_literal(s, l, n, count, literal);
     }
     part_literals(marks, unions, t, k, s, l, n, count, r)
 }
 
-fn disjunct_literals(marks: &[u8], unions: &[u8], t: &[u8], k: Counts, s: &mut [u8], l: Limits, n: Counters, q: usize, i: usize) -> usize
+fn disjunct_literals(
+    marks: &[u8],
+    unions: &[u8],
+    t: &[u8],
+    k: Counts,
+    s: &mut [u8],
+    l: Limits,
+    n: Counters,
+    q: usize,
+    i: usize,
+) -> usize
     requires { ⌜ Catalogued k (now marks) (now unions) (now t) ⌝ }
     requires { ⌜ Fits l (length (now s)) ⌝ }
     requires { ⌜ GoodState (catalogue k (now marks) (now unions) (now t)) l n (held l (now s)) ⌝ }
@@ -155,7 +200,18 @@ fn literals_false(s: &[u8], l: Limits, n: Counters, count: usize) -> bool
 }
 
 // There are literals besides the owner's, `count` of the condition and the candidates, and all are decided false.
-fn rest_false(marks: &[u8], unions: &[u8], t: &[u8], k: Counts, s: &[u8], l: Limits, n: Counters, q: usize, ranges: usize, count: usize) -> bool
+fn rest_false(
+    marks: &[u8],
+    unions: &[u8],
+    t: &[u8],
+    k: Counts,
+    s: &[u8],
+    l: Limits,
+    n: Counters,
+    q: usize,
+    ranges: usize,
+    count: usize,
+) -> bool
     requires { ⌜ Catalogued k (now marks) (now unions) (now t) ⌝ }
     requires { ⌜ Fits l (length (now s)) ⌝ }
     requires { ⌜ GoodState (catalogue k (now marks) (now unions) (now t)) l n (held l (now s)) ⌝ }
@@ -189,7 +245,16 @@ fn gate_origin(goal: Requirement) -> Origin
 }
 
 // The variable of its owner, which has one.
-fn owner_variable(marks: &[u8], unions: &[u8], t: &[u8], k: Counts, s: &[u8], l: Limits, n: Counters, q: usize) -> u16
+fn owner_variable(
+    marks: &[u8],
+    unions: &[u8],
+    t: &[u8],
+    k: Counts,
+    s: &[u8],
+    l: Limits,
+    n: Counters,
+    q: usize,
+) -> u16
     requires { ⌜ Catalogued k (now marks) (now unions) (now t) ⌝ }
     requires { ⌜ Fits l (length (now s)) ⌝ }
     requires { ⌜ GoodState (catalogue k (now marks) (now unions) (now t)) l n (held l (now s)) ⌝ }
@@ -203,7 +268,19 @@ fn owner_variable(marks: &[u8], unions: &[u8], t: &[u8], k: Counts, s: &[u8], l:
 }
 
 // The requires clause of an unconditional requirement.
-fn add_direct(marks: &[u8], unions: &[u8], t: &[u8], k: Counts, s: &[u8], clauses: &mut [u8], l: Limits, n: Counters, r: Run, q: usize, ranges: usize) -> Counters
+fn add_direct(
+    marks: &[u8],
+    unions: &[u8],
+    t: &[u8],
+    k: Counts,
+    s: &[u8],
+    clauses: &mut [u8],
+    l: Limits,
+    n: Counters,
+    r: Run,
+    q: usize,
+    ranges: usize,
+) -> Counters
     requires { ⌜ Catalogued k (now marks) (now unions) (now t) ⌝ }
     requires { ⌜ Fits l (length (now s)) ⌝ }
     requires { ⌜ Good (catalogue k (now marks) (now unions) (now t)) l n (held l (now s)) (now clauses) [] ⌝ }
@@ -221,7 +298,21 @@ fn add_direct(marks: &[u8], unions: &[u8], t: &[u8], k: Counts, s: &[u8], clause
 }
 
 // A gate that is new, its variable being g, has a clause of its own.
-fn add_gate(marks: &[u8], unions: &[u8], t: &[u8], k: Counts, s: &mut [u8], clauses: &mut [u8], l: Limits, n: Counters, r: Run, q: usize, ranges: usize, g: u16, new: bool) -> Counters
+fn add_gate(
+    marks: &[u8],
+    unions: &[u8],
+    t: &[u8],
+    k: Counts,
+    s: &mut [u8],
+    clauses: &mut [u8],
+    l: Limits,
+    n: Counters,
+    r: Run,
+    q: usize,
+    ranges: usize,
+    g: u16,
+    new: bool,
+) -> Counters
     requires { ⌜ Catalogued k (now marks) (now unions) (now t) ⌝ }
     requires { ⌜ Fits l (length (now s)) ⌝ }
     requires { ⌜ Good (catalogue k (now marks) (now unions) (now t)) l n (held l (now s)) (now clauses) [] ⌝ }
@@ -241,7 +332,19 @@ fn add_gate(marks: &[u8], unions: &[u8], t: &[u8], k: Counts, s: &mut [u8], clau
     n
 }
 
-fn add_through_gate(marks: &[u8], unions: &[u8], t: &[u8], k: Counts, s: &mut [u8], clauses: &mut [u8], l: Limits, n: Counters, r: Run, q: usize, ranges: usize) -> Counters
+fn add_through_gate(
+    marks: &[u8],
+    unions: &[u8],
+    t: &[u8],
+    k: Counts,
+    s: &mut [u8],
+    clauses: &mut [u8],
+    l: Limits,
+    n: Counters,
+    r: Run,
+    q: usize,
+    ranges: usize,
+) -> Counters
     requires { ⌜ Catalogued k (now marks) (now unions) (now t) ⌝ }
     requires { ⌜ Fits l (length (now s)) ⌝ }
     requires { ⌜ Good (catalogue k (now marks) (now unions) (now t)) l n (held l (now s)) (now clauses) [] ⌝ }
@@ -266,7 +369,20 @@ fn add_through_gate(marks: &[u8], unions: &[u8], t: &[u8], k: Counts, s: &mut [u
 }
 
 // The requires clause of a fired disjunct.
-fn add_fired(marks: &[u8], unions: &[u8], t: &[u8], k: Counts, s: &mut [u8], clauses: &mut [u8], l: Limits, n: Counters, r: Run, q: usize, ranges: usize, i: usize) -> Counters
+fn add_fired(
+    marks: &[u8],
+    unions: &[u8],
+    t: &[u8],
+    k: Counts,
+    s: &mut [u8],
+    clauses: &mut [u8],
+    l: Limits,
+    n: Counters,
+    r: Run,
+    q: usize,
+    ranges: usize,
+    i: usize,
+) -> Counters
     requires { ⌜ Catalogued k (now marks) (now unions) (now t) ⌝ }
     requires { ⌜ Fits l (length (now s)) ⌝ }
     requires { ⌜ Good (catalogue k (now marks) (now unions) (now t)) l n (held l (now s)) (now clauses) [] ⌝ }
@@ -285,10 +401,34 @@ fn add_fired(marks: &[u8], unions: &[u8], t: &[u8], k: Counts, s: &mut [u8], cla
     let goal = it.requirement;
     let x = owner_variable(marks, unions, t, k, s, l, n, q);
     let all = rest_false(marks, unions, t, k, s, l, n, q, ranges, count);
-    clauses::add_requires(s, clauses, l, n, r, x, count, goal.form(), goal.number(), all)
+    clauses::add_requires(
+        s,
+        clauses,
+        l,
+        n,
+        r,
+        x,
+        count,
+        goal.form(),
+        goal.number(),
+        all,
+    )
 }
 
-fn add_all_fired(marks: &[u8], unions: &[u8], t: &[u8], k: Counts, s: &mut [u8], clauses: &mut [u8], l: Limits, n: Counters, r: Run, q: usize, ranges: usize, is: Indices) -> Counters
+fn add_all_fired(
+    marks: &[u8],
+    unions: &[u8],
+    t: &[u8],
+    k: Counts,
+    s: &mut [u8],
+    clauses: &mut [u8],
+    l: Limits,
+    n: Counters,
+    r: Run,
+    q: usize,
+    ranges: usize,
+    is: Indices,
+) -> Counters
     requires { ⌜ Catalogued k (now marks) (now unions) (now t) ⌝ }
     requires { ⌜ Fits l (length (now s)) ⌝ }
     requires { ⌜ Good (catalogue k (now marks) (now unions) (now t)) l n (held l (now s)) (now clauses) [] ⌝ }
@@ -307,7 +447,20 @@ fn add_all_fired(marks: &[u8], unions: &[u8], t: &[u8], k: Counts, s: &mut [u8],
             return m;
         }
         let i = is.at[j];
-        m = add_fired(marks, unions, t, k, s, clauses, l, m, r, q, ranges, i as usize);
+        m = add_fired(
+            marks,
+            unions,
+            t,
+            k,
+            s,
+            clauses,
+            l,
+            m,
+            r,
+            q,
+            ranges,
+            i as usize,
+        );
         j += 1;
     }
     m
@@ -315,7 +468,20 @@ fn add_all_fired(marks: &[u8], unions: &[u8], t: &[u8], k: Counts, s: &mut [u8],
 
 // ---- the task
 
-fn handle_conditional(marks: &[u8], unions: &[u8], t: &[u8], k: Counts, s: &mut [u8], clauses: &mut [u8], l: Limits, n: Counters, r: Run, q: usize, ranges: usize, is: Indices) -> Counters
+fn handle_conditional(
+    marks: &[u8],
+    unions: &[u8],
+    t: &[u8],
+    k: Counts,
+    s: &mut [u8],
+    clauses: &mut [u8],
+    l: Limits,
+    n: Counters,
+    r: Run,
+    q: usize,
+    ranges: usize,
+    is: Indices,
+) -> Counters
     requires { ⌜ Catalogued k (now marks) (now unions) (now t) ⌝ }
     requires { ⌜ Fits l (length (now s)) ⌝ }
     requires { ⌜ Good (catalogue k (now marks) (now unions) (now t)) l n (held l (now s)) (now clauses) [] ⌝ }
@@ -333,7 +499,19 @@ fn handle_conditional(marks: &[u8], unions: &[u8], t: &[u8], k: Counts, s: &mut 
     add_all_fired(marks, unions, t, k, s, clauses, l, m, r, q, ranges, is)
 }
 
-fn handle_unconditional(marks: &[u8], unions: &[u8], t: &[u8], k: Counts, s: &mut [u8], clauses: &mut [u8], l: Limits, n: Counters, r: Run, q: usize, ranges: usize) -> Counters
+fn handle_unconditional(
+    marks: &[u8],
+    unions: &[u8],
+    t: &[u8],
+    k: Counts,
+    s: &mut [u8],
+    clauses: &mut [u8],
+    l: Limits,
+    n: Counters,
+    r: Run,
+    q: usize,
+    ranges: usize,
+) -> Counters
     requires { ⌜ Catalogued k (now marks) (now unions) (now t) ⌝ }
     requires { ⌜ Fits l (length (now s)) ⌝ }
     requires { ⌜ Good (catalogue k (now marks) (now unions) (now t)) l n (held l (now s)) (now clauses) [] ⌝ }
@@ -355,7 +533,20 @@ fn handle_unconditional(marks: &[u8], unions: &[u8], t: &[u8], k: Counts, s: &mu
 }
 
 // Its goal's ranges being at hand.
-fn handle(marks: &[u8], unions: &[u8], t: &[u8], k: Counts, s: &mut [u8], clauses: &mut [u8], l: Limits, n: Counters, r: Run, q: usize, is: Indices, ranges: usize) -> Counters
+fn handle(
+    marks: &[u8],
+    unions: &[u8],
+    t: &[u8],
+    k: Counts,
+    s: &mut [u8],
+    clauses: &mut [u8],
+    l: Limits,
+    n: Counters,
+    r: Run,
+    q: usize,
+    is: Indices,
+    ranges: usize,
+) -> Counters
     requires { ⌜ Catalogued k (now marks) (now unions) (now t) ⌝ }
     requires { ⌜ Fits l (length (now s)) ⌝ }
     requires { ⌜ Good (catalogue k (now marks) (now unions) (now t)) l n (held l (now s)) (now clauses) [] ⌝ }
@@ -366,7 +557,12 @@ fn handle(marks: &[u8], unions: &[u8], t: &[u8], k: Counts, s: &mut [u8], clause
     ensures { λ m. ⌜ ClausesDid (catalogue k (now (marks .entry)) (now (unions .entry)) (now (t .entry))) l (λ v. handled (catalogue k (now (marks .entry)) (now (unions .entry)) (now (t .entry))) (runOf r) q (indicesIn is)) n (held l (now (s .entry))) (now (clauses .entry)) m (held l (now (s .exit))) (now (clauses .exit)) ⌝ }
 {
     let it = tables::requirement_at(t, k, q);
-    let a = opening::name_variable(s, l, n, owners::owner_origin(owners::owner_number(it.owner)));
+    let a = opening::name_variable(
+        s,
+        l,
+        n,
+        owners::owner_origin(owners::owner_number(it.owner)),
+    );
     let b = naming::all_candidates(marks, unions, t, k, s, l, a, ranges);
     if b.full {
         return b;
@@ -378,7 +574,19 @@ fn handle(marks: &[u8], unions: &[u8], t: &[u8], k: Counts, s: &mut [u8], clause
 }
 
 // Requirement q is handled for these disjuncts.
-pub fn serve_requirement(marks: &[u8], unions: &[u8], t: &[u8], k: Counts, s: &mut [u8], clauses: &mut [u8], l: Limits, n: Counters, r: Run, q: usize, is: Indices) -> Counters
+pub fn serve_requirement(
+    marks: &[u8],
+    unions: &[u8],
+    t: &[u8],
+    k: Counts,
+    s: &mut [u8],
+    clauses: &mut [u8],
+    l: Limits,
+    n: Counters,
+    r: Run,
+    q: usize,
+    is: Indices,
+) -> Counters
     requires { ⌜ Catalogued k (now marks) (now unions) (now t) ⌝ }
     requires { ⌜ Fits l (length (now s)) ⌝ }
     requires { ⌜ Good (catalogue k (now marks) (now unions) (now t)) l n (held l (now s)) (now clauses) [] ⌝ }

@@ -25,12 +25,12 @@ use Rattle.tables.proofs.Listed.{listed-length}
 use Rattle.cache.specs.Areas.{catalogue}
 use Rattle.cache.proofs.Laws.{part-held}
 use Rattle.state.specs.declared.Limits.{Limits}
-use Rattle.variable_map.specs.Mapping.{variables}
+use Rattle.variable_map.specs.Mapping.{variables, AllKnown}
 use Rattle.solver.specs.declared.Stored.{Stored}
 use Rattle.solver.specs.Rows.{noRow, rowOf, rows}
 use Rattle.encoder.specs.declared.Counters.{Counters}
 use Rattle.encoder.specs.Held.{literalIn, literalsIn, goalVariables, clauseIn, clausesIn, Sound}
-use Rattle.listing.specs.Listed.{partText, clauseText, clausesOf, AllKnown, GoodRows}
+use Rattle.listing.specs.Listed.{partText, clauseText, clausesOf, GoodRows}
 use Rattle.listing.proofs.Fields.{two-fields}
 
 -- ---- what holds of a sound row

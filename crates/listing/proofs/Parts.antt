@@ -1,16 +1,15 @@
 -- The literals of a range's parts, in the order of the clause: the favoured ones of them first.
 use mathlib.Core.Path.{_≡_, refl, ap, sym, _∙_}
-use mathlib.Core.Bool.{Bool, true, false, not, _&&_}
+use mathlib.Core.Bool.{Bool, true, false}
 use mathlib.Core.List.{List, [], _∷_, _++_}
 use Prim.Native.Nat.{ℕ, _<_, _≤_}
 use native.Mathlib.Omega.{arith}
-use lib.Dec.{eqb}
 use lib.ListN.{length}
 use borrow.Author.Tests.{lt-ltb}
 use Rattle.rules.specs.Lists.{filter, concatMap, listIf, upTo}
 use Rattle.rules.specs.Literal.{pos}
-use Rattle.rules.specs.Catalogue.{Catalogue, partAt, nameOf, rangeName}
-use Rattle.rules.specs.Candidates.{member, partsOf, matching, favouredFirst, sorted}
+use Rattle.rules.specs.Catalogue.{Catalogue}
+use Rattle.rules.specs.Candidates.{sorted}
 use Rattle.rules.specs.Variables as variables
 use Rattle.rules.specs.Variables.{known, partOrigin, partVariable}
 use Rattle.rules.specs.Listing.{signed}
@@ -24,13 +23,14 @@ use Rattle.tables.specs.declared.Counts.{Counts}
 use Rattle.cache.specs.declared.Choice.{Choice}
 use Rattle.cache.specs.declared.Choice.the-variants.{Favoured, Others}
 use Rattle.cache.specs.Areas.{catalogue}
-use Rattle.cache.specs.Lists.{asked, chosen, choice}
+use Rattle.cache.specs.Lists.{chosen, choice}
 use Rattle.cache.proofs.Laws.{parts-held}
+use Rattle.cache.proofs.Lists.{sorted-is}
 use Rattle.catalogue.specs.Reading.{Kept}
 use Rattle.variable_map.specs.declared.Origin.{Origin}
-use Rattle.variable_map.specs.Mapping.{originOf, inTables}
+use Rattle.variable_map.specs.Mapping.{originOf, inTables, AllKnown}
 use Rattle.encoder.specs.Did.{Looked}
-use Rattle.listing.specs.Listed.{texts, partText, chosenText, AllKnown}
+use Rattle.listing.specs.Listed.{texts, partText, chosenText}
 use Rattle.listing.proofs.Printing.{Printing, printing-end, concatMap-append}
 
 -- ---- the literals of parts
@@ -92,48 +92,13 @@ module _ (k : Counts) (m u t : List ℕ) (vs : List variables.Origin) (r : ℕ) 
 
 -- ---- the two choices of a range, one behind the other
 
-module _ {A : Type 0} (f g : A → Bool) where
-  filter-both : (xs : List A) → filter f (filter g xs) ≡ filter (λ (x : A). g x && f x) xs
-  unfolding filter
-  filter-both [] = refl
-  filter-both (x ∷ xs) = go (g x) (filter-both xs)
-    where
-      here : (b : Bool) (ys zs : List A) → ys ≡ zs → _≡_ {A = List A} (elim b [ true ↦ x ∷ ys | false ↦ ys ]) (elim b [ true ↦ x ∷ zs | false ↦ zs ])
-      here true ys zs e = rw e
-      here false ys zs e = e
-
-      go : (b : Bool) → filter f (filter g xs) ≡ filter (λ (x : A). g x && f x) xs
-          → filter f (elim b [ true ↦ x ∷ filter g xs | false ↦ filter g xs ])
-          ≡ elim (b && f x) [ true ↦ x ∷ filter (λ (x : A). g x && f x) xs | false ↦ filter (λ (x : A). g x && f x) xs ]
-      go true e = here (f x) _ _ e
-      go false e = e
-
-module _ (c : Catalogue) (r : ℕ) where
-  of-name : (f : ℕ → Bool) → filter f (partsOf c (rangeName c r)) ≡ filter (λ (p : ℕ). eqb (nameOf c p) (rangeName c r) && f p) (upTo 0 (length (c .parts)))
-  unfolding partsOf
-  of-name f = filter-both f (λ (p : ℕ). eqb (nameOf c p) (rangeName c r)) (upTo 0 (length (c .parts)))
-
-  favoured-is : choice c r Favoured ≡ filter (λ (p : ℕ). (partAt c p) .favoured) (matching c r)
-  unfolding choice chosen asked matching
-  favoured-is =
-      sym (filter-both (λ (p : ℕ). (partAt c p) .favoured) (member c r) (partsOf c (rangeName c r)) ∙ of-name (λ (p : ℕ). member c r p && (partAt c p) .favoured))
-
-  others-is : choice c r Others ≡ filter (λ (p : ℕ). not ((partAt c p) .favoured)) (matching c r)
-  unfolding choice chosen asked matching
-  others-is =
-      sym (filter-both (λ (p : ℕ). not ((partAt c p) .favoured)) (member c r) (partsOf c (rangeName c r)) ∙ of-name (λ (p : ℕ). member c r p && not ((partAt c p) .favoured)))
-
-  sorted-is : sorted c r ≡ choice c r Favoured ++ choice c r Others
-  unfolding sorted favouredFirst
-  sorted-is = rw (favoured-is, others-is)
-
 module _ (c : Catalogue) (vs : List variables.Origin) (r : ℕ) where
   pub known-favoured : AllKnown vs (sorted c r) → AllKnown vs (choice c r Favoured)
-  known-favoured a = record { known = each-left (choice c r Favoured) (choice c r Others) (rw (sorted-is c r) at (a .known)) }
+  known-favoured a = record { known = each-left (choice c r Favoured) (choice c r Others) (rw (← sorted-is c r) at (a .known)) }
 
   pub known-others : AllKnown vs (sorted c r) → AllKnown vs (choice c r Others)
-  known-others a = record { known = each-right (choice c r Favoured) (rw (sorted-is c r) at (a .known)) }
+  known-others a = record { known = each-right (choice c r Favoured) (rw (← sorted-is c r) at (a .known)) }
 
   pub sorted-text : {room at a b : ℕ} {o o1 o2 : List ℕ} → Wrote at a (partText vs (choice c r Favoured)) room o o1 → Wrote a b (partText vs (choice c r Others)) room o1 o2
       → Wrote at b (partText vs (sorted c r)) room o o2
-  sorted-text v w = rw (sorted-is c r, parts-append vs (choice c r Favoured) (choice c r Others)) (then v w)
+  sorted-text v w = rw (← sorted-is c r, parts-append vs (choice c r Favoured) (choice c r Others)) (then v w)

@@ -9,7 +9,7 @@ use lib.Dec.{eqb}
 use lib.ListN.{length, getD}
 use borrow.Author.Tests.{eq-eqb, ne-eqb}
 use Rattle.rules.specs.Lists.{filter, concatMap}
-use Rattle.rules.specs.Catalogue.{Goal, range, union, Requirement, Catalogue, noRequirement, requirementAt, conditionAt}
+use Rattle.rules.specs.Catalogue.{Requirement, Catalogue, noRequirement, requirementAt, conditionAt}
 use Rattle.rules.specs.Conditions.{disjuncts, disjunctsIf, isCondition, disjunctsOf, disjunctAt}
 use Rattle.rules.specs.Items as items
 use Rattle.rules.specs.Listing.{ascii, decimal, line, ownerField, goalFields, waitingLine, waitingLines}
@@ -20,6 +20,7 @@ use Rattle.text.specs.Text.{Wrote, fields}
 use Rattle.text.proofs.Written.{nothing, fields-first, fields-then, line-is}
 use Rattle.requirement.specs.declared.ConditionalRequirement.{ConditionalRequirement}
 use Rattle.requirement.specs.Requirements.{goalOf, requirementIs, formOf, numberOf}
+use Rattle.requirement.proofs.Laws.{goal-from-parts}
 use Rattle.tables.specs.declared.Counts.{Counts}
 use Rattle.tables.specs.Tables.{tables}
 use Rattle.cache.specs.Areas.{catalogue}
@@ -29,15 +30,11 @@ use Rattle.state.specs.declared.Limits.{Limits}
 use Rattle.entries.specs.declared.Entry as entries
 use Rattle.entries.specs.Entries.{noEntry, entryOf, waitingIn}
 use Rattle.encoder.proofs.Frames.{waiting-counted}
-use Rattle.listing.specs.Listed.{ownerBut, entryFields, entryText, conditionText, AllGiven}
+use Rattle.goals.specs.Goals.{AllGiven}
+use Rattle.listing.specs.Listed.{ownerBut, entryFields, entryText, conditionText}
 use Rattle.listing.proofs.Printing.{Printing, printing-end}
 
 -- ---- an entry's fields and its line
-
-goal-back : (g : Goal) → items.goalOf (formOf g) (numberOf g) ≡ g
-unfolding items.goalOf formOf numberOf
-goal-back (range r) = refl
-goal-back (union u) = refl
 
 module _ {room at a b d : ℕ} {o o1 o2 o3 : List ℕ} where
   pub entry-fields : (q : ConditionalRequirement) (rs : List ℕ) (form number : ℕ) → form ≡ formOf (goalOf (q .requirement)) → number ≡ numberOf (goalOf (q .requirement))
@@ -45,7 +42,7 @@ module _ {room at a b d : ℕ} {o o1 o2 o3 : List ℕ} where
       → Wrote b d (fields (map decimal rs)) room o2 o3 → Wrote at d (fields (entryFields (requirementIs q) rs)) room o o3
   unfolding entryFields requirementIs ownerBut items.ownerOf
   entry-fields q rs form number e f u v w =
-      let g : items.goalOf form number ≡ goalOf (q .requirement) = rw (e, f) (goal-back (goalOf (q .requirement))) in
+      let g : items.goalOf form number ≡ goalOf (q .requirement) = rw (e, f) (goal-from-parts (goalOf (q .requirement))) in
       fields-then (_ ∷ []) _ u (fields-then (goalFields (goalOf (q .requirement))) _ (rw g at v) w)
 
   pub entry-line : {s : ℕ} {o4 : List ℕ} (q : Requirement) (rs : List ℕ) (c : ℕ) → Wrote at a (119 ∷ []) room o o1 → Wrote a b (32 ∷ decimal c) room o1 o2

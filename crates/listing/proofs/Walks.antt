@@ -24,8 +24,9 @@ use Rattle.cache.specs.Areas.{catalogue}
 use Rattle.cache.proofs.Laws.{union-ranges-held, union-missing}
 use Rattle.catalogue.specs.Reading.{Kept}
 use Rattle.state.specs.declared.Limits.{Limits}
+use Rattle.variable_map.specs.Mapping.{AllKnown}
 use Rattle.encoder.specs.declared.Counters.{Counters}
-use Rattle.listing.specs.Listed.{partText, Ready, AllKnown}
+use Rattle.listing.specs.Listed.{partText, Ready}
 use Rattle.listing.proofs.Parts.{parts-append, parts-none}
 
 -- ---- a union

@@ -1,6 +1,5 @@
 -- What the listing prints of a state's areas, line by line.
-use mathlib.Core.Path.{_≡_}
-use mathlib.Core.Bool.{Bool, true, _&&_, _||_, cond}
+use mathlib.Core.Bool.{Bool, _&&_, _||_, cond}
 use mathlib.Core.List.{List, [], _∷_, _++_, map}
 use Prim.Native.Nat.{ℕ, _+_, _*_, _≤_}
 use lib.Dec.{eqb}
@@ -12,11 +11,10 @@ use Rattle.rules.specs.Catalogue.{Owner, root, part, Requirement, Catalogue}
 use Rattle.rules.specs.Candidates.{candidates}
 use Rattle.rules.specs.Decisions.{Decision}
 use Rattle.rules.specs.Items.{goalOf}
-use Rattle.rules.specs.Variables.{Origin, chosen, known, partOrigin, partVariable}
+use Rattle.rules.specs.Variables.{Origin, chosen, partVariable}
 use Rattle.rules.specs.Listing.{ascii, decimal, signed, line, ownerField, goalFields, originFields, clauseField, decisionLine, clauseFields, waitingLines, listing}
 use Rattle.rules.proofs.Each.{Each}
 use Rattle.rules.proofs.WellFormed.{WellFormed}
-use Rattle.rules.proofs.Valid.{Entry}
 use Rattle.text.specs.Text.{Addressable, Wrote, fields}
 use Rattle.tables.specs.declared.Counts.{Counts}
 use Rattle.cache.specs.declared.Choice.{Choice}
@@ -130,14 +128,6 @@ pub record Ready (k : Counts) (m u t : List ℕ) (l : Limits) (n : Counters) (b 
   pub fits : Fits l (length b)
   pub mapped : Mapped l (n .variables) (held l b)
   pub addressable : Addressable room
-
--- each of these parts has a variable
-pub record AllKnown (vs : List Origin) (ps : List ℕ) : Type 0 where
-  pub known : Each (λ p. known vs (partOrigin p) ≡ true) ps
-
--- each of these entries is a disjunct of a requirement
-pub record AllGiven (c : Catalogue) (es : List (ℕ × ℕ)) : Type 0 where
-  pub given : Each (Entry c) es
 
 -- the stored rows can be printed
 pub record GoodRows (c : Catalogue) (l : Limits) (n : Counters) (st : ℕ → List ℕ) (cl : List ℕ) : Type 0 where

@@ -32,13 +32,14 @@ ghost use Rattle.cache.specs.Areas.{catalogue};
 ghost use Rattle.cache.specs.Lists.{choice};
 ghost use Rattle.catalogue.specs.Reading.{Kept};
 ghost use Rattle.state.specs.Layout.{held, Fits};
-ghost use Rattle.variable_map.specs.Mapping.{originOf, variables};
+ghost use Rattle.variable_map.specs.Mapping.{originOf, variables, AllKnown};
 ghost use Rattle.decision_tracker.specs.Tracking.{decisions, decisionOf, clauseBy};
 ghost use Rattle.marked.specs.Marked.{listed};
 ghost use Rattle.entries.specs.Entries.{entryOf, waitingIn, Long};
 ghost use Rattle.solver.specs.Rows.{rowOf, rows};
 ghost use Rattle.encoder.specs.Held.{literalsIn, clauseIn, Sound, LongEnough, Good};
-ghost use Rattle.listing.specs.Listed.{ownerBut, decisionFields, entryFields, texts, partText, chosenText, literalText, numberText, variableText, clauseText, ownerText, nameText, conflictText, assertsIn, assertionText, decisionText, entryText, conditionText, clausesOf, firstHalf, clauseNotes, stateNotes, secondHalf, Ready, AllKnown, AllGiven, GoodRows, Lists};
+ghost use Rattle.goals.specs.Goals.{AllGiven};
+ghost use Rattle.listing.specs.Listed.{ownerBut, decisionFields, entryFields, texts, partText, chosenText, literalText, numberText, variableText, clauseText, ownerText, nameText, conflictText, assertsIn, assertionText, decisionText, entryText, conditionText, clausesOf, firstHalf, clauseNotes, stateNotes, secondHalf, Ready, GoodRows, Lists};
 
 // ---- fields
 

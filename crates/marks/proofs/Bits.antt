@@ -1,12 +1,13 @@
 -- Bits of a number: by a division, and after the power of a clear bit is added.
-use mathlib.Core.Path.{_≡_, refl, sym}
-use mathlib.Core.Bool.{Bool, true, false, _||_}
+use mathlib.Core.Path.{_≡_, refl}
+use mathlib.Core.Bool.{false, _||_}
 use Prim.Native.Nat.{ℕ, zero, suc, _+_, _/_, _%_, _^_, _<_}
 use native.Mathlib.Omega.{arith}
 use lib.Dec.{eqb}
 use lib.Pow.{shr-shr}
 use borrow.Author.Tests.{eqb-true, eqb-false, eq-eqb, ne-eqb}
 use Rattle.rules.specs.AtMostOne.{bit}
+use Rattle.rules.proofs.Bools.{same-test}
 
 pub bit-is : (j x : ℕ) → eqb (x / 2 ^ j % 2) 1 ≡ bit j x
 unfolding bit
@@ -21,12 +22,6 @@ pub bit-none : (j : ℕ) → bit j 0 ≡ false
 unfolding bit
 bit-none zero = refl
 bit-none (suc j) = bit-none j
-
--- two tests that hold together are the same
-pub same-test : (a b : Bool) → (a ≡ true → b ≡ true) → (b ≡ true → a ≡ true) → a ≡ b
-same-test true b f g = sym (f refl)
-same-test false true f g = g refl
-same-test false false f g = refl
 
 suc-test : (k j : ℕ) → eqb (suc k) (suc j) ≡ eqb k j
 suc-test k j = same-test _ _ (λ e. eq-eqb k j (omega (arith, eqb-true (suc k) (suc j) e))) (λ e. eq-eqb (suc k) (suc j) (omega (arith, eqb-true k j e)))

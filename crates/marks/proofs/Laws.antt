@@ -12,10 +12,10 @@ use lib.Pow.{pow-pos}
 use borrow.Author.Tests.{eqb-true, eqb-false, eq-eqb, ne-eqb, lt-ltb, le-ltb}
 use Rattle.rules.specs.AtMostOne.{bit}
 use Rattle.rules.specs.Lists.{all, upTo}
-use Rattle.rules.proofs.Bools.{and-left, and-right, and-both}
+use Rattle.rules.proofs.Bools.{and-left, and-right, and-both, same-test}
 use Rattle.rules.proofs.Member.{all-out, upTo-in}
 use Rattle.marks.specs.Marks.{isMarked, WithBit, Marked, Cleared}
-use Rattle.marks.proofs.Bits.{bit-is, bit-none, bit-more, bit-room, same-test}
+use Rattle.marks.proofs.Bits.{bit-is, bit-none, bit-more, bit-room}
 
 -- ---- a byte
 

@@ -18,12 +18,13 @@ use Rattle.cache.proofs.Laws.{parts-held}
 use Rattle.state.specs.declared.Limits.{Limits}
 use Rattle.encoder.specs.declared.Counters.{Counters}
 use Rattle.encoder.specs.Did.{StateDid, ClausesDid}
+use Rattle.encoder.specs.Held.{KnownUnlessFull}
+use Rattle.encoder.proofs.Steps.{state-same, state-none, clauses-none, state-then}
 use Rattle.parts.specs.declared.Parts.the-variants.{Locked, Others}
 use Rattle.parts.specs.declared.Naming.the-variants.{Variable}
 use Rattle.parts.specs.declared.Adding.the-variants as Adding
-use Rattle.parts.specs.Parts.{selectedOf, partsFor, namingOf, addingOf, AllKnown}
+use Rattle.parts.specs.Parts.{selectedOf, partsFor, namingOf, addingOf}
 use Rattle.parts.proofs.Selecting.{locked-parts, other-parts}
-use Rattle.parts.proofs.Steps.{state-same, state-none, state-then, clauses-none}
 use Rattle.names.specs.Names.{firstOf}
 
 -- ---- it is looked for
@@ -130,5 +131,5 @@ module _ (k : Counts) (m u t : List ℕ) (n locked : ℕ) (e : locked ≡ firstO
     unfolding fold
     locks-none r h = clauses-none (λ v s. rw (none-others h))
 
-  pub others-known : {full : Bool} {vs : List _} → locked < k .parts → AllKnown full vs (lockedOut (catalogue k m u t) n) → AllKnown full vs (partsFor (catalogue k m u t) (Others n locked))
+  pub others-known : {full : Bool} {vs : List _} → locked < k .parts → KnownUnlessFull full vs (lockedOut (catalogue k m u t) n) → KnownUnlessFull full vs (partsFor (catalogue k m u t) (Others n locked))
   others-known h a = rw (some-others h) a

@@ -25,12 +25,13 @@ use Rattle.state.specs.declared.Limits.{Limits}
 use Rattle.variable_map.specs.Mapping.{variables}
 use Rattle.encoder.specs.declared.Counters.{Counters}
 use Rattle.encoder.specs.Did.{onOpening, withSeveral, StateDid, ClausesDid, PlainDid}
+use Rattle.encoder.specs.Held.{GoodAlone, KnownUnlessFull}
+use Rattle.encoder.proofs.Steps.{state-same, clauses-same, state-none, state-then, clauses-then, state-then-clauses, alone-after, known-after}
 use Rattle.parts.specs.declared.Parts.the-variants.{Excluded}
 use Rattle.parts.specs.declared.Naming.the-variants.{Variable}
 use Rattle.parts.specs.declared.Adding.the-variants as Adding
-use Rattle.parts.specs.Parts.{partsFor, namingOf, clauseFor, addingOf, AllKnown, GoodAlone}
+use Rattle.parts.specs.Parts.{partsFor, namingOf, clauseFor, addingOf}
 use Rattle.parts.proofs.Selecting.{excluded-parts}
-use Rattle.parts.proofs.Steps.{state-same, state-none, state-then, clauses-same, clauses-then, state-then-clauses, alone-after, known-after}
 use Rattle.parts.proofs.Names.{named-known}
 use Rattle.parts.proofs.Clauses.{adds-are, adds-leave}
 use Rattle.parts.proofs.Serving.{names-are, task-served}
@@ -55,7 +56,7 @@ module _ {c : Catalogue} {l : Limits} (r : Run) (n : ℕ) {a a′ a″ : Counter
       → ClausesDid c l (λ v. addClauses c r n) a st cl a″ st″ cl″
   clauses-added d g = clauses-same (clauses-then d g) (λ v s. unfold addClauses in rw (excluded-parts c n))
 
-pub excluded-known : (c : Catalogue) (n : ℕ) {full : Bool} {vs : List Origin} → AllKnown full vs (excludedParts c n) → AllKnown full vs (partsFor c (Excluded n))
+pub excluded-known : (c : Catalogue) (n : ℕ) {full : Bool} {vs : List Origin} → KnownUnlessFull full vs (excludedParts c n) → KnownUnlessFull full vs (partsFor c (Excluded n))
 excluded-known c n a = rw (excluded-parts c n) a
 
 -- ---- all together
@@ -118,6 +119,6 @@ module _ {c : Catalogue} {l : Limits} (n : ℕ) {a₀ a₁ a₂ a₃ : Counters}
       let k = named-known Variable d₂ g₁ in
       record {
         did = state-same (state-then (state-then d₁ d₂) d₃) (λ v s. unfold nameParts in rw (excluded-parts c n));
-        locked = known-after d₃ g₂ (record { known = λ e. each-right (lockedPart c n) (k .known e) });
+        locked = known-after d₃ g₂ (record { known = λ e. record { known = each-right (lockedPart c n) (k .known e .known) } });
         excluded = rw (excluded-parts c n) at (named-known Variable d₃ g₂);
       }

@@ -22,11 +22,11 @@ use Rattle.state.specs.declared.Limits.{Limits}
 use Rattle.state.specs.Layout.{held}
 use Rattle.encoder.specs.declared.Counters.{Counters}
 use Rattle.encoder.specs.Did.{StateDid}
+use Rattle.encoder.proofs.Steps.{state-same}
 use Rattle.goals.specs.Goals.{Catalogued}
 use Rattle.firing.specs.declared.Indices.{Indices}
 use Rattle.firing.specs.Firing.{indicesIn}
 use Rattle.firing.proofs.Required.{condition-given, its-disjuncts}
-use Rattle.parts.proofs.Steps.{state-same}
 use Rattle.naming.specs.Naming.{nameRange, nameDisjuncts, GivenIndices}
 use Rattle.naming.proofs.Given.{range-given}
 use Rattle.naming.proofs.Loops.{Passed, pass-step, pass-end}

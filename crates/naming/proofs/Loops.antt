@@ -16,8 +16,8 @@ use Rattle.marked.specs.Marked.{listed, Marked}
 use Rattle.marked.proofs.Laws.{length-listed}
 use Rattle.encoder.specs.declared.Counters.{Counters}
 use Rattle.encoder.specs.Did.{StateDid}
-use Rattle.parts.specs.Parts.{GoodAlone}
-use Rattle.parts.proofs.Steps.{state-same, state-none, state-then, alone-after}
+use Rattle.encoder.specs.Held.{GoodAlone}
+use Rattle.encoder.proofs.Steps.{state-same, state-none, state-then, alone-after}
 
 -- the first j numbers of xs have had their step
 pub record Passed (c : Catalogue) (l : Limits) (f : ℕ → State → State) (xs : List ℕ) (n₀ : Counters) (s₀ : List ℕ) (n : Counters) (s : List ℕ) (j : ℕ) : Type 0 where
@@ -26,7 +26,7 @@ pub record Passed (c : Catalogue) (l : Limits) (f : ℕ → State → State) (xs
   pub alone : GoodAlone c l n (held l s)
   pub did : StateDid c l (λ v. fold f (take j xs)) n₀ (held l s₀) n (held l s)
 
-one-more : (f : ℕ → State → State) (xs : List ℕ) (j : ℕ) (s : State) → j < length xs → f (getD xs j 0) (fold f (take j xs) s) ≡ fold f (take (j + 1) xs) s
+pub one-more : (f : ℕ → State → State) (xs : List ℕ) (j : ℕ) (s : State) → j < length xs → f (getD xs j 0) (fold f (take j xs) s) ≡ fold f (take (j + 1) xs) s
 unfolding fold
 one-more f xs j s h = rw (add-one j, take-suc xs j 0 h) (sym (fold-append f (take j xs) (getD xs j 0 ∷ []) s))
 

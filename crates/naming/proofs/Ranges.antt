@@ -1,54 +1,50 @@
 -- The candidates of a range, and the variables of a fired one.
 use mathlib.Core.Path.{_≡_, refl, sym, _∙_}
-use mathlib.Core.Bool.{Bool, true, not, _&&_}
+use mathlib.Core.Bool.{true, not, _&&_}
 use mathlib.Core.List.{List, [], _∷_, _++_}
 use Prim.Native.Nat.{ℕ, _+_, _<_}
 use native.Mathlib.Omega.{arith}
-use lib.Dec.{eqb}
 use lib.ListN.{length, getD}
 use borrow.Author.Tests.{lt-ltb}
-use Rattle.rules.specs.Lists.{filter, fold, upTo}
-use Rattle.rules.specs.Catalogue.{Catalogue, partAt, nameOf, rangeName}
+use Rattle.rules.specs.Lists.{filter, fold}
+use Rattle.rules.specs.Catalogue.{Catalogue, partAt, rangeName}
 use Rattle.rules.specs.Candidates.{member, partsOf, matching, nonMatching, favouredFirst, sorted}
 use Rattle.rules.specs.Variables.{one}
 use Rattle.rules.specs.State.{State}
 use Rattle.rules.proofs.DistinctEnough.{fold-append}
 use Rattle.rules.proofs.Capped.{addVariable}
+use Rattle.rules.proofs.MemberLaws.{filter-both}
 use Rattle.tables.specs.declared.Counts.{Counts}
 use Rattle.tables.specs.Tables.{tables}
 use Rattle.cache.specs.declared.Choice.the-variants.{NonMatching, Favoured, Others}
 use Rattle.cache.specs.Areas.{catalogue}
 use Rattle.cache.specs.Lists.{asked, chosen, Counted}
 use Rattle.cache.proofs.Laws.{range-name-held}
+use Rattle.cache.proofs.Lists.{of-name}
 use Rattle.state.specs.declared.Limits.{Limits}
 use Rattle.variable_map.specs.declared.Origin as code
 use Rattle.variable_map.specs.Mapping.{originOf, inTables}
 use Rattle.encoder.specs.declared.Counters.{Counters}
 use Rattle.encoder.specs.Did.{StateDid, PlainDid}
+use Rattle.encoder.proofs.Steps.{state-same, state-then}
 use Rattle.goals.specs.Goals.{Catalogued}
 use Rattle.owners.proofs.Names.{range-low}
 use Rattle.parts.specs.declared.Parts.the-variants.{Chosen}
 use Rattle.parts.specs.declared.Naming.the-variants.{Tracked, Candidate}
 use Rattle.parts.specs.Parts.{selectedOf, partsFor, namingOf}
-use Rattle.parts.proofs.Lists.{filter-both}
 use Rattle.parts.proofs.Selecting.{non-matching-parts}
-use Rattle.parts.proofs.Steps.{state-same, state-then}
 use Rattle.naming.specs.Naming.{nameParts, nameRange}
 
 module _ (c : Catalogue) (r : ℕ) where
-  of-name : (f : ℕ → Bool) → filter f (partsOf c (rangeName c r)) ≡ filter (λ (p : ℕ). eqb (nameOf c p) (rangeName c r) && f p) (upTo 0 (length (c .parts)))
-  unfolding partsOf
-  of-name f = filter-both f (λ (p : ℕ). eqb (nameOf c p) (rangeName c r)) (upTo 0 (length (c .parts)))
-
   favoured-is : partsFor c (Chosen r Favoured) ≡ filter (λ (p : ℕ). (partAt c p) .favoured) (matching c r)
   unfolding partsFor selectedOf chosen asked matching
   favoured-is =
-      sym (filter-both (λ (p : ℕ). (partAt c p) .favoured) (member c r) (partsOf c (rangeName c r)) ∙ of-name (λ (p : ℕ). member c r p && (partAt c p) .favoured))
+      sym (filter-both (λ (p : ℕ). (partAt c p) .favoured) (member c r) (partsOf c (rangeName c r)) ∙ of-name c r (λ (p : ℕ). member c r p && (partAt c p) .favoured))
 
   others-is : partsFor c (Chosen r Others) ≡ filter (λ (p : ℕ). not ((partAt c p) .favoured)) (matching c r)
   unfolding partsFor selectedOf chosen asked matching
   others-is =
-      sym (filter-both (λ (p : ℕ). not ((partAt c p) .favoured)) (member c r) (partsOf c (rangeName c r)) ∙ of-name (λ (p : ℕ). member c r p && not ((partAt c p) .favoured)))
+      sym (filter-both (λ (p : ℕ). not ((partAt c p) .favoured)) (member c r) (partsOf c (rangeName c r)) ∙ of-name c r (λ (p : ℕ). member c r p && not ((partAt c p) .favoured)))
 
   sorted-is : sorted c r ≡ partsFor c (Chosen r Favoured) ++ partsFor c (Chosen r Others)
   unfolding sorted favouredFirst

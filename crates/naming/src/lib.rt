@@ -17,27 +17,72 @@ ghost use Rattle.cache.specs.Areas.{catalogue};
 ghost use Rattle.state.specs.Layout.{held, Fits};
 ghost use Rattle.marked.specs.Marked.{listed, Marked};
 ghost use Rattle.encoder.specs.Did.{StateDid};
+ghost use Rattle.encoder.specs.Held.{GoodAlone};
 ghost use Rattle.goals.specs.Goals.{Catalogued};
 ghost use Rattle.parts.specs.declared.Naming.the-variants.{Candidate};
-ghost use Rattle.parts.specs.Parts.{namingOf, GoodAlone};
+ghost use Rattle.parts.specs.Parts.{namingOf};
 ghost use Rattle.firing.specs.Firing.{indicesIn};
 ghost use Rattle.naming.specs.Naming.{nameRange, nameDisjuncts, GivenIndices};
 
 // ---- candidates
 
 // The candidates of a range.
-fn range_candidates(marks: &[u8], unions: &[u8], t: &[u8], k: Counts, s: &mut [u8], l: Limits, n: Counters, r: usize) -> Counters
+fn range_candidates(
+    marks: &[u8],
+    unions: &[u8],
+    t: &[u8],
+    k: Counts,
+    s: &mut [u8],
+    l: Limits,
+    n: Counters,
+    r: usize,
+) -> Counters
     requires { ⌜ Catalogued k (now marks) (now unions) (now t) ⌝ }
     requires { ⌜ Fits l (length (now s)) ⌝ }
     requires { ⌜ GoodAlone (catalogue k (now marks) (now unions) (now t)) l n (held l (now s)) ⌝ }
     ensures { λ m. ⌜ StateDid (catalogue k (now (marks .entry)) (now (unions .entry)) (now (t .entry))) l (λ v. fold (namingOf (catalogue k (now (marks .entry)) (now (unions .entry)) (now (t .entry))) Candidate) (sorted (catalogue k (now (marks .entry)) (now (unions .entry)) (now (t .entry))) r)) n (held l (now (s .entry))) m (held l (now (s .exit))) ⌝ }
 {
-    let m = parts::name_each(marks, unions, t, k, s, l, n, Parts::Chosen { range: r, choice: Choice::Favoured }, Naming::Candidate);
-    parts::name_each(marks, unions, t, k, s, l, m, Parts::Chosen { range: r, choice: Choice::Others }, Naming::Candidate)
+    let m = parts::name_each(
+        marks,
+        unions,
+        t,
+        k,
+        s,
+        l,
+        n,
+        Parts::Chosen {
+            range: r,
+            choice: Choice::Favoured,
+        },
+        Naming::Candidate,
+    );
+    parts::name_each(
+        marks,
+        unions,
+        t,
+        k,
+        s,
+        l,
+        m,
+        Parts::Chosen {
+            range: r,
+            choice: Choice::Others,
+        },
+        Naming::Candidate,
+    )
 }
 
 // Those of the ranges at hand.
-pub fn all_candidates(marks: &[u8], unions: &[u8], t: &[u8], k: Counts, s: &mut [u8], l: Limits, n: Counters, ranges: usize) -> Counters
+pub fn all_candidates(
+    marks: &[u8],
+    unions: &[u8],
+    t: &[u8],
+    k: Counts,
+    s: &mut [u8],
+    l: Limits,
+    n: Counters,
+    ranges: usize,
+) -> Counters
     requires { ⌜ Catalogued k (now marks) (now unions) (now t) ⌝ }
     requires { ⌜ Fits l (length (now s)) ⌝ }
     requires { ⌜ GoodAlone (catalogue k (now marks) (now unions) (now t)) l n (held l (now s)) ⌝ }
@@ -57,7 +102,16 @@ pub fn all_candidates(marks: &[u8], unions: &[u8], t: &[u8], k: Counts, s: &mut 
 // ---- fired disjuncts
 
 // The variables of a fired range: its non-matching parts, which are named for tracking; if none, one-of-name.
-fn name_range(marks: &[u8], unions: &[u8], t: &[u8], k: Counts, s: &mut [u8], l: Limits, n: Counters, r: usize) -> Counters
+fn name_range(
+    marks: &[u8],
+    unions: &[u8],
+    t: &[u8],
+    k: Counts,
+    s: &mut [u8],
+    l: Limits,
+    n: Counters,
+    r: usize,
+) -> Counters
     requires { ⌜ Catalogued k (now marks) (now unions) (now t) ⌝ }
     requires { ⌜ Fits l (length (now s)) ⌝ }
     requires { ⌜ GoodAlone (catalogue k (now marks) (now unions) (now t)) l n (held l (now s)) ⌝ }
@@ -67,10 +121,33 @@ fn name_range(marks: &[u8], unions: &[u8], t: &[u8], k: Counts, s: &mut [u8], l:
     if cache::non_matching_count(marks, unions, t, k, r) == 0 {
         return opening::name_variable(s, l, n, variable_map::one(tables::range_name(t, k, r)));
     }
-    parts::name_each(marks, unions, t, k, s, l, n, Parts::Chosen { range: r, choice: Choice::NonMatching }, Naming::Tracked)
+    parts::name_each(
+        marks,
+        unions,
+        t,
+        k,
+        s,
+        l,
+        n,
+        Parts::Chosen {
+            range: r,
+            choice: Choice::NonMatching,
+        },
+        Naming::Tracked,
+    )
 }
 
-fn name_disjunct(marks: &[u8], unions: &[u8], t: &[u8], k: Counts, s: &mut [u8], l: Limits, n: Counters, q: usize, i: usize) -> Counters
+fn name_disjunct(
+    marks: &[u8],
+    unions: &[u8],
+    t: &[u8],
+    k: Counts,
+    s: &mut [u8],
+    l: Limits,
+    n: Counters,
+    q: usize,
+    i: usize,
+) -> Counters
     requires { ⌜ Catalogued k (now marks) (now unions) (now t) ⌝ }
     requires { ⌜ Fits l (length (now s)) ⌝ }
     requires { ⌜ GoodAlone (catalogue k (now marks) (now unions) (now t)) l n (held l (now s)) ⌝ }
@@ -90,7 +167,17 @@ fn name_disjunct(marks: &[u8], unions: &[u8], t: &[u8], k: Counts, s: &mut [u8],
 }
 
 // Those of the disjuncts with these indices.
-pub fn name_disjuncts(marks: &[u8], unions: &[u8], t: &[u8], k: Counts, s: &mut [u8], l: Limits, n: Counters, q: usize, is: Indices) -> Counters
+pub fn name_disjuncts(
+    marks: &[u8],
+    unions: &[u8],
+    t: &[u8],
+    k: Counts,
+    s: &mut [u8],
+    l: Limits,
+    n: Counters,
+    q: usize,
+    is: Indices,
+) -> Counters
     requires { ⌜ Catalogued k (now marks) (now unions) (now t) ⌝ }
     requires { ⌜ Fits l (length (now s)) ⌝ }
     requires { ⌜ GoodAlone (catalogue k (now marks) (now unions) (now t)) l n (held l (now s)) ⌝ }

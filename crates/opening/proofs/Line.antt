@@ -1,18 +1,18 @@
 -- One task more in the line, or no place for it.
-use mathlib.Core.Path.{_≡_, refl, ap}
+use mathlib.Core.Path.{_≡_, refl}
 use mathlib.Core.Bool.{true}
-use mathlib.Core.List.{List, [], _∷_, map}
+use mathlib.Core.List.{List}
 use Prim.Native.Nat.{ℕ, _+_, _<_, _≤_}
 use native.Mathlib.Omega.{arith}
 use lib.ListN.{length, length-map}
 use borrow.Author.Tests.{lt-ltb}
-use Rattle.rules.specs.Lists.{any, snoc}
+use Rattle.rules.specs.Lists.{any}
 use Rattle.rules.specs.Catalogue.{Catalogue}
 use Rattle.rules.specs.Opening.{queue}
 use Rattle.rules.specs.State.{State}
 use Rattle.rules.specs.Limits.{above}
 use Rattle.rules.proofs.Bools.{or-true}
-use Rattle.rules.proofs.ListLaws.{length-snoc}
+use Rattle.rules.proofs.ListLaws.{length-snoc, map-snoc}
 use Rattle.state.specs.declared.Limits.{Limits}
 use Rattle.state.specs.Layout.{held, Fits}
 use Rattle.variable_map.proofs.Laws.{variables-kept}
@@ -27,11 +27,6 @@ use Rattle.encoder.proofs.Counted as counted
 use Rattle.encoder.proofs.Frames.{good-kept, list-kept}
 use Rattle.encoder.proofs.Did.{plain-full, did-filled, did-made}
 use Rattle.encoder.proofs.Widening.{queue-widens}
-
-map-snoc : {A B : Type 0} (f : A → B) (xs : List A) (x : A) → map f (snoc xs x) ≡ snoc (map f xs) (f x)
-unfolding snoc
-map-snoc f [] x = refl
-map-snoc f (y ∷ xs) x = ap (λ (r : List _). f y ∷ r) (map-snoc f xs x)
 
 -- more tasks than there are places for
 line-over : (l : Limits) (room : ℕ) (s : State) → room < length (s .opening .line) → beyond l room s ≡ true

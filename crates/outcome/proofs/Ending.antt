@@ -5,7 +5,6 @@ use mathlib.Core.List.{List, [], _∷_, _++_}
 use Prim.Native.Nat.{ℕ, zero, suc, _+_, _<_, _≤_}
 use native.Mathlib.Omega.{arith}
 use native.Mathlib.Decide.{decLt}
-use lib.Dec.{ltb}
 use lib.ListN.{length, length-map, drop}
 use borrow.Author.Tests.{lt-ltb, le-ltb}
 use Rattle.rules.specs.Catalogue.{Catalogue}
@@ -14,8 +13,8 @@ use Rattle.rules.specs.State.{State}
 use Rattle.rules.specs.Limits.{Terms}
 use Rattle.rules.specs.Listing.{listing}
 use Rattle.rules.specs.Job.{answerOf, printed, isEmpty, ending, endedBy}
-use Rattle.rules.proofs.Valid.{valid}
 use Rattle.rules.proofs.Forgotten.{forget, forget-listing}
+use Rattle.rules.proofs.ListLaws.{no-element}
 use Rattle.refusal.specs.declared.Refusal.the-variants.{NotRun, ListingFull}
 use Rattle.refusal.specs.Refusing.{refusalOf}
 use Rattle.text.specs.Text.{Wrote}
@@ -25,13 +24,12 @@ use Rattle.state.proofs.Rows.{length-rows}
 use Rattle.variable_map.proofs.Laws.{count}
 use Rattle.marked.specs.Marked.{listed, ownerOf}
 use Rattle.marked.proofs.Laws.{length-listed}
-use Rattle.entries.specs.Entries.{rowAt, waitingIn, drawnIn}
+use Rattle.entries.specs.Entries.{rowAt, drawnIn}
 use Rattle.encoder.specs.declared.Counters.{Counters}
 use Rattle.encoder.specs.Held.{Reading, openingOf, stateOf}
 use Rattle.encoder.proofs.Frames.{clauses-counted}
-use Rattle.listing.specs.Listed.{AllGiven, Lists}
-use Rattle.commands.proofs.Drawing.{all-given}
-use Rattle.encoding.specs.Running.{Holds, Reaches}
+use Rattle.listing.specs.Listed.{Lists}
+use Rattle.encoding.specs.Running.{Holds}
 use Rattle.outcome.specs.declared.Outcome.{Outcome}
 use Rattle.outcome.specs.declared.Outcome.the-variants.{Accepted, Refused}
 use Rattle.outcome.specs.Outcomes.{told, Comes, Prints, Finishes}
@@ -73,10 +71,6 @@ not-empty : {A : Type 0} (xs : List A) → 0 < length xs → isEmpty xs ≡ fals
 not-empty [] h = let none : ⊥ = omega arith in absurd none
 not-empty (x ∷ xs) h = refl
 
-pub none-left : {A : Type 0} (xs : List A) → length xs ≡ 0 → xs ≡ []
-none-left [] h = refl
-none-left (x ∷ xs) h = let none : ⊥ = omega arith in absurd none
-
 either-false : (a b : Bool) → a ≡ false → not (a && b) ≡ true
 either-false a b e = rw e
 
@@ -117,13 +111,14 @@ module _ {c : Catalogue} {l : Limits} {n : Counters} {st : ℕ → List ℕ} {cl
   pub added-left : (out : List ℕ) → (n .added ≡ 0 → ⊥) → Finishes c l n st cl wt (Refused NotRun 0) out out
   added-left out h =
       record { is = λ s k t job e. left-over c s t job (either-false _ _ (not-empty (s .opening .added) (positive _ (rw (added-count k) h)))) }
+
   pub drawn-left : (out : List ℕ) → (n .drawn ≡ 0 → ⊥) → Finishes c l n st cl wt (Refused NotRun 0) out out
   drawn-left out h =
       record { is = λ s k t job e. left-over c s t job (other-false (isEmpty (s .opening .added)) _ (not-empty (s .opening .drawn) (positive _ (rw (drawn-count k) h)))) }
 
   pub none-left-over : {r : Outcome} {out out′ : List ℕ} → n .added ≡ 0 → n .drawn ≡ 0 → Prints c l n st cl wt r out out′ → Finishes c l n st cl wt r out out′
   none-left-over a d p =
-      record { is = λ s k t job e. p .is s k t job e (none-left (s .opening .added) (added-count k ∙ a)) (none-left (s .opening .drawn) (drawn-count k ∙ d)) }
+      record { is = λ s k t job e. p .is s k t job e (no-element (s .opening .added) (added-count k ∙ a)) (no-element (s .opening .drawn) (drawn-count k ∙ d)) }
 
   module _ {room m : ℕ} {out : List ℕ} (e : room ≡ length out) (w : Lists c l n st cl wt room m [] []) where
     pub no-room : room < m → Prints c l n st cl wt (Refused ListingFull 0) out out
@@ -131,7 +126,7 @@ module _ {c : Catalogue} {l : Limits} {n : Counters} {st : ℕ → List ℕ} {cl
         record {
           is = λ s k t job q a d.
               let f : length (listing c s) ≤ room → ⊥ = λ g. (let x = measured room (listing c s) [] [] m (wrote-is k w) g in omega arith) in
-              too-long c s t job a d (over (t .listing) (length (listing c s)) (λ g. f (omega (arith, q, e))))
+              too-long c s t job a d (over (t .listing) (length (listing c s)) (λ g. f (omega (arith, q, e))));
         }
       where
         over : (x y : ℕ) → (y ≤ x → ⊥) → x < y
@@ -145,16 +140,10 @@ module _ {c : Catalogue} {l : Limits} {n : Counters} {st : ℕ → List ℕ} {cl
               let g = fits room (listing c s) [] [] m (wrote-is k w) h in
               let z : length (listing c s) ≤ length out = omega (arith, e) in
               rw (measured room (listing c s) [] [] m (wrote-is k w) g, variables-count k, clauses-count k)
-              (printed-whole c s t job a d (omega (arith, q, e)) (written out (listing c s) out′ r (rw (e, same) at (wrote-is k v)) z))
+              (printed-whole c s t job a d (omega (arith, q, e)) (written out (listing c s) out′ r (rw (e, same) at (wrote-is k v)) z));
         }
-
--- the entries that wait are disjuncts of requirements
-pub waits-given : {c : Catalogue} {l : Limits} {n : Counters} {st : ℕ → List ℕ} {cl wt : List ℕ} → Reaches c l n st cl wt → AllGiven c (waitingIn l (n .waiting) wt)
-unfolding stateOf openingOf
-waits-given {c} r =
-    record { given = rw (ap (λ (u : State). u .opening .waiting) (areas (r .holds))) (all-given (valid (r .given) (r .reached) .opening .waiting) .given) }
 
 -- a pass that is lent nothing writes nothing
 pub lent-none : {c : Catalogue} {l : Limits} {n : Counters} {st : ℕ → List ℕ} {cl wt : List ℕ} {room r : ℕ} {x : List ℕ} (out : List ℕ) → length x ≡ 0
     → Lists c l n st cl wt room r [] x → Lists c l n st cl wt room r [] [] × (x ++ out ≡ out)
-lent-none {x = x} out e w = let z = none-left x e in (rw z at w, rw z)
+lent-none {x = x} out e w = let z = no-element x e in (rw z at w, rw z)

@@ -2,17 +2,15 @@
 use mathlib.Core.Path.{_≡_, refl, sym, _∙_, ap}
 use mathlib.Core.List.{List, []}
 use mathlib.Core.Logic.{_⊎_, inl, inr}
-use Prim.Native.Nat.{ℕ, _+_, _<_}
+use Prim.Native.Nat.{ℕ, _+_}
 use native.Mathlib.Omega.{arith}
 use native.Mathlib.Decide.{decLt}
 use lib.ListN.{length, getD, drop, replicate}
 use Rattle.rules.specs.Catalogue.{Catalogue, emptyCatalogue}
 use Rattle.rules.specs.Refusals.{numberAndPlace}
-use Rattle.rules.specs.Records.{kindOf}
 use Rattle.rules.specs.State.{start}
 use Rattle.rules.specs.Limits.{Terms}
-use Rattle.rules.specs.Job.{reading, carrying, stopped, walk, runStep, checkStep, startsSheet, answerOf, printed, refused, ended}
-use Rattle.rules.specs.Job as rules
+use Rattle.rules.specs.Job.{reading, carrying, stopped, walk, runStep, checkStep, answerOf, printed, refused, ended}
 use Rattle.rules.proofs.Reached.{Given, checked-given}
 use Rattle.rules.proofs.WellFormed.{well-formed}
 use Rattle.rules.proofs.WalkLaws.{walk-record, walk-end, walk-still, run-reads, check-sheet, check-carries}
@@ -24,10 +22,8 @@ use Rattle.catalogue.specs.declared.Read.{Read}
 use Rattle.catalogue.specs.declared.Read.the-variants as Read
 use Rattle.catalogue.specs.Walking.{placeOf, progressOf, UpToSheet, ReadUp}
 use Rattle.state.specs.declared.Limits.{Limits}
-use Rattle.state.specs.Layout.{Fits}
 use Rattle.encoder.specs.declared.Counters.{Counters}
 use Rattle.encoder.specs.Held.{LongEnough}
-use Rattle.encoder.specs.Did.{limitsOf}
 use Rattle.goals.specs.Goals.{Catalogued}
 use Rattle.carried.specs.declared.Sheet.{Sheet}
 use Rattle.carried.specs.declared.Sheet.the-variants as Sheet
@@ -84,7 +80,7 @@ from-refused {job = job} {f = f} {at = at} out h k =
     record {
       is = λ z e g.
           rw (r .same .run z ∙ walk-still (runStep z job) (stopped (numberAndPlace (length job) at (refusalOf f))) (run-reads z job .over _) 0 at (drop at job))
-          (refused-comes job out f at)
+          (refused-comes job out f at);
     }
 
 -- ---- the sheet
@@ -106,11 +102,8 @@ module _ {c : Catalogue} {l : Limits} {job : List ℕ} {from : ℕ} {st′ : ℕ
 
 -- ---- lengths
 
-pub fits-same : {l : Limits} {m n : ℕ} → m ≡ n → Fits l n → Fits l m
-fits-same e f = rw e f
-
-pub long-same : {l : Limits} {m n i j : ℕ} → m ≡ n → i ≡ j → LongEnough l n j → LongEnough l m i
-long-same e d f = rw (e, d) f
+pub long-both : {l : Limits} {m n i j : ℕ} → m ≡ n → i ≡ j → LongEnough l n j → LongEnough l m i
+long-both e d f = rw (e, d) f
 
 -- an area that was cleared is zero
 pub zero-still : {xs : List ℕ} {n : ℕ} → xs ≡ replicate n 0 → length xs ≡ n → xs ≡ replicate (length xs) 0

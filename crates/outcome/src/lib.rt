@@ -24,14 +24,33 @@ ghost use Rattle.outcome.specs.Outcomes.{Prints, Finishes, RunsFrom};
 
 // What a job comes to.
 pub enum Outcome {
-    Accepted { length: usize, variables: usize, clauses: usize },
-    Refused { refusal: Refusal, at: usize },
+    Accepted {
+        length: usize,
+        variables: usize,
+        clauses: usize,
+    },
+    Refused {
+        refusal: Refusal,
+        at: usize,
+    },
 }
 
 // ---- the end
 
 // How long the listing is, or one more than `room` if it is longer than that. Nothing is written.
-fn measure(marks: &[u8], unions: &[u8], t: &[u8], k: Counts, s: &[u8], clauses: &[u8], w: &[u8], l: Limits, n: Counters, out: &mut [u8], room: usize) -> usize
+fn measure(
+    marks: &[u8],
+    unions: &[u8],
+    t: &[u8],
+    k: Counts,
+    s: &[u8],
+    clauses: &[u8],
+    w: &[u8],
+    l: Limits,
+    n: Counters,
+    out: &mut [u8],
+    room: usize,
+) -> usize
     requires { ⌜ Catalogued k (now marks) (now unions) (now t) ⌝ }
     requires { ⌜ Fits l (length (now s)) × Addressable room ⌝ }
     requires { ⌜ LongEnough l (length (now clauses)) (length (now w)) ⌝ }
@@ -39,11 +58,35 @@ fn measure(marks: &[u8], unions: &[u8], t: &[u8], k: Counts, s: &[u8], clauses: 
     ensures { λ r. ⌜ Lists (catalogue k (now (marks .entry)) (now (unions .entry)) (now (t .entry))) l n (held l (now (s .entry))) (now (clauses .entry)) (now (w .entry)) room r [] [] ⌝ }
     ensures { λ r. ⌜ now (out .exit) ≡ now (out .entry) ⌝ }
 {
-    listing::write(marks, unions, t, k, s, clauses, w, l, n, &mut out[..0], room)
+    listing::write(
+        marks,
+        unions,
+        t,
+        k,
+        s,
+        clauses,
+        w,
+        l,
+        n,
+        &mut out[..0],
+        room,
+    )
 }
 
 // The listing is written if it fits into the area, which has this much room.
-fn print(marks: &[u8], unions: &[u8], t: &[u8], k: Counts, s: &[u8], clauses: &[u8], w: &[u8], l: Limits, n: Counters, out: &mut [u8], room: usize) -> Outcome
+fn print(
+    marks: &[u8],
+    unions: &[u8],
+    t: &[u8],
+    k: Counts,
+    s: &[u8],
+    clauses: &[u8],
+    w: &[u8],
+    l: Limits,
+    n: Counters,
+    out: &mut [u8],
+    room: usize,
+) -> Outcome
     requires { ⌜ Catalogued k (now marks) (now unions) (now t) ⌝ }
     requires { ⌜ Fits l (length (now s)) × Addressable room × (room ≡ length (now out)) ⌝ }
     requires { ⌜ LongEnough l (length (now clauses)) (length (now w)) ⌝ }
@@ -66,7 +109,18 @@ fn print(marks: &[u8], unions: &[u8], t: &[u8], k: Counts, s: &[u8], clauses: &[
 }
 
 // The end of a job: nothing added or drawn may be left, and the listing must fit.
-fn finish(marks: &[u8], unions: &[u8], t: &[u8], k: Counts, s: &[u8], clauses: &[u8], w: &[u8], l: Limits, n: Counters, out: &mut [u8]) -> Outcome
+fn finish(
+    marks: &[u8],
+    unions: &[u8],
+    t: &[u8],
+    k: Counts,
+    s: &[u8],
+    clauses: &[u8],
+    w: &[u8],
+    l: Limits,
+    n: Counters,
+    out: &mut [u8],
+) -> Outcome
     requires { ⌜ Catalogued k (now marks) (now unions) (now t) ⌝ }
     requires { ⌜ Fits l (length (now s)) ⌝ }
     requires { ⌜ LongEnough l (length (now clauses)) (length (now w)) ⌝ }
@@ -92,7 +146,19 @@ fn finish(marks: &[u8], unions: &[u8], t: &[u8], k: Counts, s: &[u8], clauses: &
 // ---- a job
 
 // The sheet from its first record on, and the end.
-fn run_sheet(job: &[u8], from: usize, marks: &[u8], unions: &[u8], t: &[u8], k: Counts, s: &mut [u8], clauses: &mut [u8], w: &mut [u8], l: Limits, out: &mut [u8]) -> Outcome
+fn run_sheet(
+    job: &[u8],
+    from: usize,
+    marks: &[u8],
+    unions: &[u8],
+    t: &[u8],
+    k: Counts,
+    s: &mut [u8],
+    clauses: &mut [u8],
+    w: &mut [u8],
+    l: Limits,
+    out: &mut [u8],
+) -> Outcome
     requires { ⌜ length (now job) ≤ 65536 ⌝ }
     requires { ⌜ Catalogued k (now marks) (now unions) (now t) ⌝ }
     requires { ⌜ UpToSheet (now job) from k (now marks) (now unions) (now t) ⌝ }
@@ -110,7 +176,17 @@ fn run_sheet(job: &[u8], from: usize, marks: &[u8], unions: &[u8], t: &[u8], k: 
     }
 }
 
-pub fn run(job: &[u8], marks: &mut [u8], unions: &mut [u8], t: &mut [u8], s: &mut [u8], clauses: &mut [u8], w: &mut [u8], l: Limits, out: &mut [u8]) -> Outcome
+pub fn run(
+    job: &[u8],
+    marks: &mut [u8],
+    unions: &mut [u8],
+    t: &mut [u8],
+    s: &mut [u8],
+    clauses: &mut [u8],
+    w: &mut [u8],
+    l: Limits,
+    out: &mut [u8],
+) -> Outcome
     requires { ⌜ (65536 ≤ length (now marks)) × (52428 ≤ length (now unions)) × (50696 ≤ length (now t)) × (length (now job) ≤ 65536) ⌝ }
     requires { ⌜ Fits l (length (now s)) ⌝ }
     requires { ⌜ LongEnough l (length (now clauses)) (length (now w)) ⌝ }
@@ -118,7 +194,19 @@ pub fn run(job: &[u8], marks: &mut [u8], unions: &mut [u8], t: &mut [u8], s: &mu
     ensures { λ r. ⌜ RunsFrom l (now (job .entry)) 0 (reading emptyCatalogue) r (now (out .entry)) (now (out .exit)) ⌝ }
 {
     match catalogue::read_catalogue(job, marks, unions, t) {
-        Read::Sheet { at, counts } => run_sheet(job, at, marks, unions, t, counts, s, clauses, w, l, out),
+        Read::Sheet { at, counts } => run_sheet(
+            job,
+            at,
+            marks,
+            unions,
+            t,
+            counts,
+            s,
+            clauses,
+            w,
+            l,
+            out,
+        ),
         Read::Refused { refusal, at } => Outcome::Refused { refusal, at },
     }
 }

@@ -25,8 +25,8 @@ use Rattle.catalogue.specs.Reading.{Kept}
 use Rattle.state.specs.declared.Limits.{Limits}
 use Rattle.encoder.specs.declared.Counters.{Counters}
 use Rattle.encoder.specs.Did.{onOpening, StateDid, PlainDid}
-use Rattle.owners.specs.Owners.{GoodAlone}
-use Rattle.owners.proofs.Steps.{alone-after, state-idle, state-as, state-then}
+use Rattle.encoder.specs.Held.{GoodAlone}
+use Rattle.encoder.proofs.Steps.{state-same, state-none, state-then, alone-after}
 
 -- ---- a range
 
@@ -41,7 +41,7 @@ module _ (k : Counts) (m us t : List ℕ) where
   pub range-opened : {l : Limits} {n n′ : Counters} {st st′ : ℕ → List ℕ} (r x : ℕ) → x ≡ getD (tables k t .ranges) r 0
       → PlainDid l (λ c v. onOpening (openName x)) n st n′ st′
       → StateDid (catalogue k m us t) l (λ v. onOpening (openName (rangeName (catalogue k m us t) r))) n st n′ st′
-  range-opened r x e d = state-as (λ v s. rw (range-name-held k m us t r, ← e)) (d .is (catalogue k m us t))
+  range-opened r x e d = state-same (d .is (catalogue k m us t)) (λ v s. rw (range-name-held k m us t r, ← e))
 
 -- ---- a union
 
@@ -68,7 +68,7 @@ module _ {k : Counts} {m us t : List ℕ} {l : Limits} {u : ℕ} where
   pub opened-start : {n : Counters} {st : ℕ → List ℕ} {i : ℕ} → GoodAlone (catalogue k m us t) l n st → Next (k .members) (rows (k .members) us) u 0 i
       → Opened k m us t l u n st i n st
   opened-start g x =
-      record { seen = []; walk = seen-start x; good = g; did = state-idle (λ v s. unfold onOpening in rw (names-none (catalogue k m us t) (s .opening))) }
+      record { seen = []; walk = seen-start x; good = g; did = state-none (λ v s. unfold onOpening in rw (names-none (catalogue k m us t) (s .opening))) }
 
   module _ {n₀ n : Counters} {st₀ st : ℕ → List ℕ} {i : ℕ} (o : Opened k m us t l u n₀ st₀ i n st) where
     pub union-range : (x : Member) → WellFormed (catalogue k m us t) → u < k .unions → i < k .members
@@ -88,13 +88,13 @@ module _ {k : Counts} {m us t : List ℕ} {l : Limits} {u : ℕ} where
         record {
           seen = snoc (o .seen) (x .range);
           walk = seen-step x (o .walk) h e y;
-          good = alone-after (o .good) d;
-          did = state-then (o .did) d (λ v s. unfold onOpening in rw (names-more (catalogue k m us t) (o .seen) (x .range) (s .opening)));
+          good = alone-after d (o .good);
+          did = state-same (state-then (o .did) d) (λ v s. unfold onOpening in rw (names-more (catalogue k m us t) (o .seen) (x .range) (s .opening)));
         }
 
     pub opened-end : k .members ≤ i → u < k .unions
         → StateDid (catalogue k m us t) l (λ v. onOpening (openNames (catalogue k m us t) (goalRanges (catalogue k m us t) (union u)))) n₀ st₀ n st
-    opened-end h b = state-as (λ v s. rw (union-ranges-held k m us t u b, ← seen-end (o .walk) h)) (o .did)
+    opened-end h b = state-same (o .did) (λ v s. rw (union-ranges-held k m us t u b, ← seen-end (o .walk) h))
 
 -- ---- a goal
 
@@ -112,8 +112,8 @@ module _ (k : Counts) (m us t : List ℕ) {g : Requirement} {x : ℕ} where
 module _ {g : Requirement} {x : ℕ} {c : Catalogue} {l : Limits} {n n′ : Counters} {st st′ : ℕ → List ℕ} where
   pub single-opened : g ≡ Single x → StateDid c l (λ v. onOpening (openName (rangeName c x))) n st n′ st′
       → StateDid c l (λ v. onOpening (openNames c (goalRanges c (goalOf g)))) n st n′ st′
-  single-opened e d = state-as (λ v s. rw e (unfold goalOf goalRanges openNames fold in refl)) d
+  single-opened e d = state-same d (λ v s. rw e (unfold goalOf goalRanges openNames fold in refl))
 
   pub union-opened : g ≡ Union x → StateDid c l (λ v. onOpening (openNames c (goalRanges c (union x)))) n st n′ st′
       → StateDid c l (λ v. onOpening (openNames c (goalRanges c (goalOf g)))) n st n′ st′
-  union-opened e d = state-as (λ v s. rw e (unfold goalOf in refl)) d
+  union-opened e d = state-same d (λ v s. rw e (unfold goalOf in refl))

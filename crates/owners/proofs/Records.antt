@@ -1,6 +1,6 @@
 -- An owner's records: what the tables have of a requirement or a constraint, and the rules that are for one.
 use mathlib.Core.Path.{_≡_, refl, sym, _∙_, ap, subst}
-use mathlib.Core.Bool.{Bool, true, false, _&&_, cond, false≢true}
+use mathlib.Core.Bool.{Bool, true, false, cond, false≢true}
 use mathlib.Core.List.{List, []}
 use mathlib.Core.Option.{Option, none, some}
 use Prim.Native.Nat.{ℕ, _+_, _-_, _<_, _≤_}
@@ -17,6 +17,7 @@ use Rattle.rules.specs.Items as items
 use Rattle.rules.specs.Opening.{constraint, queue, openName, openNames, entryHolds, taskBy}
 use Rattle.rules.specs.State.{State}
 use Rattle.rules.proofs.WellFormed.{OwnerGiven, GoalGiven, WellFormed}
+use Rattle.rules.proofs.Bools.{and-false}
 use Rattle.requirement.specs.declared.Requirement.{Requirement}
 use Rattle.requirement.specs.declared.ConditionalRequirement.{ConditionalRequirement}
 use Rattle.requirement.specs.Requirements.{goalOf, requirementIs}
@@ -33,9 +34,9 @@ use Rattle.line.proofs.Tasks.{task-condition, task-requirement, task-constraint
 use Rattle.encoder.specs.declared.Counters.{Counters}
 use Rattle.encoder.specs.Held.{Reading, firedNow, taskFrom, taskIn}
 use Rattle.encoder.specs.Did.{onOpening, StateDid, PlainDid}
+use Rattle.encoder.proofs.Steps.{state-same, state-none}
 use Rattle.owners.specs.declared.Rule.the-variants.{OpenRequirement, OpenConstraint, QueueRequirement, QueueConstraint}
 use Rattle.owners.specs.Owners.{ownerIs, OwnerNumber, ruleOf}
-use Rattle.owners.proofs.Steps.{state-idle, state-as}
 
 -- ---- owners by number
 
@@ -63,7 +64,7 @@ owner-below c o g h = go (eqb o 1024) refl g
 
 -- ---- tasks by number
 
-none-fired : (c : Catalogue) (f : ℕ → Bool) (q : ℕ) → unconditional c q ≡ true → firedNow c f q ≡ []
+pub none-fired : (c : Catalogue) (f : ℕ → Bool) (q : ℕ) → unconditional c q ≡ true → firedNow c f q ≡ []
 unfolding firedNow indices disjunctsOf unconditional
 none-fired c f q e = go (conditionAt c q) e
   where
@@ -95,10 +96,6 @@ module _ (c : Catalogue) (v : Reading) (i : ℕ) where
 tested : (b : Bool) (k : ℕ) → isNone (cond b none (some k)) ≡ b
 tested true k = refl
 tested false k = refl
-
-and-false : (b : Bool) → (b && false) ≡ false
-and-false true = refl
-and-false false = refl
 
 module _ (k : Counts) (m us t : List ℕ) (q : ℕ) (it : ConditionalRequirement) (e : requirementIs it ≡ getD (tables k t .requirements) q noRequirement) where
   requirement-is : requirementAt (catalogue k m us t) q ≡ requirementIs it
@@ -133,14 +130,14 @@ module _ (k : Counts) (m us t : List ℕ) (q : ℕ) (it : ConditionalRequirement
 
     module _ {l : Limits} {n : Counters} {st : ℕ → List ℕ} where
       pub open-other : (x ≡ o → ⊥) → StateDid (catalogue k m us t) l (λ v. onOpening (ruleOf (catalogue k m us t) v OpenRequirement (ownerOf o) q)) n st n st
-      open-other ne = state-idle (λ v s. unfold onOpening ruleOf when in rw (same-owner, ne-eqb o x (λ h. ne (sym h))))
+      open-other ne = state-none (λ v s. unfold onOpening ruleOf when in rw (same-owner, ne-eqb o x (λ h. ne (sym h))))
 
       pub queue-other : (x ≡ o → ⊥) → StateDid (catalogue k m us t) l (λ v. onOpening (ruleOf (catalogue k m us t) v QueueRequirement (ownerOf o) q)) n st n st
-      queue-other ne = state-idle (λ v s. unfold onOpening ruleOf when in rw (same-owner, ne-eqb o x (λ h. ne (sym h))))
+      queue-other ne = state-none (λ v s. unfold onOpening ruleOf when in rw (same-owner, ne-eqb o x (λ h. ne (sym h))))
 
       pub open-conditional : (it .condition ≡ 65535 → ⊥) → StateDid (catalogue k m us t) l (λ v. onOpening (ruleOf (catalogue k m us t) v OpenRequirement (ownerOf o) q)) n st n st
       open-conditional ne =
-          state-idle (λ v s. unfold onOpening ruleOf when in rw (unconditional-is, ne-eqb (it .condition) 65535 ne, and-false (sameOwner (ownerOf o) (ownerAt (catalogue k m us t) q))))
+          state-none (λ v s. unfold onOpening ruleOf when in rw (unconditional-is, ne-eqb (it .condition) 65535 ne, and-false (sameOwner (ownerOf o) (ownerAt (catalogue k m us t) q))))
 
     open-is : x ≡ o → it .condition ≡ 65535 → (v : Reading) (s : State)
         → onOpening (openNames (catalogue k m us t) (goalRanges (catalogue k m us t) (goalOf (it .requirement)))) s
@@ -157,21 +154,21 @@ module _ (k : Counts) (m us t : List ℕ) (q : ℕ) (it : ConditionalRequirement
       pub open-own : it .condition ≡ 65535
           → StateDid (catalogue k m us t) l (λ v. onOpening (openNames (catalogue k m us t) (goalRanges (catalogue k m us t) (goalOf (it .requirement))))) n st n′ st′
           → StateDid (catalogue k m us t) l (λ v. onOpening (ruleOf (catalogue k m us t) v OpenRequirement (ownerOf o) q)) n st n′ st′
-      open-own u d = state-as (open-is h u) d
+      open-own u d = state-same d (open-is h u)
 
       pub queue-direct : Kept k m us t → q < k .requirements → it .condition ≡ 65535 → PlainDid l (λ c v. onOpening (queue (taskIn c v (2113 + q)))) n st n′ st′
           → StateDid (catalogue k m us t) l (λ v. onOpening (ruleOf (catalogue k m us t) v QueueRequirement (ownerOf o) q)) n st n′ st′
       queue-direct a b u d =
           let low : q < 1024 = omega (arith, a .held .laid .requirements) in
           let direct : unconditional (catalogue k m us t) q ≡ true = unconditional-is ∙ eq-eqb (it .condition) 65535 u in
-          state-as (λ v s. rw (requirement-task (catalogue k m us t) v q low direct) (queue-is h true direct v s)) (d .is (catalogue k m us t))
+          state-same (d .is (catalogue k m us t)) (λ v s. rw (requirement-task (catalogue k m us t) v q low direct) (queue-is h true direct v s))
 
       pub queue-conditional : Kept k m us t → q < k .requirements → (it .condition ≡ 65535 → ⊥) → PlainDid l (λ c v. onOpening (queue (taskIn c v (1089 + q)))) n st n′ st′
           → StateDid (catalogue k m us t) l (λ v. onOpening (ruleOf (catalogue k m us t) v QueueRequirement (ownerOf o) q)) n st n′ st′
       queue-conditional a b u d =
           let low : q < 1024 = omega (arith, a .held .laid .requirements) in
           let conditional : unconditional (catalogue k m us t) q ≡ false = unconditional-is ∙ ne-eqb (it .condition) 65535 u in
-          state-as (λ v s. rw (condition-task (catalogue k m us t) v q low) (queue-is h false conditional v s)) (d .is (catalogue k m us t))
+          state-same (d .is (catalogue k m us t)) (λ v s. rw (condition-task (catalogue k m us t) v q low) (queue-is h false conditional v s))
 
 -- ---- a constraint
 
@@ -204,18 +201,18 @@ module _ (k : Counts) (m us t : List ℕ) (i : ℕ) (it : code.Constraint) (e : 
 
     module _ {l : Limits} {n : Counters} {st : ℕ → List ℕ} (ne : x ≡ o → ⊥) where
       pub open-elsewhere : StateDid (catalogue k m us t) l (λ v. onOpening (ruleOf (catalogue k m us t) v OpenConstraint (ownerOf o) i)) n st n st
-      open-elsewhere = state-idle (λ v s. unfold onOpening ruleOf when in rw (same-constrained, ne-eqb o x (λ h. ne (sym h))))
+      open-elsewhere = state-none (λ v s. unfold onOpening ruleOf when in rw (same-constrained, ne-eqb o x (λ h. ne (sym h))))
 
       pub queue-elsewhere : StateDid (catalogue k m us t) l (λ v. onOpening (ruleOf (catalogue k m us t) v QueueConstraint (ownerOf o) i)) n st n st
-      queue-elsewhere = state-idle (λ v s. unfold onOpening ruleOf when in rw (same-constrained, ne-eqb o x (λ h. ne (sym h))))
+      queue-elsewhere = state-none (λ v s. unfold onOpening ruleOf when in rw (same-constrained, ne-eqb o x (λ h. ne (sym h))))
 
     module _ {l : Limits} {n n′ : Counters} {st st′ : ℕ → List ℕ} (h : x ≡ o) where
       pub open-here : StateDid (catalogue k m us t) l (λ v. onOpening (openName (rangeName (catalogue k m us t) (it .range)))) n st n′ st′
           → StateDid (catalogue k m us t) l (λ v. onOpening (ruleOf (catalogue k m us t) v OpenConstraint (ownerOf o) i)) n st n′ st′
-      open-here d = state-as (λ v z. rw (← range-at) (sym (unfold onOpening ruleOf when in rw (same-constrained, eq-eqb o x (sym h))))) d
+      open-here d = state-same d (λ v z. rw (← range-at) (sym (unfold onOpening ruleOf when in rw (same-constrained, eq-eqb o x (sym h)))))
 
       pub queue-here : Kept k m us t → i < k .constraints → PlainDid l (λ c v. onOpening (queue (taskIn c v (3137 + i)))) n st n′ st′
           → StateDid (catalogue k m us t) l (λ v. onOpening (ruleOf (catalogue k m us t) v QueueConstraint (ownerOf o) i)) n st n′ st′
       queue-here a b d =
           let low : i < 512 = omega (arith, a .held .laid .constraints) in
-          state-as (λ v s. rw (constraint-task (catalogue k m us t) v i low) (sym (unfold onOpening ruleOf when in rw (same-constrained, eq-eqb o x (sym h))))) (d .is (catalogue k m us t))
+          state-same (d .is (catalogue k m us t)) (λ v s. rw (constraint-task (catalogue k m us t) v i low) (sym (unfold onOpening ruleOf when in rw (same-constrained, eq-eqb o x (sym h)))))

@@ -1,9 +1,8 @@
 -- A rule is taken for each record, and the four rules together serve a known owner.
 use mathlib.Core.Path.{_≡_, refl, sym, _∙_, ap}
 use mathlib.Core.Bool.{Bool, true, false, _&&_}
-use mathlib.Core.List.{List, [], _∷_, _++_, map}
+use mathlib.Core.List.{List, [], _∷_, map}
 use Prim.Native.Nat.{ℕ, _+_, _<_, _≤_}
-use native.Mathlib.Nat.{zero-add}
 use native.Mathlib.Omega.{arith}
 use lib.ListN.{length}
 use Rattle.rules.specs.Lists.{filter, concatMap, fold, when, unless, upTo}
@@ -12,18 +11,18 @@ use Rattle.rules.specs.Candidates.{requirementsOf, constraintsOf}
 use Rattle.rules.specs.Conditions.{unconditional}
 use Rattle.rules.specs.Opening.{Task, constraint, Opening, queue, openName, openNames, rangesOf, rangesFirst, taskBy, tasksOf, serveOwner}
 use Rattle.rules.proofs.DistinctEnough.{fold-append, fold-map, fold-concatMap}
+use Rattle.rules.proofs.ListLaws.{upTo-last}
 use Rattle.tables.specs.declared.Counts.{Counts}
 use Rattle.cache.specs.Areas.{catalogue}
 use Rattle.cache.proofs.Laws.{requirements-held, constraints-held}
 use Rattle.state.specs.declared.Limits.{Limits}
-use Rattle.line.proofs.Masks.{upTo-split}
 use Rattle.encoder.specs.declared.Counters.{Counters}
-use Rattle.encoder.specs.Held.{Reading}
+use Rattle.encoder.specs.Held.{Reading, GoodAlone}
 use Rattle.encoder.specs.Did.{onOpening, StateDid}
+use Rattle.encoder.proofs.Steps.{state-same, state-none, state-then, alone-after}
 use Rattle.owners.specs.declared.Rule.{Rule}
 use Rattle.owners.specs.declared.Rule.the-variants.{OpenRequirement, OpenConstraint, QueueRequirement, QueueConstraint}
-use Rattle.owners.specs.Owners.{ruleOf, countOf, cardinal, GoodAlone}
-use Rattle.owners.proofs.Steps.{alone-after, state-idle, state-as, state-both, state-then}
+use Rattle.owners.specs.Owners.{ruleOf, countOf, cardinal}
 
 -- ---- how many records there are for a rule
 
@@ -71,15 +70,12 @@ module _ (k : Counts) (w : Rule) where
 
 pub rule-taken : {c : Catalogue} {l : Limits} {w w′ : Rule} (o : Owner) (i : ℕ) {n n′ : Counters} {st st′ : ℕ → List ℕ} → w ≡ w′
     → StateDid c l (λ v. onOpening (ruleOf c v w′ o i)) n st n′ st′ → StateDid c l (λ v. onOpening (ruleOf c v w o i)) n st n′ st′
-rule-taken o i e d = state-as (λ v s. rw e) d
+rule-taken o i e d = state-same d (λ v s. rw e)
 
 -- ---- one record after another
 
-up-last : (i : ℕ) → upTo 0 (i + 1) ≡ upTo 0 i ++ (i ∷ [])
-up-last i = let one : upTo i 1 ≡ i ∷ [] = unfold upTo in refl in upTo-split 0 i 1 ∙ rw (zero-add, one)
-
 fold-last : {S : Type 0} (f : ℕ → S → S) (i : ℕ) (s : S) → f i (fold f (upTo 0 i) s) ≡ fold f (upTo 0 (i + 1)) s
-fold-last f i s = rw (up-last i, fold-append f (upTo 0 i) (i ∷ []) s) (unfold fold in refl)
+fold-last f i s = rw (upTo-last i, fold-append f (upTo 0 i) (i ∷ []) s) (unfold fold in refl)
 
 fold-none : {S : Type 0} (f : ℕ → S → S) (s : S) → fold f (upTo 0 0) s ≡ s
 unfolding fold upTo
@@ -93,15 +89,15 @@ pub record Ruled (c : Catalogue) (l : Limits) (w : Rule) (o : Owner) (count : �
 
 module _ {c : Catalogue} {l : Limits} {w : Rule} {o : Owner} {count : ℕ} where
   pub ruled-start : {n : Counters} {st : ℕ → List ℕ} → GoodAlone c l n st → Ruled c l w o count n st 0 n st
-  ruled-start g = record { most = omega arith; good = g; did = state-idle (λ v s. unfold onOpening in rw (fold-none (ruleOf c v w o) (s .opening))) }
+  ruled-start g = record { most = omega arith; good = g; did = state-none (λ v s. unfold onOpening in rw (fold-none (ruleOf c v w o) (s .opening))) }
 
   pub ruled-step : {n₀ n n′ : Counters} {st₀ st st′ : ℕ → List ℕ} {i : ℕ} → Ruled c l w o count n₀ st₀ i n st → i < count
       → StateDid c l (λ v. onOpening (ruleOf c v w o i)) n st n′ st′ → Ruled c l w o count n₀ st₀ (i + 1) n′ st′
   ruled-step {i = i} r h d =
       record {
         most = omega arith;
-        good = alone-after (r .good) d;
-        did = state-then (r .did) d (λ v s. unfold onOpening in rw (fold-last (ruleOf c v w o) i (s .opening)));
+        good = alone-after d (r .good);
+        did = state-same (state-then (r .did) d) (λ v s. unfold onOpening in rw (fold-last (ruleOf c v w o) i (s .opening)));
       }
 
 pub ruled-end : (k : Counts) (m us t : List ℕ) {l : Limits} {w : Rule} {o : Owner} {count i : ℕ} {n₀ n : Counters} {st₀ st : ℕ → List ℕ}
@@ -110,7 +106,7 @@ pub ruled-end : (k : Counts) (m us t : List ℕ) {l : Limits} {w : Rule} {o : Ow
 ruled-end k m us t {w = w} {i = i} r h e =
     let p = r .most in
     let is : countOf (catalogue k m us t) w ≡ i = omega (arith, counted k m us t w) in
-    state-as (λ v s. rw is) (r .did)
+    state-same (r .did) (λ v s. rw is)
 
 -- ---- the four rules
 
@@ -202,4 +198,4 @@ pub known-served : {c : Catalogue} {l : Limits} (w : Owner) {n n₁ n₂ n₃ n�
     → StateDid c l (λ v. onOpening (fold (ruleOf c v QueueConstraint w) (upTo 0 (countOf c QueueConstraint)))) n₃ st₃ n₄ st₄
     → StateDid c l (λ v. onOpening (serveOwner c w)) n st n₄ st₄
 known-served {c} w e a b d f =
-    state-then (state-both (state-both a b) d) f (λ v s. unfold onOpening in rw (serves-known c v w e (s .opening)))
+    state-same (state-then (state-then (state-then a b) d) f) (λ v s. unfold onOpening in rw (serves-known c v w e (s .opening)))

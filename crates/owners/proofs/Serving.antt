@@ -8,9 +8,9 @@ use lib.ListN.{length, getD}
 use borrow.Author.Tests.{lt-ltb}
 use Rattle.rules.specs.Lists.{fold, listIf, unless}
 use Rattle.rules.specs.Clause.{excluded, unknownDependencies}
-use Rattle.rules.specs.Catalogue.{Owner, root, part, Part, Catalogue, noPart, partAt, rangeName, unknownOwner}
+use Rattle.rules.specs.Catalogue.{Owner, root, part, Part, Catalogue, noPart, partAt, unknownOwner}
 use Rattle.rules.specs.Variables.{Origin, known, withVariable, withVariables, partOrigin, partVariable}
-use Rattle.rules.specs.Opening.{Task, owner, Opening, queue, openName, openNames, rangesFirst, tasksOf, serveOwner, serve}
+use Rattle.rules.specs.Opening.{owner, serveOwner, serve}
 use Rattle.rules.specs.Encoding.{served, taskOrigins, origins, taskClauses, clauses}
 use Rattle.rules.specs.State.{State, Run, emit}
 use Rattle.rules.specs.Run.{serveTask}
@@ -18,7 +18,7 @@ use Rattle.rules.proofs.WellFormed.{OwnerGiven}
 use Rattle.rules.proofs.Places.{withVariable-known}
 use Rattle.rules.proofs.ClauseByClause.{addClause, emit-one-by-one}
 use Rattle.rules.proofs.Capped.{addVariable}
-use Rattle.rules.proofs.Forgotten.{unless-commutes, fold-commutes, erased, forget, emit-forgets}
+use Rattle.rules.proofs.Forgotten.{erased, forget, emit-forgets, owner-erased}
 use Rattle.tables.specs.declared.Counts.{Counts}
 use Rattle.tables.specs.Tables.{tables}
 use Rattle.cache.specs.Areas.{catalogue}
@@ -30,45 +30,13 @@ use Rattle.marked.specs.Marked.{ownerOf}
 use Rattle.marked.proofs.Owners.{root-is, part-is}
 use Rattle.encoder.specs.declared.Counters.{Counters}
 use Rattle.encoder.specs.declared.Run as encoder
-use Rattle.encoder.specs.Held.{runOf, Reading, openingOf, stateOf, LongEnough, Good}
+use Rattle.encoder.specs.Held.{runOf, Reading, stateOf, LongEnough, Good}
 use Rattle.encoder.specs.Did.{Widens, onOpening, Looked, StateDid, ClausesDid, PlainDid}
 use Rattle.encoder.proofs.Did.{widens-then, did-as, did-then, did-stop}
 use Rattle.encoder.proofs.Widening.{addVariable-widens, addClause-widens}
+use Rattle.encoder.proofs.Steps.{forget-widens, nothing-kept}
 use Rattle.clauses.specs.Adding.{reasonFor, CanAdd, Adds}
 use Rattle.owners.specs.Owners.{serving}
-
--- ---- what was handled and fired is not kept
-
-pub forget-widens : {s s′ : State} → Widens s s′ → Widens s (forget s′)
-forget-widens w =
-    record {
-      grows = record { variables = w .grows .variables; clauses = w .grows .clauses; waiting = w .grows .waiting };
-      line = w .line;
-      several = w .several;
-    }
-
-pub nothing-kept : (c : Catalogue) (l : Limits) (v : Reading) (n : Counters) (st : ℕ → List ℕ) (cl wt : List ℕ) → forget (stateOf c l v n st cl wt) ≡ stateOf c l v n st cl wt
-unfolding stateOf openingOf
-nothing-kept c l v n st cl wt = refl
-
-queue-erased : (t : Task) (s : Opening) → queue t (erased s) ≡ erased (queue t s)
-unfolding queue
-queue-erased t s = refl
-
-openName-erased : (n : ℕ) (s : Opening) → openName n (erased s) ≡ erased (openName n s)
-unfolding openName queue
-openName-erased n s = unless-commutes erased _ _ (λ u. refl) s
-
-openNames-erased : (c : Catalogue) (rs : List ℕ) (s : Opening) → openNames c rs (erased s) ≡ erased (openNames c rs s)
-unfolding openNames
-openNames-erased c rs s = fold-commutes erased _ (λ r. openName-erased (rangeName c r)) rs s
-
-pub owner-erased : (c : Catalogue) (w : Owner) (s : Opening) → serveOwner c w (erased s) ≡ erased (serveOwner c w s)
-unfolding serveOwner
-owner-erased c w s =
-    unless-commutes erased _ _
-    (λ u. ap (fold queue (tasksOf c w)) (openNames-erased c (rangesFirst c w) u)
-    ∙ fold-commutes erased queue queue-erased (tasksOf c w) (openNames c (rangesFirst c w) u)) s
 
 -- ---- a known owner
 

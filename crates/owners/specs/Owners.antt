@@ -1,7 +1,6 @@
 -- An owner's records one after another, and a task that is served.
 use mathlib.Core.Path.{_≡_}
 use mathlib.Core.Bool.{_&&_}
-use mathlib.Core.List.{List, []}
 use Prim.Native.Nat.{ℕ, _<_}
 use lib.ListN.{length}
 use Rattle.rules.specs.Lists.{when}
@@ -14,9 +13,7 @@ use Rattle.rules.specs.State as rules
 use Rattle.rules.specs.Run.{serveTask}
 use Rattle.rules.proofs.Forgotten.{forget}
 use Rattle.tables.specs.declared.Counts.{Counts}
-use Rattle.state.specs.declared.Limits.{Limits}
-use Rattle.encoder.specs.declared.Counters.{Counters}
-use Rattle.encoder.specs.Held.{Reading, Good}
+use Rattle.encoder.specs.Held.{Reading}
 use Rattle.owners.specs.declared.Rule.{Rule}
 use Rattle.owners.specs.declared.Rule.the-variants.{OpenRequirement, OpenConstraint, QueueRequirement, QueueConstraint}
 
@@ -26,11 +23,6 @@ ownerIs o = items.ownerOf o
 -- an owner of the tables: the root, or below the ceiling of parts
 pub record OwnerNumber (o : ℕ) : Type 0 where
   pub low : (o ≡ 65535 → ⊥) → o < 1024
-
--- what holds between two steps, of the state area and some clauses: a step of the state area alone keeps it, whichever they are
-pub record GoodAlone (c : Catalogue) (l : Limits) (n : Counters) (st : ℕ → List ℕ) : Type 0 where
-  pub clauses : List ℕ
-  pub good : Good c l n st clauses []
 
 -- record i, if it is this owner's
 unfoldable pub ruleOf : Catalogue → Reading → Rule → Owner → ℕ → Opening → Opening

@@ -22,10 +22,10 @@ ghost use Rattle.catalogue.specs.Reading.{Kept};
 ghost use Rattle.state.specs.Layout.{held, Fits};
 ghost use Rattle.variable_map.specs.Mapping.{originOf};
 ghost use Rattle.marked.specs.Marked.{ownerOf};
-ghost use Rattle.encoder.specs.Held.{runOf, LongEnough, Good};
+ghost use Rattle.encoder.specs.Held.{runOf, LongEnough, Good, GoodAlone};
 ghost use Rattle.encoder.specs.Did.{onOpening, StateDid, ClausesDid};
 ghost use Rattle.owners.specs.declared.Rule.the-variants.{OpenRequirement, OpenConstraint, QueueRequirement, QueueConstraint};
-ghost use Rattle.owners.specs.Owners.{OwnerNumber, ownerIs, ruleOf, countOf, cardinal, serving, GoodAlone};
+ghost use Rattle.owners.specs.Owners.{OwnerNumber, ownerIs, ruleOf, countOf, cardinal, serving};
 
 // ---- names are opened
 

@@ -5,16 +5,15 @@ use mathlib.Core.List.{List, [], _∷_, map}
 use Prim.Native.Nat.{ℕ, _+_, _<_, _≤_}
 use native.Mathlib.Omega.{arith}
 use lib.ListN.{length}
-use Rattle.rules.specs.Lists.{filter, fold, when, upTo, snoc}
+use Rattle.rules.specs.Lists.{filter, fold, when, upTo}
 use Rattle.rules.specs.Clause.{Clause, excluded, constrains, auxOut, lock}
 use Rattle.rules.specs.Catalogue.{Catalogue}
 use Rattle.rules.specs.Variables.{Origin, known, variableOf, partOrigin, partVariable}
-use Rattle.rules.specs.State.{State, setClauses}
+use Rattle.rules.specs.State.{State}
 use Rattle.rules.specs.State as rules
 use Rattle.rules.proofs.Each.{Each, each-out}
 use Rattle.rules.proofs.ListLaws.{upTo-member}
 use Rattle.rules.proofs.MemberLaws.{in-filter}
-use Rattle.rules.proofs.Effects.{effect-is, effect-leaves}
 use Rattle.rules.proofs.ClauseByClause.{addClause}
 use Rattle.tables.specs.declared.Counts.{Counts}
 use Rattle.cache.specs.Areas.{catalogue}
@@ -25,17 +24,17 @@ use Rattle.variable_map.specs.declared.Origin as code
 use Rattle.variable_map.specs.Mapping.{originOf, variables}
 use Rattle.encoder.specs.declared.Counters.{Counters}
 use Rattle.encoder.specs.declared.Run.{Run}
-use Rattle.encoder.specs.Held.{runOf, stateOf, Good}
+use Rattle.encoder.specs.Held.{runOf, stateOf, Good, KnownUnlessFull}
 use Rattle.encoder.specs.Did.{Looked, ClausesDid}
 use Rattle.encoder.proofs.Did.{did-as}
-use Rattle.encoder.proofs.Widening.{addClause-widens}
+use Rattle.encoder.proofs.Widening.{addClause-widens, addClause-variables}
+use Rattle.encoder.proofs.Steps.{clauses-same, clauses-none, clauses-then, good-later, known-later}
 use Rattle.clauses.specs.Adding.{reasonFor, Adds}
 use Rattle.parts.specs.declared.Parts.{Parts}
 use Rattle.parts.specs.declared.Adding.{Adding}
 use Rattle.parts.specs.declared.Adding.the-variants as Adding
-use Rattle.parts.specs.Parts.{selectedOf, partsFor, clauseFor, addingOf, CanAdd, AllKnown}
+use Rattle.parts.specs.Parts.{selectedOf, partsFor, clauseFor, addingOf, CanAdd}
 use Rattle.parts.proofs.Lists.{fold-none, fold-more}
-use Rattle.parts.proofs.Steps.{clauses-same, clauses-none, clauses-then, good-later, known-later}
 
 -- ---- one part
 
@@ -43,9 +42,9 @@ pub settable-out : {l : Limits} {r : Run} {a : Adding} {y : ℕ} → CanAdd l r 
 settable-out h e = rw e at (h .settable)
 
 module _ (o : code.Origin) (n : Counters) (st : ℕ → List ℕ) {x p : ℕ}
-    (e : originOf o ≡ partOrigin p) (k : Looked (variables (n .variables) st) (originOf o) x) (h : AllKnown (n .full) (variables (n .variables) st) (p ∷ [])) where
+    (e : originOf o ≡ partOrigin p) (k : Looked (variables (n .variables) st) (originOf o) x) (h : KnownUnlessFull (n .full) (variables (n .variables) st) (p ∷ [])) where
   its-variable : n .full ≡ false → x ≡ partVariable (variables (n .variables) st) p
-  its-variable f = first (h .known f)
+  its-variable f = first (h .known f .known)
     where
       first : Each (λ q. known (variables (n .variables) st) (partOrigin q) ≡ true) (p ∷ []) → x ≡ partVariable (variables (n .variables) st) p
       first (Each.cons q qs) = k .is (rw e q) ∙ ap (variableOf (variables (n .variables) st)) e
@@ -68,11 +67,12 @@ module _ (o : code.Origin) (n : Counters) (st : ℕ → List ℕ) {x p : ℕ}
     aux-out-added i d = added d (unfold clauseFor in rw i)
 
 pub selected-known : (k : Counts) (m u t : List ℕ) (which : Parts) {p : ℕ} {b full : Bool} {vs : List Origin}
-    → AllKnown full vs (partsFor (catalogue k m u t) which) → p < k .parts → b ≡ selectedOf (catalogue k m u t) which p → b ≡ true → AllKnown full vs (p ∷ [])
+    → KnownUnlessFull full vs (partsFor (catalogue k m u t) which) → p < k .parts → b ≡ selectedOf (catalogue k m u t) which p → b ≡ true → KnownUnlessFull full vs (p ∷ [])
 unfolding partsFor
 selected-known k m u t which {p} a h e i =
     let c = catalogue k m u t in
-    record { known = λ f. Each.cons (each-out (a .known f) (in-filter (selectedOf c which) (upTo 0 (length (c .parts))) (upTo-member (length (c .parts)) p (rw parts-held h)) (rw (← e) i))) Each.nil }
+    let i = in-filter (selectedOf c which) (upTo 0 (length (c .parts))) (upTo-member (length (c .parts)) p (rw parts-held h)) (rw (← e) i) in
+    record { known = λ f. record { known = Each.cons (each-out (a .known f .known) i) Each.nil } }
 
 module _ {c : Catalogue} {l : Limits} (r : rules.Run) {n : Counters} {st : ℕ → List ℕ} {cl : List ℕ} (which : Parts) (a : Adding) (p : ℕ) {b : Bool}
     (e : b ≡ selectedOf c which p) where
@@ -92,11 +92,11 @@ pub record AddedSoFar (c : Catalogue) (l : Limits) (r : rules.Run) (which : Part
   pub same : length s ≡ length s₀
   pub same-clauses : length cl ≡ length cl₀
   pub good : Good c l n (held l s) cl []
-  pub known : AllKnown (n .full) (variables (n .variables) (held l s)) (partsFor c which)
+  pub known : KnownUnlessFull (n .full) (variables (n .variables) (held l s)) (partsFor c which)
   pub did : ClausesDid c l (λ v. fold (addingOf r a) (filter (selectedOf c which) (upTo 0 p))) n₀ (held l s₀) cl₀ n (held l s) cl
 
 module _ {c : Catalogue} {l : Limits} {r : rules.Run} {which : Parts} {a : Adding} {count : ℕ} {n₀ : Counters} {s₀ cl₀ : List ℕ} where
-  pub adding-start : Good c l n₀ (held l s₀) cl₀ [] → AllKnown (n₀ .full) (variables (n₀ .variables) (held l s₀)) (partsFor c which)
+  pub adding-start : Good c l n₀ (held l s₀) cl₀ [] → KnownUnlessFull (n₀ .full) (variables (n₀ .variables) (held l s₀)) (partsFor c which)
       → AddedSoFar c l r which a count n₀ s₀ cl₀ n₀ s₀ cl₀ 0
   adding-start g h =
       record {
@@ -131,18 +131,14 @@ adding-end k m u t {p = p} x h =
 -- ---- for callers: with all variables there, these are the clauses of the parts one after another
 
 module _ (r : rules.Run) where
-  clause-leaves : (k : Clause) (s : State) → (addClause r k s) .variables ≡ s .variables
-  unfolding addClause
-  clause-leaves k s = effect-leaves (effect-is r (length (s .clauses)) k (setClauses (snoc (s .clauses) k) s)) .variables
-
   pub adds-are : (a : Adding) (ps : List ℕ) (vs : List Origin) (s : State) → s .variables ≡ vs
       → fold (addingOf r a) ps s ≡ fold (addClause r) (map (λ p. clauseFor a (partVariable vs p) p) ps) s
   unfolding fold addingOf
   adds-are a [] vs s e = refl
   adds-are a (p ∷ ps) vs s e =
-      ap (λ (us : List Origin). fold (addingOf r a) ps (addClause r (clauseFor a (partVariable us p) p) s)) e ∙ (adds-are a ps vs (addClause r (clauseFor a (partVariable vs p) p) s) (clause-leaves _ s ∙ e))
+      ap (λ (us : List Origin). fold (addingOf r a) ps (addClause r (clauseFor a (partVariable us p) p) s)) e ∙ (adds-are a ps vs (addClause r (clauseFor a (partVariable vs p) p) s) (addClause-variables r _ s ∙ e))
 
   pub adds-leave : (a : Adding) (ps : List ℕ) (s : State) → (fold (addingOf r a) ps s) .variables ≡ s .variables
   unfolding fold addingOf
   adds-leave a [] s = refl
-  adds-leave a (p ∷ ps) s = adds-leave a ps (addingOf r a p s) ∙ clause-leaves _ s
+  adds-leave a (p ∷ ps) s = adds-leave a ps (addingOf r a p s) ∙ addClause-variables r _ s

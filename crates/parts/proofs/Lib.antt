@@ -1,5 +1,4 @@
 pub mod Lists
-pub mod Steps
 pub mod Selecting
 pub mod Names
 pub mod Clauses

@@ -27,14 +27,14 @@ use Rattle.variable_map.specs.Mapping.{originOf, inTables, variables}
 use Rattle.marked.specs.Marked.{ownerOf, Marked}
 use Rattle.marked.proofs.Owners.{part-is}
 use Rattle.encoder.specs.declared.Counters.{Counters}
-use Rattle.encoder.specs.Held.{Reading, stateOf}
+use Rattle.encoder.specs.Held.{Reading, stateOf, GoodAlone, KnownUnlessFull}
 use Rattle.encoder.specs.Did.{onOpening, StateDid, PlainDid}
+use Rattle.encoder.proofs.Steps.{state-same, state-none, state-then, alone-after, variables-after}
 use Rattle.parts.specs.declared.Parts.{Parts}
 use Rattle.parts.specs.declared.Naming.{Naming}
 use Rattle.parts.specs.declared.Naming.the-variants.{Variable, Tracked, Candidate}
-use Rattle.parts.specs.Parts.{selectedOf, partsFor, namingOf, AllKnown, GoodAlone}
+use Rattle.parts.specs.Parts.{selectedOf, partsFor, namingOf}
 use Rattle.parts.proofs.Lists.{fold-none, fold-more}
-use Rattle.parts.proofs.Steps.{state-same, state-none, state-then, alone-after, variables-after}
 
 pub part-fits : (o : code.Origin) (p : ℕ) → originOf o ≡ partOrigin p → p < 1024 → inTables (originOf o) ≡ true
 unfolding inTables
@@ -142,9 +142,9 @@ module _ (c : Catalogue) (naming : Naming) where
       each-in ps (λ p m. fold-gives (λ (u : State). known (u .variables) (partOrigin p) ≡ true) (namingOf c naming) ps m (naming-knows p) (λ q u. naming-keeps p q u) s)
 
 pub named-known : {c : Catalogue} {l : Limits} (naming : Naming) {n n′ : Counters} {st st′ : ℕ → List ℕ} {ps : List ℕ}
-    → StateDid c l (λ v. fold (namingOf c naming) ps) n st n′ st′ → GoodAlone c l n st → AllKnown (n′ .full) (variables (n′ .variables) st′) ps
+    → StateDid c l (λ v. fold (namingOf c naming) ps) n st n′ st′ → GoodAlone c l n st → KnownUnlessFull (n′ .full) (variables (n′ .variables) st′) ps
 named-known {c} {l} naming {n} {st = st} {ps = ps} d g =
     record {
       known = λ e. let v : Reading = record { truth = λ p. false; drawn = [] } in
-          rw (variables-after (d .is (g .clauses) []) (g .good) e v) (all-named c naming ps (stateOf c l v n st (g .clauses) []));
+          record { known = rw (variables-after (d .is (g .clauses) []) (g .good) e v) (all-named c naming ps (stateOf c l v n st (g .clauses) [])) };
     }

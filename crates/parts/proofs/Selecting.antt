@@ -9,6 +9,7 @@ use borrow.Author.Tests.{eq-eqb, ne-eqb}
 use Rattle.rules.specs.Catalogue.{Catalogue, noPart, partAt, nameOf, rangeName, excludedPart}
 use Rattle.rules.specs.Lists.{filter, upTo}
 use Rattle.rules.specs.Candidates.{member, partsOf, nonMatching, lockedPart, others, lockedOut, excludedParts}
+use Rattle.rules.proofs.MemberLaws.{filter-both}
 use Rattle.tables.specs.declared.Counts.{Counts}
 use Rattle.tables.specs.Tables.{tables}
 use Rattle.cache.specs.declared.Choice.{Choice}
@@ -19,7 +20,6 @@ use Rattle.cache.proofs.Laws.{part-held, part-name-held}
 use Rattle.parts.specs.declared.Parts.{Parts}
 use Rattle.parts.specs.declared.Parts.the-variants.{Chosen, Locked, Others, Excluded}
 use Rattle.parts.specs.Parts.{selectedOf, partsFor}
-use Rattle.parts.proofs.Lists.{filter-both}
 
 pub not-named : (n x y : ℕ) (b : Bool) → x ≡ y → (x ≡ n → ⊥) → false ≡ (eqb y n && b)
 not-named n x y b e h = rw (← e, ne-eqb x n h)

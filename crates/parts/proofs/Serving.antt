@@ -1,5 +1,5 @@
 -- For callers: a task's event by steps that name parts and add clauses.
-use mathlib.Core.Path.{_≡_, refl, sym, _∙_, ap}
+use mathlib.Core.Path.{_≡_, sym, _∙_, ap}
 use mathlib.Core.Bool.{Bool}
 use mathlib.Core.List.{List, map}
 use Prim.Native.Nat.{ℕ}
@@ -15,9 +15,10 @@ use Rattle.rules.proofs.DistinctEnough.{fold-map}
 use Rattle.rules.proofs.Forgotten.{erased, forget, emit-forgets}
 use Rattle.state.specs.declared.Limits.{Limits}
 use Rattle.encoder.specs.declared.Counters.{Counters}
-use Rattle.encoder.specs.Held.{Reading, openingOf, stateOf}
-use Rattle.encoder.specs.Did.{Widens, ClausesDid}
+use Rattle.encoder.specs.Held.{Reading, stateOf}
+use Rattle.encoder.specs.Did.{ClausesDid}
 use Rattle.encoder.proofs.Did.{did-as}
+use Rattle.encoder.proofs.Steps.{forget-widens, nothing-kept}
 use Rattle.parts.specs.declared.Naming.the-variants.{Variable}
 use Rattle.parts.specs.Parts.{namingOf}
 
@@ -28,18 +29,6 @@ unfolding namingOf
 names-are c ps s = sym (fold-map addVariable partOrigin ps s) ∙ addVariables-is (map partOrigin ps) s
 
 -- ---- what was handled and fired is not kept
-
-forget-widens : {s s′ : State} → Widens s s′ → Widens s (forget s′)
-forget-widens w =
-    record {
-      grows = record { variables = w .grows .variables; clauses = w .grows .clauses; waiting = w .grows .waiting };
-      line = w .line;
-      several = w .several;
-    }
-
-nothing-kept : (c : Catalogue) (l : Limits) (v : Reading) (n : Counters) (st : ℕ → List ℕ) (cl wt : List ℕ) → forget (stateOf c l v n st cl wt) ≡ stateOf c l v n st cl wt
-unfolding stateOf openingOf
-nothing-kept c l v n st cl wt = refl
 
 module _ (c : Catalogue) (r : Run) (t : Task) (h : (f : ℕ → Bool) (o : Opening) → serve c f t (erased o) ≡ erased (serve c f t o)) where
   served-kept : (s : State) → forget s ≡ s → forget (serveTask c r t s) ≡ serveTask c r t s

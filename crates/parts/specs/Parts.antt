@@ -1,25 +1,21 @@
 -- Which parts a rule is for, and what is done with each.
-use mathlib.Core.Path.{_≡_}
-use mathlib.Core.Bool.{Bool, true, false, not, _&&_}
-use mathlib.Core.List.{List, []}
+use mathlib.Core.Bool.{Bool, not, _&&_}
+use mathlib.Core.List.{List}
 use Prim.Native.Nat.{ℕ, _<_}
 use lib.Dec.{eqb}
 use lib.ListN.{length}
 use Rattle.rules.specs.Lists.{filter, upTo}
 use Rattle.rules.specs.Clause.{Clause, excluded, constrains, auxOut, lock, exclusion}
 use Rattle.rules.specs.Catalogue.{Catalogue, partAt, nameOf, excludedPart}
-use Rattle.rules.specs.Variables.{Origin, known, partOrigin, partVariable}
+use Rattle.rules.specs.Variables.{partOrigin, partVariable}
 use Rattle.rules.specs.Opening.{nameForTracking, openReady}
 use Rattle.rules.specs.State.{State}
 use Rattle.rules.specs.State as rules
-use Rattle.rules.proofs.Each.{Each}
 use Rattle.rules.proofs.Capped.{addVariable}
 use Rattle.rules.proofs.ClauseByClause.{addClause}
 use Rattle.state.specs.declared.Limits.{Limits}
 use Rattle.cache.specs.Lists.{chosen}
-use Rattle.encoder.specs.declared.Counters.{Counters}
 use Rattle.encoder.specs.declared.Run.{Run}
-use Rattle.encoder.specs.Held.{Good}
 use Rattle.encoder.specs.Did.{onOpening}
 use Rattle.parts.specs.declared.Parts.{Parts}
 use Rattle.parts.specs.declared.Parts.the-variants.{Chosen, Locked, Others, Excluded}
@@ -62,12 +58,3 @@ Settable l (Adding.AuxOut y) = y < l .variables
 pub record CanAdd (l : Limits) (r : Run) (a : Adding) : Type 0 where
   pub number : 0 < r .number
   pub settable : Settable l a
-
--- each of these parts has a variable, if it is not full
-pub record AllKnown (full : Bool) (vs : List Origin) (ps : List ℕ) : Type 0 where
-  pub known : full ≡ false → Each (λ p. known vs (partOrigin p) ≡ true) ps
-
--- what holds between two steps, of the state area and some clauses: a step of the state area alone keeps it, whichever they are
-pub record GoodAlone (c : Catalogue) (l : Limits) (n : Counters) (st : ℕ → List ℕ) : Type 0 where
-  pub clauses : List ℕ
-  pub good : Good c l n st clauses []

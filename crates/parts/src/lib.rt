@@ -18,10 +18,10 @@ ghost use Rattle.cache.specs.Areas.{catalogue};
 ghost use Rattle.catalogue.specs.Reading.{Kept};
 ghost use Rattle.state.specs.Layout.{held, Fits};
 ghost use Rattle.variable_map.specs.Mapping.{variables};
-ghost use Rattle.encoder.specs.Held.{runOf, LongEnough, Good};
+ghost use Rattle.encoder.specs.Held.{runOf, LongEnough, Good, GoodAlone, KnownUnlessFull};
 ghost use Rattle.encoder.specs.Did.{onOpening, StateDid, ClausesDid};
 ghost use Rattle.parts.specs.declared.Naming.the-variants.{Tracked, Candidate};
-ghost use Rattle.parts.specs.Parts.{selectedOf, partsFor, namingOf, addingOf, CanAdd, AllKnown, GoodAlone};
+ghost use Rattle.parts.specs.Parts.{selectedOf, partsFor, namingOf, addingOf, CanAdd};
 
 // Which parts: those chosen of a range; of a name the locked one, all but the locked one, or the excluded ones.
 pub enum Parts {
@@ -248,7 +248,7 @@ fn add_part(
     requires { ⌜ LongEnough l (length (now clauses)) 16384 ⌝ }
     requires { ⌜ CanAdd l r adding ⌝ }
     requires { ⌜ p < 1024 ⌝ }
-    requires { ⌜ AllKnown (n .full) (variables (n .variables) (held l (now s))) (p ∷ []) ⌝ }
+    requires { ⌜ KnownUnlessFull (n .full) (variables (n .variables) (held l (now s))) (p ∷ []) ⌝ }
     ensures { λ m. ⌜ ClausesDid (catalogue k (now (marks .entry)) (now (unions .entry)) (now (t .entry))) l (λ v. addingOf (runOf r) adding p) n (held l (now (s .entry))) (now (clauses .entry)) m (held l (now (s .exit))) (now (clauses .exit)) ⌝ }
 {
     let x = opening::variable_of(s, l, n, variable_map::part(p));
@@ -280,7 +280,7 @@ fn add_if(
     requires { ⌜ LongEnough l (length (now clauses)) 16384 ⌝ }
     requires { ⌜ CanAdd l r adding ⌝ }
     requires { ⌜ p < k .parts ⌝ }
-    requires { ⌜ AllKnown (n .full) (variables (n .variables) (held l (now s))) (partsFor (catalogue k (now marks) (now unions) (now t)) which) ⌝ }
+    requires { ⌜ KnownUnlessFull (n .full) (variables (n .variables) (held l (now s))) (partsFor (catalogue k (now marks) (now unions) (now t)) which) ⌝ }
     ensures { λ m. ⌜ ClausesDid (catalogue k (now (marks .entry)) (now (unions .entry)) (now (t .entry))) l (λ v. when (selectedOf (catalogue k (now (marks .entry)) (now (unions .entry)) (now (t .entry))) which p) (addingOf (runOf r) adding p)) n (held l (now (s .entry))) (now (clauses .entry)) m (held l (now (s .exit))) (now (clauses .exit)) ⌝ }
 {
     if selected(marks, unions, t, k, which, p) {
@@ -308,7 +308,7 @@ pub fn add_each(
     requires { ⌜ Good (catalogue k (now marks) (now unions) (now t)) l n (held l (now s)) (now clauses) [] ⌝ }
     requires { ⌜ LongEnough l (length (now clauses)) 16384 ⌝ }
     requires { ⌜ CanAdd l r adding ⌝ }
-    requires { ⌜ AllKnown (n .full) (variables (n .variables) (held l (now s))) (partsFor (catalogue k (now marks) (now unions) (now t)) which) ⌝ }
+    requires { ⌜ KnownUnlessFull (n .full) (variables (n .variables) (held l (now s))) (partsFor (catalogue k (now marks) (now unions) (now t)) which) ⌝ }
     ensures { λ m. ⌜ ClausesDid (catalogue k (now (marks .entry)) (now (unions .entry)) (now (t .entry))) l (λ v. fold (addingOf (runOf r) adding) (partsFor (catalogue k (now (marks .entry)) (now (unions .entry)) (now (t .entry))) which)) n (held l (now (s .entry))) (now (clauses .entry)) m (held l (now (s .exit))) (now (clauses .exit)) ⌝ }
 {
     let mut m = n;

@@ -18,7 +18,7 @@ use Rattle.rules.specs.Opening.{Task, requirement, Opening, setWaiting, 
 use Rattle.rules.specs.Encoding.{Event, origins, clauses}
 use Rattle.rules.specs.State.{State, setOpening, setVariables, setClauses, Run, emit}
 use Rattle.rules.specs.Limits.{Limits, above}
-use Rattle.rules.proofs.Bools.{by-cases}
+use Rattle.rules.proofs.Bools.{by-cases, or-none}
 use Rattle.rules.proofs.ListLaws.{length-snoc, sum-append, when-keeps, unless-keeps, fold-every}
 use Rattle.rules.proofs.Effects.{Leaves, effect-is, effect-leaves, variablesAfter}
 use Rattle.rules.proofs.Grows.{whole, ending, Grows, opening-grows, withVariable-prefix, stays-above}
@@ -214,10 +214,6 @@ none-of true b d e h = absurd (true≢false h)
 none-of false true d e h = absurd (true≢false h)
 none-of false false true e h = absurd (true≢false h)
 none-of false false false e h = (refl, refl, refl, h)
-
-or-none : (a : Bool) → (a || false) ≡ a
-or-none true = refl
-or-none false = refl
 
 module _ (l : Limits) (s : State) (e : above l s ≡ false) where
   kept : (ltb (l .variables) (length (s .variables)) ≡ false) × (ltb (l .clauses) (length (s .clauses)) ≡ false)

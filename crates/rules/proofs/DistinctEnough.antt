@@ -15,7 +15,7 @@ use Rattle.rules.specs.Decisions.{Decision, evaluate, isFalsified, allFa
 use Rattle.rules.specs.Variables.{Origin, chosen, known, withVariable, withVariables, partOrigin}
 use Rattle.rules.specs.Encoding.{shapeOf, shapeOrigins, taskOrigins}
 use Rattle.rules.specs.Opening.{requirement, markHandled, firedParts, serveRequirement, Opening, queue, openOwner, openName, openNames, nameForTracking, openReady}
-use Rattle.rules.proofs.Bools.{by-cases, or-true, or-right}
+use Rattle.rules.proofs.Bools.{by-cases, or-true, or-right, same-test}
 use Rattle.rules.proofs.Member.{all-out, all-in}
 use Rattle.rules.proofs.ListLaws.{any-snoc}
 use Rattle.rules.proofs.Membership.{_⊆_, ⊆-snoc, at-end, in-left, in-right, in-either, before-or-end, any-in, any-out, elem-in, elem-out, map-in, map-out, when-either, unless-either, fold-keeps, fold-gives, distinct-in}
@@ -248,19 +248,14 @@ distinct-out xs x m = fold-keeps (λ seen. seen ⊆ xs) _ xs (λ y k seen h. ste
     step y k seen h true z n = h z n
     step y k seen h false z n = ⊎-elim (h z) (λ (e : z ≡ y). rw e k) (before-or-end seen (unfold snoc in n))
 
-one-way : (a b : Bool) → (a ≡ true → b ≡ true) → (b ≡ true → a ≡ true) → a ≡ b
-one-way true b f g = sym (f refl)
-one-way false true f g = g refl
-one-way false false f g = refl
-
 module _ {A : Type 0} (f : A → Bool) {xs ys : List A} (h : xs ⊆ ys) (k : ys ⊆ xs) where
   pub any-same : any f xs ≡ any f ys
   any-same =
-      one-way (any f xs) (any f ys) (λ e. let p = any-out f xs e in any-in f ys (h (p .0) (p .1)) (p .2))
+      same-test (any f xs) (any f ys) (λ e. let p = any-out f xs e in any-in f ys (h (p .0) (p .1)) (p .2))
       (λ e. let p = any-out f ys e in any-in f xs (k (p .0) (p .1)) (p .2))
 
   pub all-same : all f xs ≡ all f ys
-  all-same = one-way (all f xs) (all f ys) (λ e. all-in f ys (λ y m. all-out f xs e y (k y m))) (λ e. all-in f xs (λ x m. all-out f ys e x (h x m)))
+  all-same = same-test (all f xs) (all f ys) (λ e. all-in f ys (λ y m. all-out f xs e y (k y m))) (λ e. all-in f xs (λ x m. all-out f ys e x (h x m)))
 
 -- there are literals, and all are decided false
 allFalse-is : (ds : List Decision) (ls : List Literal) → allFalse ds ls ≡ (any (λ _. true) ls && all (λ (k : Literal). isFalsified (evaluate ds k)) ls)

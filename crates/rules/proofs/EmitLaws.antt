@@ -14,7 +14,6 @@ use Rattle.rules.specs.Encoding.{Event, served, taskOrigins, taskClauses
 use Rattle.rules.specs.State.{State, Run, report, force, propagateBy, propagate, effect, effects, emit, emitAll}
 use Rattle.rules.specs.Run.{serveTask}
 use Rattle.rules.specs.Called.{_∈_}
-use Rattle.rules.proofs.Line.{emit-opening}
 use Rattle.rules.proofs.Known.{unchanged}
 
 -- ---- forced values and conflicts
@@ -119,11 +118,6 @@ module _ (c : Catalogue) (r : Run) where
   emitAll-clauses [] s = sym (append-nil (s .clauses))
   emitAll-clauses (e ∷ es) s =
       emitAll-clauses es (emit c r e s) ∙ rw (emit-variables c r e s, emit-clauses c r e s) (append-assoc (s .clauses) _ _)
-
-  pub emitAll-opening : (es : List Event) (s : State) → (emitAll c r es s) .opening ≡ s .opening
-  unfolding emitAll fold
-  emitAll-opening [] s = refl
-  emitAll-opening (e ∷ es) s = emitAll-opening es (emit c r e s) ∙ emit-opening c r e s
 
 -- events that name no new variable
 pub settled : (c : Catalogue) (before : ℕ) (vs : List Origin) (es : List Event) → ((e : Event) → e ∈ es → (x : Origin) → x ∈ origins c e → known vs x ≡ true)

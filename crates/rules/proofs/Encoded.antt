@@ -11,22 +11,23 @@ use Rattle.rules.specs.Lists.{filter, indexOf}
 use Rattle.rules.specs.Literal.{Literal}
 use Rattle.rules.specs.Clause.{Clause, install, anyOne, literals}
 use Rattle.rules.specs.AtMostOne.{bit, helpersFor, agrees}
-use Rattle.rules.specs.Catalogue.{root, part, Goal, Catalogue}
+use Rattle.rules.specs.Catalogue.{root, Goal, Catalogue}
 use Rattle.rules.specs.Variables.{Origin, chosen, forbid, one, violation, gate, key, sameKey, known, variableOf, withVariables, partOrigin, partVariable}
 use Rattle.rules.specs.Opening.{Task, trackedOf}
 use Rattle.rules.specs.Encoding.{taskOrigins, taskClauses}
 use Rattle.rules.specs.State.{start, State, Run}
 use Rattle.rules.specs.Run.{serveTask}
 use Rattle.rules.specs.Called.{_∈_}
-use Rattle.rules.proofs.Grows.{Prefix, withVariables-prefix}
+use Rattle.rules.proofs.Grows.{Prefix, withVariables-prefix, prefix-length}
 use Rattle.rules.proofs.Places.{stands, keeps-variable, withVariables-known}
-use Rattle.rules.proofs.Known.{prefix-length, known-or-named, below-known, in-known, of-known}
-use Rattle.rules.proofs.MemberLaws.{of-snoc, last-in, all-in}
+use Rattle.rules.proofs.Known.{known-or-named, below-known, in-known, of-known}
+use Rattle.rules.proofs.MemberLaws.{last-in, all-in}
 use Rattle.rules.proofs.ListLaws.{All}
 use Rattle.rules.proofs.TrackedOf.{of-trackedOf, tracked-place}
 use Rattle.rules.proofs.Stable.{same-clauses, Below, task-below}
 use Rattle.rules.proofs.Asked.{Asks, asks, Shared, of-gate, of-violation, task-whole, task-once, gate-own, violation-own}
 use Rattle.rules.proofs.EmitLaws.{serveTask-variables, serveTask-clauses}
+use Rattle.rules.proofs.Membership.{before-or-end}
 
 -- ---- the origins that have a variable
 
@@ -211,7 +212,7 @@ module _ (c : Catalogue) (log : List Task) (before : ℕ) (tracked : List ℕ) (
 
   named-served : (x : Origin) → Named c (log ++ (t ∷ [])) tracked x → Named c log tracked x ⊎ (x ∈ taskOrigins c t)
   named-served x by-start = inl by-start
-  named-served x (by-task m i) = ⊎-elim (λ m. inl (by-task m i)) (λ q. inr (rw q at i)) (of-snoc log m)
+  named-served x (by-task m i) = ⊎-elim (λ m. inl (by-task m i)) (λ q. inr (rw q at i)) (before-or-end log m)
   named-served x (by-joining m) = inl (by-joining m)
   named-served x (as-helper n l) = inl (as-helper n l)
 
@@ -225,7 +226,7 @@ module _ (c : Catalogue) (log : List Task) (before : ℕ) (tracked : List ℕ) (
       → Source c log before tracked ws k ⊎ (k ∈ taskClauses c vs ws t)
   source-served n k of-start = inl of-start
   source-served {vs} n {ws} k (of-task m i) =
-      ⊎-elim (λ m. inl (of-task m i)) (λ q. ⊎-elim inr (λ s. inl (shared n s)) (task-once c vs ws t (rw q at i))) (of-snoc log m)
+      ⊎-elim (λ m. inl (of-task m i)) (λ q. ⊎-elim inr (λ s. inl (shared n s)) (task-once c vs ws t (rw q at i))) (before-or-end log m)
   source-served n k (of-bit m i j l h) = inl (of-bit m i j l h)
   source-served n k (of-one r m) = inl (of-one r m)
 

@@ -74,7 +74,7 @@ module _ (c : Catalogue) where
   fire-erased q (i ∷ is) s =
       ap (queue (requirement q (i ∷ is))) (openNames-erased (rangesOf c q) s) ∙ queue-erased (requirement q (i ∷ is)) (openNames c (rangesOf c q) s)
 
-  owner-erased : (w : Owner) (s : Opening) → serveOwner c w (erased s) ≡ erased (serveOwner c w s)
+  pub owner-erased : (w : Owner) (s : Opening) → serveOwner c w (erased s) ≡ erased (serveOwner c w s)
   unfolding serveOwner
   owner-erased w s =
       unless-commutes erased _ _

@@ -196,10 +196,10 @@ prefix-length {A} {xs} p = rw (p .is, length-append xs (p .more)) (omega arith)
 prefix-sum : {xs ys : List Clause} → Prefix xs ys → sum (map conditionLiterals xs) ≤ sum (map conditionLiterals ys)
 prefix-sum {xs} p = rw (p .is, sum-append conditionLiterals xs (p .more)) (omega arith)
 
-over : (l m n : ℕ) → m ≤ n → ltb l m ≡ true → ltb l n ≡ true
-over l m n h e = let a = ltb-true l m e in lt-ltb l n (omega arith)
+pub more-than : (l m n : ℕ) → m ≤ n → ltb l m ≡ true → ltb l n ≡ true
+more-than l m n h e = let a = ltb-true l m e in lt-ltb l n (omega arith)
 
-either : (a a′ b b′ : Bool) → (a ≡ true → a′ ≡ true) → (b ≡ true → b′ ≡ true) → (a || b) ≡ true → (a′ || b′) ≡ true
+pub either : (a a′ b b′ : Bool) → (a ≡ true → a′ ≡ true) → (b ≡ true → b′ ≡ true) → (a || b) ≡ true → (a′ || b′) ≡ true
 either true a′ b b′ f g e = rw (f refl)
 either false true b b′ f g e = refl
 either false false b b′ f g e = g e
@@ -207,7 +207,7 @@ either false false b b′ f g e = g e
 pub stays-above : (l : Limits) {s s′ : State} → Grows s s′ → above l s ≡ true → above l s′ ≡ true
 unfolding above
 stays-above l g =
-    either _ _ _ _ (over (l .variables) _ _ (prefix-length (g .variables)))
-    (either _ _ _ _ (over (l .clauses) _ _ (prefix-length (g .clauses)))
-    (either _ _ _ _ (over (l .conditionLiterals) _ _ (prefix-sum (g .clauses)))
-    (over (l .waiting) _ _ (prefix-length (g .waiting)))))
+    either _ _ _ _ (more-than (l .variables) _ _ (prefix-length (g .variables)))
+    (either _ _ _ _ (more-than (l .clauses) _ _ (prefix-length (g .clauses)))
+    (either _ _ _ _ (more-than (l .conditionLiterals) _ _ (prefix-sum (g .clauses)))
+    (more-than (l .waiting) _ _ (prefix-length (g .waiting)))))

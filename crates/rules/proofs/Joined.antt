@@ -15,13 +15,15 @@ use Rattle.rules.specs.Opening.{Task, trackedOf}
 use Rattle.rules.specs.Encoding.{joins, helpersOf, origins, clauses}
 use Rattle.rules.specs.Run.{joinsFrom}
 use Rattle.rules.specs.Called.{_∈_}
-use Rattle.rules.proofs.Grows.{withVariables-prefix}
-use Rattle.rules.proofs.Known.{prefix-self, prefix-length, below-known}
-use Rattle.rules.proofs.MemberLaws.{of-snoc, last-in, length-snoc, of-listIf, in-listIf, map-place, length-upTo, upTo-place, in-upTo, of-upTo}
+use Rattle.rules.proofs.Grows.{withVariables-prefix, prefix-length, whole}
+use Rattle.rules.proofs.Known.{below-known}
+use Rattle.rules.proofs.MemberLaws.{last-in, length-snoc, of-listIf, in-listIf, map-place, upTo-place, in-upTo, of-upTo}
 use Rattle.rules.proofs.TrackedOf.{of-trackedOf, in-trackedOf, more-tracked, same-place, own-name, other-name}
 use Rattle.rules.proofs.JoinClauses.{more-helpers, join-only, join-every}
 use Rattle.rules.proofs.EmitLaws.{variablesAfter, clausesOf, variablesAfterAll, clausesOfAll}
 use Rattle.rules.proofs.Encoded.{helperCount, Named, by-start, by-task, by-joining, as-helper, bitClause, oneClause, Linked, Source, of-start, of-task, of-bit, of-one, Encoded, stored-moved, numbered-step, stored-step}
+use Rattle.rules.proofs.ListLaws.{length-upTo}
+use Rattle.rules.proofs.Membership.{before-or-end}
 
 -- ---- helper j of a name with k tracked parts
 
@@ -87,7 +89,7 @@ module _ (c : Catalogue) (log : List Task) (before : ℕ) (tracked : List ℕ) (
   unfolding origins
   named-joined x by-start = inl by-start
   named-joined x (by-task m i) = inl (by-task m i)
-  named-joined x (by-joining m) = ⊎-elim (λ m. inl (by-joining m)) (λ q. inr (List·Memᴰ·head (ap partOrigin q))) (of-snoc tracked m)
+  named-joined x (by-joining m) = ⊎-elim (λ m. inl (by-joining m)) (λ q. inr (List·Memᴰ·head (ap partOrigin q))) (before-or-end tracked m)
   named-joined x (as-helper n {j} l) = helper-joined n j l
 
   -- ---- its clauses
@@ -145,7 +147,7 @@ module _ (c : Catalogue) (log : List Task) (before : ℕ) (tracked : List ℕ) (
 
     -- a one-of-name variable older than the run
     link-source : before ≤ length vs → variableOf vs (one own) < before → Source c log before after vs (oneClause vs own p)
-    link-source w l = of-one (record { is-known = below-known prefix-self (one own) (le-trans l w); older = l }) (in-trackedOf c own after (last-in tracked) refl)
+    link-source w l = of-one (record { is-known = below-known whole (one own) (le-trans l w); older = l }) (in-trackedOf c own after (last-in tracked) refl)
 
     join-source : before ≤ length vs → (k : Clause) → k ∈ added → Source c log before after vs k
     unfolding clauses
@@ -172,7 +174,7 @@ module _ (c : Catalogue) (log : List Task) (before : ℕ) (tracked : List ℕ) (
     one-joined : (n : ℕ) {q : ℕ} → Linked before vs n → q ∈ trackedOf c n after → Source c log before tracked vs (oneClause vs n q) ⊎ (oneClause vs n q ∈ added)
     one-joined n {q} r m =
         let t = of-trackedOf c n after m in
-        ⊎-elim (λ m. inl (of-one r (in-trackedOf c n tracked m (t .1)))) (λ e. inr (link-added n q e (t .1) r)) (of-snoc tracked (t .0))
+        ⊎-elim (λ m. inl (of-one r (in-trackedOf c n tracked m (t .1)))) (λ e. inr (link-added n q e (t .1) r)) (before-or-end tracked (t .0))
 
     source-joined : (k : Clause) → Source c log before after vs k → Source c log before tracked vs k ⊎ (k ∈ added)
     source-joined k of-start = inl of-start

@@ -1,25 +1,16 @@
 -- Which origins have a variable: those of the list, and after some are named, these too. A number below the older list's length is an older variable.
-use mathlib.Core.Path.{_≡_, refl, sym}
+use mathlib.Core.Path.{_≡_, refl}
 use mathlib.Core.Logic.{_⊎_, inl, inr, ⊎-elim}
 use mathlib.Core.Bool.{Bool, true, false, _||_, false≢true}
-use mathlib.Core.List.{List, [], _∷_, _++_, List·Memᴰ·head, List·Memᴰ·tail, List·Memᴰ·append-cases, List·Memᴰ·eq-of-singleton, append-nil}
-use Prim.Native.Nat.{suc, _<_, _≤_}
+use mathlib.Core.List.{List, [], _∷_, _++_, List·Memᴰ·head, List·Memᴰ·tail, List·Memᴰ·append-cases, List·Memᴰ·eq-of-singleton}
+use Prim.Native.Nat.{suc, _<_}
 use native.Mathlib.Nat.{le-of-suc-le-suc, not-suc-le-zero}
-use native.Mathlib.Omega.{arith}
-use lib.ListN.{length, length-append}
+use lib.ListN.{length}
 use Rattle.rules.specs.Lists.{any, indexOf, snoc, unless, fold}
 use Rattle.rules.specs.Variables.{Origin, sameOrigin, known, variableOf, withVariable, withVariables}
 use Rattle.rules.specs.Called.{_∈_}
 use Rattle.rules.proofs.Grows.{Prefix}
 use Rattle.rules.proofs.Places.{origin-same, origin-self}
-
--- ---- prefixes
-
-pub prefix-self : {A : Type 0} {xs : List A} → Prefix xs xs
-prefix-self {A} {xs} = record { more = []; is = sym (append-nil xs) }
-
-pub prefix-length : {A : Type 0} {xs ys : List A} → Prefix xs ys → length xs ≤ length ys
-prefix-length {A} {xs} p = rw (p .is, length-append xs (p .more)) (omega arith)
 
 -- ---- known is in the list
 

@@ -1,9 +1,10 @@
 -- Laws of the lists of specs/Lists.antt that say nothing of catalogues: what holds of every element, lists grown by one, folds, sums.
-use mathlib.Core.Path.{_≡_, refl, ap}
+use mathlib.Core.Path.{_≡_, refl, _∙_, ap}
 use mathlib.Core.Bool.{Bool, true, false, not, _||_, cond}
 use mathlib.Core.List.{List, [], _∷_, _++_, map, List·Memᴰ, List·Memᴰ·head, List·Memᴰ·tail}
 use Prim.Native.Nat.{ℕ, zero, suc, _+_, _*_, _<_, _≤_, zero-le}
-use native.Mathlib.Nat.{le-refl, mul-le-mul-right}
+use native.Mathlib.Nat.{le-refl, mul-le-mul-right, add-zero, zero-add, add-suc, suc-add}
+use native.Mathlib.Numerals.{add-one}
 use native.Mathlib.Omega.{arith}
 use lib.Dec.{eqb, ltb}
 use lib.ListN.{length, getD, set, length-append, length-set, List·getD-append}
@@ -68,6 +69,15 @@ module _ {A B : Type 0} where
   pub every-concatMap : (P : B → Type 0) (f : A → List B) → ((x : A) → All P (f x)) → (xs : List A) → All P (concatMap f xs)
   every-concatMap P f h xs = all-concatMap P f xs (all-every _ h xs)
 
+pub no-element : {A : Type 0} (xs : List A) → length xs ≡ 0 → xs ≡ []
+no-element [] e = refl
+no-element (x ∷ xs) e = let no-such : ⊥ = omega arith in absurd no-such
+
+pub map-snoc : {A B : Type 0} (f : A → B) (xs : List A) (x : A) → map f (snoc xs x) ≡ snoc (map f xs) (f x)
+unfolding snoc
+map-snoc f [] x = refl
+map-snoc f (y ∷ xs) x = ap (λ (r : List _). f y ∷ r) (map-snoc f xs x)
+
 -- ---- the numbers below a number
 
 upTo-all : (i n : ℕ) → All (λ j. (i ≤ j) × (j < i + n)) (upTo i n)
@@ -94,6 +104,14 @@ pub length-upTo : (i n : ℕ) → length (upTo i n) ≡ n
 unfolding upTo
 length-upTo i zero = refl
 length-upTo i (suc n) = ap suc (length-upTo (suc i) n)
+
+pub upTo-end : (i n : ℕ) → upTo i (suc n) ≡ upTo i n ++ ((i + n) ∷ [])
+unfolding upTo
+upTo-end i zero = rw (add-zero i)
+upTo-end i (suc n) = ap (λ l. i ∷ l) (rw (add-suc i n, ← (suc-add i n)) (upTo-end (suc i) n))
+
+pub upTo-last : (n : ℕ) → upTo 0 (n + 1) ≡ upTo 0 n ++ (n ∷ [])
+upTo-last n = rw add-one (upTo-end 0 n ∙ rw (zero-add n))
 
 -- ---- counts
 

@@ -1,21 +1,18 @@
 -- Membership in the lists that specs/Lists.antt makes, and lists made by functions that agree on the members.
 use mathlib.Core.Path.{_≡_, refl, sym, _∙_, ap}
-use mathlib.Core.Logic.{_⊎_, inl, inr, ⊎-elim}
-use mathlib.Core.Bool.{Bool, true, false, false≢true}
-use mathlib.Core.List.{List, [], _∷_, _++_, map, List·Memᴰ·head, List·Memᴰ·tail, Memᴰ·append-left, Memᴰ·append-right, List·Memᴰ·append-cases, List·Memᴰ·eq-of-singleton}
+use mathlib.Core.Logic.{_⊎_, ⊎-elim}
+use mathlib.Core.Bool.{Bool, true, false, _&&_, false≢true}
+use mathlib.Core.List.{List, [], _∷_, _++_, map, List·Memᴰ·head, List·Memᴰ·tail, Memᴰ·append-left, Memᴰ·append-right, List·Memᴰ·append-cases}
 use Prim.Native.Nat.{ℕ, zero, suc, _+_, _<_, _≤_}
 use native.Mathlib.Nat.{add-zero, add-suc, suc-add, le-of-suc-le-suc, not-suc-le-zero}
 use native.Mathlib.Omega.{arith}
 use lib.ListN.{length, getD, drop}
 use Rattle.rules.specs.Lists.{filter, listIf, concatMap, upTo}
 use Rattle.rules.specs.Called.{_∈_}
-use Rattle.rules.proofs.ListLaws.{All, all-append}
+use Rattle.rules.proofs.ListLaws.{All, all-append, length-upTo}
 
 module _ {A : Type 0} where
   -- ---- one more at the end
-
-  pub of-snoc : {x y : A} (xs : List A) → x ∈ (xs ++ (y ∷ [])) → (x ∈ xs) ⊎ (x ≡ y)
-  of-snoc xs m = ⊎-elim inl (λ m. inr (List·Memᴰ·eq-of-singleton m)) (List·Memᴰ·append-cases xs m)
 
   pub last-in : {x : A} (xs : List A) → x ∈ (xs ++ (x ∷ []))
   last-in xs = Memᴰ·append-right xs (List·Memᴰ·head refl)
@@ -120,6 +117,22 @@ module _ {A B : Type 0} where
   map-place f (x ∷ xs) d e zero l = refl
   map-place f (x ∷ xs) d e (suc i) l = map-place f xs d e i (le-of-suc-le-suc l)
 
+-- those of a filtered list that pass another test
+pub filter-both : {A : Type 0} (f g : A → Bool) (xs : List A) → filter f (filter g xs) ≡ filter (λ (x : A). g x && f x) xs
+unfolding filter
+filter-both f g [] = refl
+filter-both {A} f g (x ∷ xs) = go (g x) (filter-both f g xs)
+  where
+    here : (b : Bool) (ys zs : List A) → ys ≡ zs → _≡_ {A = List A} (elim b [ true ↦ x ∷ ys | false ↦ ys ]) (elim b [ true ↦ x ∷ zs | false ↦ zs ])
+    here true ys zs e = rw e
+    here false ys zs e = e
+
+    go : (b : Bool) → filter f (filter g xs) ≡ filter (λ (x : A). g x && f x) xs
+        → filter f (elim b [ true ↦ x ∷ filter g xs | false ↦ filter g xs ])
+        ≡ elim (b && f x) [ true ↦ x ∷ filter (λ (x : A). g x && f x) xs | false ↦ filter (λ (x : A). g x && f x) xs ]
+    go true e = here (f x) _ _ e
+    go false e = e
+
 -- ---- a property of all members
 
 module _ {A : Type 0} (P : A → Type 0) where
@@ -142,11 +155,6 @@ module _ {A : Type 0} (P : A → Type 0) where
   all-concatMap f (x ∷ xs) h = all-append P (f x) (concatMap f xs) (h x (List·Memᴰ·head refl)) (all-concatMap f xs (λ y m. h y (List·Memᴰ·tail m)))
 
 -- ---- the numbers from i on
-
-pub length-upTo : (i n : ℕ) → length (upTo i n) ≡ n
-unfolding upTo
-length-upTo i zero = refl
-length-upTo i (suc n) = ap suc (length-upTo (suc i) n)
 
 pub upTo-place : (i n m : ℕ) → m < n → getD (upTo i n) m 0 ≡ i + m
 unfolding upTo

@@ -4,8 +4,8 @@ use mathlib.Core.Path.{_≡_, refl, sym, _∙_, ap}
 use mathlib.Core.Logic.{⊎-elim}
 use mathlib.Core.Bool.{Bool, true, false, cond, true≢false}
 use mathlib.Core.List.{List, [], _∷_, _++_, map, map-append, append-nil, List·Memᴰ·head, List·Memᴰ·tail, List·Memᴰ·cases-cons, List·Memᴰ·eq-of-singleton}
-use Prim.Native.Nat.{ℕ, zero, suc, _+_, _^_, _<_}
-use native.Mathlib.Nat.{add-zero, zero-add, add-suc, suc-add}
+use Prim.Native.Nat.{ℕ, suc, _+_, _^_, _<_}
+use native.Mathlib.Nat.{zero-add}
 use native.Mathlib.Omega.{arith}
 use lib.Dec.{eqb, ltb}
 use lib.ListN.{length, getD, length-map, List·getD-append}
@@ -21,7 +21,7 @@ use Rattle.rules.specs.Encoding.{Shape, direct, throughGate, onFiring, s
 use Rattle.rules.specs.Called.{_∈_, constraintRange}
 use Rattle.rules.proofs.Bools.{by-cases}
 use Rattle.rules.proofs.Each.{unless-cases}
-use Rattle.rules.proofs.ListLaws.{All, all-append}
+use Rattle.rules.proofs.ListLaws.{All, all-append, upTo-end}
 use Rattle.rules.proofs.MemberLaws.{of-listIf, in-filter, of-filter, filter-append, filter-pass, map-same, all-in, all-listIf, all-map, length-snoc}
 use Rattle.rules.proofs.Grows.{Prefix, withVariables-prefix}
 use Rattle.rules.proofs.Places.{stands, keeps-variable, withVariables-known}
@@ -123,11 +123,6 @@ module _ (f : Origin → Bool) where
       (filter-added b y vs e u)
 
 -- ---- one part more: one helper more, if they are too few
-
-upTo-end : (i m : ℕ) → upTo i (suc m) ≡ upTo i m ++ ((i + m) ∷ [])
-unfolding upTo
-upTo-end i zero = rw (add-zero i)
-upTo-end i (suc m) = ap (λ l. i ∷ l) (rw (add-suc i m, ← (suc-add i m)) (upTo-end (suc i) m))
 
 -- part k, the first being part 0, wants a helper of its own
 abbrev wantsHelper : ℕ → Bool

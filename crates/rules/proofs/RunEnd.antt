@@ -13,10 +13,11 @@ use Rattle.rules.specs.Run.{linksFor, joinAll, linkAll}
 use Rattle.rules.specs.Called.{_∈_}
 use Rattle.rules.proofs.Places.{stands}
 use Rattle.rules.proofs.MemberLaws.{behind, of-drop}
-use Rattle.rules.proofs.EmitLaws.{emitAll-variables, emitAll-clauses, emitAll-opening, settled}
+use Rattle.rules.proofs.EmitLaws.{emitAll-variables, emitAll-clauses, settled}
 use Rattle.rules.proofs.Encoded.{Encoded}
 use Rattle.rules.proofs.Joined.{joins-encoded}
 use Rattle.rules.proofs.Links.{links-known, links-encoded}
+use Rattle.rules.proofs.Line.{emitAll-opening}
 
 -- ---- the end
 

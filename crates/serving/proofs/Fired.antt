@@ -1,13 +1,12 @@
 -- A requirement's task, for the disjuncts that hold now or for a drawn one.
-use mathlib.Core.Path.{_≡_, refl, _∙_, ap, subst}
-use mathlib.Core.Bool.{Bool, true, false≢true}
+use mathlib.Core.Path.{_≡_, _∙_, ap, subst}
+use mathlib.Core.Bool.{Bool, true}
 use mathlib.Core.List.{List, [], _∷_, _++_}
-use mathlib.Core.Option.{Option, none, some}
 use Prim.Native.Nat.{ℕ, _<_}
 use lib.ListN.{length, getD}
-use Rattle.rules.specs.Lists.{filter, upTo}
-use Rattle.rules.specs.Catalogue.{Condition, Catalogue, conditionAt}
-use Rattle.rules.specs.Conditions.{disjunctsIf, isNone, disjunctsOf, indices, unconditional}
+use Rattle.rules.specs.Lists.{filter}
+use Rattle.rules.specs.Catalogue.{Catalogue}
+use Rattle.rules.specs.Conditions.{disjunctsOf, indices, unconditional}
 use Rattle.rules.specs.Opening.{Task, requirement}
 use Rattle.rules.specs.State.{Run}
 use Rattle.rules.proofs.Each.{Each}
@@ -27,6 +26,7 @@ use Rattle.encoder.specs.Did.{ClausesDid}
 use Rattle.encoder.proofs.Did.{did-as}
 use Rattle.goals.specs.Goals.{trueOf}
 use Rattle.owners.specs.Owners.{serving}
+use Rattle.owners.proofs.Records.{none-fired}
 use Rattle.firing.specs.declared.Indices.{Indices}
 use Rattle.firing.specs.Firing.{judging, indicesIn, Lists}
 use Rattle.firing.proofs.Carried.{lists-one}
@@ -41,23 +41,13 @@ listed-given x g = record { room = x .room; given = rw (x .is) g }
 
 -- ---- the disjuncts that hold now
 
-no-disjuncts : (ks : List Condition) (o : Option ℕ) → isNone o ≡ true → disjunctsIf ks o ≡ []
-unfolding disjunctsIf
-no-disjuncts ks none e = refl
-no-disjuncts ks (some k) e = absurd (false≢true e)
-
--- without a condition none holds
-fired-none : (c : Catalogue) (f : ℕ → Bool) (q : ℕ) → unconditional c q ≡ true → firedNow c f q ≡ []
-unfolding firedNow indices disjunctsOf unconditional upTo filter
-fired-none c f q u = rw (no-disjuncts (c .conditions) (conditionAt c q) u, upTo, filter)
-
 pub none-given : {c : Catalogue} {q : ℕ} {is : Indices} → Lists is [] → GivenIndices c q is
 none-given x = listed-given x Each.nil
 
 module _ (c : Catalogue) (f : ℕ → Bool) (q : ℕ) {is : Indices} where
   -- the code's list is that of those that hold
   pub held-without : unconditional c q ≡ true → Lists is [] → Lists is (firedNow c f q)
-  held-without u x = rw (fired-none c f q u) x
+  held-without u x = rw (none-fired c f q u) x
 
   pub held-given : Lists is (filter (judging c f q true) (indices c q)) → GivenIndices c q is
   held-given x = listed-given (fired-listed c f q x) (fired-given c f q)

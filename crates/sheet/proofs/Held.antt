@@ -12,9 +12,9 @@ use Rattle.decision_tracker.specs.Tracking.{decisions}
 use Rattle.entries.specs.Entries.{waitingIn}
 use Rattle.encoder.specs.declared.Counters.{Counters}
 use Rattle.encoder.specs.Held.{Reading, openingOf, stateOf}
+use Rattle.goals.specs.Goals.{AllGiven}
+use Rattle.goals.proofs.Given.{all-given}
 use Rattle.encoding.specs.Running.{Holds, Reaches}
-use Rattle.commands.specs.Commands.{AllGiven}
-use Rattle.commands.proofs.Drawing.{all-given}
 
 -- between two records no task is left, so any reading will do
 abbrev pub anyReading : Reading

@@ -22,11 +22,12 @@ use Rattle.cache.proofs.Laws.{conditions-held}
 use Rattle.state.specs.declared.Limits.{Limits}
 use Rattle.marked.specs.Marked.{Marked}
 use Rattle.encoder.specs.declared.Counters.{Counters}
-use Rattle.encoder.specs.Held.{Reading, openingOf, stateOf, Good}
+use Rattle.encoder.specs.Held.{Reading, stateOf, Good}
 use Rattle.encoder.specs.Did.{limitsOf}
 use Rattle.reader.specs.declared.Command as code
 use Rattle.reader.specs.declared.Command.the-variants as C
 use Rattle.reader.specs.Reading.{commandOf}
+use Rattle.encoder.proofs.Steps.{nothing-kept}
 use Rattle.encoding.specs.Running.{Holds}
 use Rattle.commands.specs.declared.Outcome.{Outcome}
 use Rattle.commands.specs.declared.Outcome.the-variants.{Carried, Refused}
@@ -57,11 +58,6 @@ unfolding forgetResult
 refuse-forgotten (ok s) f e = absurd (not-one (cc))
 refuse-forgotten (refuse g) f e = e
 
--- what is forgotten is not in the areas
-held-forgets : (c : Catalogue) (l : Limits) (v : Reading) (n : Counters) (st : ℕ → List ℕ) (cl wt : List ℕ) → forget (stateOf c l v n st cl wt) ≡ stateOf c l v n st cl wt
-unfolding stateOf openingOf
-held-forgets c l v n st cl wt = refl
-
 module _ {c : Catalogue} {l : Limits} {s : State} {n : Counters} {st : ℕ → List ℕ} {cl wt : List ℕ} (o : Command) (h : Holds c l s n st cl wt) where
   -- the command, of the areas' state in place of s
   as-held : (v : Reading) (x : Result State) → carryOut (limitsOf l) c o (stateOf c l v n st cl wt) ≡ x → forgetResult (carryOut (limitsOf l) c o s) ≡ forgetResult x
@@ -83,7 +79,7 @@ module _ {c : Catalogue} {l : Limits} {s : State} {n : Counters} {st : ℕ → L
         }
       where
         result : (v : Reading) → forgetResult (carryOut (limitsOf l) c o s) ≡ ok (stateOf c l v m st′ cl′ wt′)
-        result v = as-held v (ok (stateOf c l v m st′ cl′ wt′)) (e v) ∙ (unfold forgetResult in ap ok (held-forgets c l v m st′ cl′ wt′))
+        result v = as-held v (ok (stateOf c l v m st′ cl′ wt′)) (e v) ∙ (unfold forgetResult in ap ok (nothing-kept c l v m st′ cl′ wt′))
 
         read : (f : Ok (carryOut (limitsOf l) c o s)) (v : Reading) → forget (f .state) ≡ stateOf c l v m st′ cl′ wt′
         read f v = forgotten-is (f .state) (stateOf c l v m st′ cl′ wt′) (rw (f .is) at (result v))

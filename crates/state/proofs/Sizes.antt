@@ -35,3 +35,7 @@ zero-stored xs x = elim (decLt x (length xs)) [
   | yes h ↦ getD-set-same xs x 0 0 h
   | no h ↦ List·getD-eq-default (set xs x 0) 0 (rw length-set (omega arith))
 ]
+
+-- an area keeps its length
+pub fits-same : {l : Limits} {a b : ℕ} → b ≡ a → Fits l a → Fits l b
+fits-same e f = rw e f

@@ -39,7 +39,7 @@ pub const TRACKED: usize = 10;
 pub const TRACKED_MARKS: usize = 11;
 // Number of tracked parts of each name.
 pub const TRACKED_COUNTS: usize = 12;
-// Fired disjuncts of each requirement, a bit each.
+// Reserved for the fired disjuncts of each requirement, a bit each: nothing reads or writes it.
 pub const FIRED: usize = 13;
 // Distinct candidates of the goal at hand.
 pub const CANDIDATES: usize = 14;

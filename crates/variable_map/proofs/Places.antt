@@ -1,17 +1,20 @@
 -- Places of origins: a new one's is the number of variables, and no other changes.
 use mathlib.Core.Path.{_≡_, _∙_, ap}
-use mathlib.Core.Bool.{Bool, true, false, _||_, true≢false}
+use mathlib.Core.Bool.{Bool, true, false, not, _||_, true≢false}
 use mathlib.Core.List.{List, [], _∷_, _++_}
 use Prim.Native.Nat.{ℕ, suc, _+_, _<_, _≤_}
 use native.Mathlib.Omega.{arith}
+use lib.Dec.{eqb}
 use lib.ListN.{length}
+use borrow.Author.Tests.{eq-eqb, ne-eqb}
 use Rattle.rules.specs.Lists.{any, indexOf, snoc, unless}
 use Rattle.rules.specs.Variables.{Origin, sameOrigin, known, variableOf, withVariable}
 use Rattle.rules.proofs.Bools.{by-cases}
 use Rattle.rules.proofs.Grows.{ending}
 use Rattle.rules.proofs.ListLaws.{any-snoc}
 use Rattle.rules.proofs.Places.{origin-self, keeps-variable}
-use Rattle.variable_map.specs.Mapping.{place}
+use Rattle.variable_map.specs.declared.Origin as code
+use Rattle.variable_map.specs.Mapping.{originOf, place}
 
 index-end : {A : Type 0} (f : A → Bool) (xs : List A) (x : A) → any f xs ≡ false → f x ≡ true → indexOf f (xs ++ (x ∷ [])) ≡ length xs
 unfolding any indexOf
@@ -60,3 +63,11 @@ module _ (vs : List Origin) (o : Origin) where
   pub with-new : known vs o ≡ false → withVariable o vs ≡ snoc vs o
   unfolding withVariable unless
   with-new e = rw e
+
+-- a place is 0 where there is none
+pub new-is : (vs : List Origin) (w : code.Origin) (o : Origin) (p : ℕ) → originOf w ≡ o → p ≡ place vs (originOf w) → eqb p 0 ≡ not (known vs o)
+new-is vs w o p i e =
+    let q : p ≡ place vs o = e ∙ ap (place vs) i in
+    by-cases (known vs o)
+    (λ h. let z : p ≡ variableOf vs o + 1 = q ∙ place-known vs o h in rw (h, ne-eqb p 0 (λ u. omega arith)))
+    (λ h. let z : p ≡ 0 = q ∙ place-unknown vs o h in rw (h, eq-eqb p 0 z))

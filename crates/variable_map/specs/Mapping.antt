@@ -7,7 +7,8 @@ use lib.Dec.{eqb, ltb}
 use lib.ListN.{getD}
 use Rattle.rules.specs.Lists.{snoc, upTo}
 use Rattle.rules.specs.Catalogue.{root, part, range, union}
-use Rattle.rules.specs.Variables.{Origin, chosen, forbid, one, violation, gate, known, variableOf, withVariable}
+use Rattle.rules.specs.Variables.{Origin, chosen, forbid, one, violation, gate, known, variableOf, withVariable, partOrigin}
+use Rattle.rules.proofs.Each.{Each}
 use Rattle.state.specs.declared.Limits.{Limits}
 use Rattle.state.specs.Changed.{Changed}
 use Rattle.variable_map.specs.declared.Origin as code
@@ -97,3 +98,7 @@ pub record Lacking (l : Limits) (n : ℕ) (o : Origin) (st st′ : ℕ → List 
 pub record Naming (l : Limits) (n : ℕ) (o : Origin) (st st′ : ℕ → List ℕ) (r : Named) : Type 0 where
   pub made : (count x : ℕ) → r ≡ Variable count x → Made l n o count x st st′
   pub lacking : r ≡ Full → Lacking l n o st st′
+
+-- each of these parts has a variable
+pub record AllKnown (vs : List Origin) (ps : List ℕ) : Type 0 where
+  pub known : Each (λ p. known vs (partOrigin p) ≡ true) ps

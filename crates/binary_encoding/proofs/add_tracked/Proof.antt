@@ -1,6 +1,7 @@
 -- `binary_encoding::add_tracked` adds all clauses of a part that joins.
 use borrow.Author.Needs.{needs}
-use Rattle.binary_encoding.proofs.Steps.{fits-same, long-same}
+use Rattle.state.proofs.Sizes.{fits-same}
+use Rattle.encoder.proofs.Steps.{long-same}
 use Rattle.binary_encoding.proofs.Clauses.{tracked-first, tracked-second, tracked-older, tracked-all}
 use Rattle.binary_encoding.proofs.Steps.{some-all}
 use Rattle.binary_encoding.proofs.add_tracked.Statement.{statement}
@@ -31,7 +32,7 @@ returns-2 : tie.Need-returns-2
 returns-2 c = search (needs, tracked-second)
 
 one-clause-requires : tie.Need-one-clause-requires
-one-clause-requires c κs = (fits-same (c .before .before .before .before .before .before .before .before .before .before .before .before .before .before .before .before .before .before .before .before .before .pre .1 .0) (search needs), (some-all (some-all (c .before .before .before .before .before .before .before .before .before .before .before .before .before .before .before .before .before .before .before .before .before .pre .1 .1 .0) (c .before .before .before .before .before .before .before .before .before .before .before .before .before .before .before .new-helper .ensures)) (c .before .before .before .before .before .before .before .part-clauses .ensures), (long-same (c .before .before .before .before .before .before .before .before .before .before .before .before .before .before .before .before .before .before .before .before .before .pre .1 .1 .1 .0) (search needs), (c .before .before .before .before .before .before .before .before .before .before .before .before .before .before .before .before .before .before .before .before .before .pre .1 .1 .1 .1 .1 .0 .2, tracked-older 0 _ _ _ _ (c .before .before .before .before .before .before .before .before .before .before .before .before .before .before .before .new-helper .ensures) (c .before .before .before .before .before .before .before .part-clauses .ensures) (c .before .before .before .before .before .before .before .before .before .before .before .before .before .before .before .before .before .before .before .before .before .pre .1 .1 .0) (c .before .before .before .before .before .before .before .before .before .before .if1 .left) (c .before .before .if2 .left) (c .before .before .before .before .before .before .before .before .before .before .before .before .before .before .before .before .before .before .before .before .before .pre .1 .1 .1 .1 .0 .older)))))
+one-clause-requires c κs = (fits-same (search needs) (c .before .before .before .before .before .before .before .before .before .before .before .before .before .before .before .before .before .before .before .before .before .pre .1 .0), (some-all (some-all (c .before .before .before .before .before .before .before .before .before .before .before .before .before .before .before .before .before .before .before .before .before .pre .1 .1 .0) (c .before .before .before .before .before .before .before .before .before .before .before .before .before .before .before .new-helper .ensures)) (c .before .before .before .before .before .before .before .part-clauses .ensures), (long-same (search needs) (c .before .before .before .before .before .before .before .before .before .before .before .before .before .before .before .before .before .before .before .before .before .pre .1 .1 .1 .0), (c .before .before .before .before .before .before .before .before .before .before .before .before .before .before .before .before .before .before .before .before .before .pre .1 .1 .1 .1 .1 .0 .2, tracked-older 0 _ _ _ _ (c .before .before .before .before .before .before .before .before .before .before .before .before .before .before .before .new-helper .ensures) (c .before .before .before .before .before .before .before .part-clauses .ensures) (c .before .before .before .before .before .before .before .before .before .before .before .before .before .before .before .before .before .before .before .before .before .pre .1 .1 .0) (c .before .before .before .before .before .before .before .before .before .before .if1 .left) (c .before .before .if2 .left) (c .before .before .before .before .before .before .before .before .before .before .before .before .before .before .before .before .before .before .before .before .before .pre .1 .1 .1 .1 .0 .older)))))
 
 same-length-5 : tie.Need-same-length-5
 same-length-5 c = search needs

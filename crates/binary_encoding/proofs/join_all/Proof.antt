@@ -1,6 +1,6 @@
 -- `binary_encoding::join_all` lets all named parts join, as `joinAll` says.
 use borrow.Author.Needs.{needs}
-use Rattle.binary_encoding.proofs.Steps.{fits-same}
+use Rattle.state.proofs.Sizes.{fits-same}
 use Rattle.binary_encoding.proofs.Joined.{names-low, hand-good, hand-can, hand-marked, hand-named, joined-all}
 use Rattle.binary_encoding.proofs.join_all.Statement.{statement}
 use Rattle.binary_encoding.proofs.join_all.Tie as tie
@@ -9,13 +9,13 @@ gather-names-requires : tie.Need-gather-names-requires
 gather-names-requires c κs = ((c .before .before .before .before .before .before .pre .0 .held .laid), (names-low _ _ _ _ ((c .before .before .before .before .before .before .pre .1 .0)), ((c .before .before .before .before .before .before .pre .1 .1 .0), ((c .before .before .before .before .before .before .pre .1 .1 .1 .0 .state .named), (c .before .before .before .before .before .before .pre .1 .1 .1 .1 .1 .1)))))
 
 join-names-requires : tie.Need-join-names-requires
-join-names-requires c κs = ((c .before .before .before .before .before .before .before .before .before .before .before .pre .0 .held .laid), (names-low _ _ _ _ ((c .before .before .before .before .before .before .before .before .before .before .before .pre .1 .0)), (fits-same ((c .before .before .before .before .before .before .before .before .before .before .before .pre .1 .1 .0)) (search needs), (hand-good _ _ _ _ ((c .before .before .before .before .before .before .before .before .before .before .before .pre .1 .1 .1 .0)) ((c .before .before .before .before .gather-names .ensures .others)), ((c .before .before .before .before .before .before .before .before .before .before .before .pre .1 .1 .1 .1 .0), (hand-can ((c .before .before .before .before .gather-names .ensures .others)) ((c .before .before .before .before .before .before .before .before .before .before .before .pre .1 .1 .1 .1 .1 .0)), (c .before .before .before .before .gather-names .ensures .marked)))))))
+join-names-requires c κs = ((c .before .before .before .before .before .before .before .before .before .before .before .pre .0 .held .laid), (names-low _ _ _ _ ((c .before .before .before .before .before .before .before .before .before .before .before .pre .1 .0)), (fits-same (search needs) ((c .before .before .before .before .before .before .before .before .before .before .before .pre .1 .1 .0)), (hand-good _ _ _ _ ((c .before .before .before .before .before .before .before .before .before .before .before .pre .1 .1 .1 .0)) ((c .before .before .before .before .gather-names .ensures .others)), ((c .before .before .before .before .before .before .before .before .before .before .before .pre .1 .1 .1 .1 .0), (hand-can ((c .before .before .before .before .gather-names .ensures .others)) ((c .before .before .before .before .before .before .before .before .before .before .before .pre .1 .1 .1 .1 .1 .0)), (c .before .before .before .before .gather-names .ensures .marked)))))))
 
 release-requires : tie.Need-release-requires
-release-requires c κs = (fits-same ((c .before .before .before .before .before .before .before .before .before .before .before .before .before .before .before .before .before .pre .1 .1 .0)) (search needs), hand-marked _ _ _ _ ((c .before .before .before .before .before .before .before .before .before .before .before .before .before .before .before .before .before .pre .1 .1 .1 .0)) ((c .before .before .before .before .before .before .before .before .before .before .gather-names .ensures .others)) _ ((c .before .before .before .before .before .before .before .before .before .before .gather-names .ensures .marked)) ((c .before .before .before .before .before .join-names .ensures)))
+release-requires c κs = (fits-same (search needs) ((c .before .before .before .before .before .before .before .before .before .before .before .before .before .before .before .before .before .pre .1 .1 .0)), hand-marked _ _ _ _ ((c .before .before .before .before .before .before .before .before .before .before .before .before .before .before .before .before .before .pre .1 .1 .1 .0)) ((c .before .before .before .before .before .before .before .before .before .before .gather-names .ensures .others)) _ ((c .before .before .before .before .before .before .before .before .before .before .gather-names .ensures .marked)) ((c .before .before .before .before .before .join-names .ensures)))
 
 forget-named-requires : tie.Need-forget-named-requires
-forget-named-requires c κs = (fits-same ((c .before .before .before .before .before .before .before .before .before .before .before .before .before .before .before .before .before .before .before .before .before .pre .1 .1 .0)) (search needs), hand-named _ _ _ _ ((c .before .before .before .before .before .before .before .before .before .before .before .before .before .before .before .before .before .before .before .before .before .pre .1 .1 .1 .0)) ((c .before .before .before .before .before .before .before .before .before .before .before .before .before .before .gather-names .ensures .others)) _ ((c .before .before .before .before .before .before .before .before .before .before .before .before .before .before .gather-names .ensures .marked)) ((c .before .before .before .before .before .before .before .before .before .join-names .ensures)) ((c .before .before .before .release .ensures)))
+forget-named-requires c κs = (fits-same (search needs) ((c .before .before .before .before .before .before .before .before .before .before .before .before .before .before .before .before .before .before .before .before .before .pre .1 .1 .0)), hand-named _ _ _ _ ((c .before .before .before .before .before .before .before .before .before .before .before .before .before .before .before .before .before .before .before .before .before .pre .1 .1 .1 .0)) ((c .before .before .before .before .before .before .before .before .before .before .before .before .before .before .gather-names .ensures .others)) _ ((c .before .before .before .before .before .before .before .before .before .before .before .before .before .before .gather-names .ensures .marked)) ((c .before .before .before .before .before .before .before .before .before .join-names .ensures)) ((c .before .before .before .release .ensures)))
 
 same-length : tie.Need-same-length
 same-length c = search needs

@@ -1,7 +1,7 @@
 -- `binary_encoding::name_helpers` gives the first h helpers of a name their variables. The invariant: the first j have theirs.
 use borrow.Author.Needs.{needs}
 use Prim.Native.Nat.{_-_}
-use Rattle.binary_encoding.proofs.Steps.{alone-mapped}
+use Rattle.binary_encoding.proofs.Steps.{any-mapped}
 use Rattle.binary_encoding.proofs.Helpers.{helper-in-tables, Naming, naming-start, naming-step, naming-end}
 use Rattle.binary_encoding.proofs.name_helpers.Statement.{statement}
 use Rattle.binary_encoding.proofs.name_helpers.Tie as tie
@@ -22,7 +22,7 @@ helper-requires : tie.Need-helper-requires Inv-loop μ-loop
 helper-requires c κs = search needs
 
 name-variable-requires : tie.Need-name-variable-requires Inv-loop μ-loop
-name-variable-requires c κs = search (needs, helper-in-tables, alone-mapped)
+name-variable-requires c κs = search (needs, helper-in-tables, any-mapped)
 
 add-j : tie.Need-add-j Inv-loop μ-loop
 add-j c = search needs

@@ -2,7 +2,7 @@
 use borrow.Author.Needs.{needs}
 use Rattle.goals.proofs.Decided.{part-in-tables}
 use Rattle.binary_encoding.proofs.Helpers.{joins-named}
-use Rattle.binary_encoding.proofs.Steps.{alone-mapped, alone-named}
+use Rattle.binary_encoding.proofs.Steps.{any-mapped, any-named}
 use Rattle.binary_encoding.proofs.name_join.Statement.{statement}
 use Rattle.binary_encoding.proofs.name_join.Tie as tie
 
@@ -10,10 +10,10 @@ part-requires : tie.Need-part-requires
 part-requires c κs = search needs
 
 name-variable-requires : tie.Need-name-variable-requires
-name-variable-requires c κs = (search needs, (search (needs, alone-mapped), search (needs, part-in-tables)))
+name-variable-requires c κs = (search needs, (search (needs, any-mapped), search (needs, part-in-tables)))
 
 name-helpers-requires : tie.Need-name-helpers-requires
-name-helpers-requires c κs = (search needs, (alone-named _ (c .before .before .before .before .before .before .before .pre .1 .0) (c .before .before .before .name-variable .ensures), search needs))
+name-helpers-requires c κs = (search needs, (any-named _ (c .before .before .before .before .before .before .before .pre .1 .0) (c .before .before .before .name-variable .ensures), search needs))
 
 same-length : tie.Need-same-length
 same-length c = search needs

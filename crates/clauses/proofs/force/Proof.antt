@@ -1,5 +1,6 @@
 use borrow.Author.Needs.{needs}
-use Rattle.clauses.proofs.Setting.{force-free, force-sets, force-false, force-true}
+use Rattle.decision_tracker.proofs.Laws.{literal-free}
+use Rattle.clauses.proofs.Setting.{force-sets, force-false, force-true}
 use Rattle.clauses.proofs.force.Statement.{statement}
 use Rattle.clauses.proofs.force.Tie as tie
 
@@ -19,7 +20,7 @@ cast-t15 : tie.Need-cast-t15
 cast-t15 c = search needs
 
 decide-requires : tie.Need-decide-requires
-decide-requires c κs = search (needs, force-free)
+decide-requires c κs = search (needs, literal-free)
 
 enum-told-2 : tie.Need-enum-told-2
 enum-told-2 c = search needs

@@ -1,6 +1,7 @@
 -- `commands::decide_literal` decides a literal that is undecided, leaves one that is true, and refuses one that is false.
 use borrow.Author.Needs.{needs}
-use Rattle.commands.proofs.Deciding.{decide-free, decided-again, decided-against, decided-new}
+use Rattle.decision_tracker.proofs.Laws.{literal-free}
+use Rattle.commands.proofs.Deciding.{decided-again, decided-against, decided-new}
 use Rattle.commands.proofs.decide_literal.Statement.{statement}
 use Rattle.commands.proofs.decide_literal.Tie as tie
 
@@ -23,7 +24,7 @@ positive-requires : tie.Need-positive-requires
 positive-requires c κs = search needs
 
 decide-requires : tie.Need-decide-requires
-decide-requires c κs = search (needs, decide-free)
+decide-requires c κs = search (needs, literal-free)
 
 same-length : tie.Need-same-length
 same-length c = search needs

@@ -1,7 +1,8 @@
 -- `constraints::add_violation` adds the clauses of a violation that is new, and the owner's.
 use borrow.Author.Needs.{needs}
+use Rattle.state.proofs.Sizes.{fits-same}
+use Rattle.encoder.proofs.Steps.{long-same, good-later}
 use Rattle.clauses.proofs.Adding.{good-can-add}
-use Rattle.parts.proofs.Steps.{fits-same, long-same, good-later}
 use Rattle.constraints.proofs.Steps.{looked-is, looked-below, non-matching-known, violation-new, violation-old}
 use Rattle.constraints.proofs.Owners.{owner-fits, violation-fits}
 use Rattle.constraints.proofs.add_violation.Statement.{statement}

@@ -1,6 +1,7 @@
 -- `constraints::constrain_few` adds a clause for each non-matching part, once these have their variables.
 use borrow.Author.Needs.{needs}
-use Rattle.parts.proofs.Steps.{fits-same, good-alone, good-after}
+use Rattle.state.proofs.Sizes.{fits-same}
+use Rattle.encoder.proofs.Steps.{good-alone, good-after}
 use Rattle.parts.proofs.Names.{named-known}
 use Rattle.constraints.proofs.Steps.{knows-after, few-added}
 use Rattle.constraints.proofs.Owners.{owner-fits}

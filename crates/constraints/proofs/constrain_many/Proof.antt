@@ -1,8 +1,10 @@
 -- `constraints::constrain_many` names the violation and the non-matching parts, and adds the clauses unless it is full.
 use borrow.Author.Needs.{needs}
-use Rattle.parts.proofs.Steps.{fits-same, good-alone, alone-after, good-after}
+use Rattle.state.proofs.Sizes.{fits-same}
+use Rattle.variable_map.proofs.Places.{new-is}
+use Rattle.encoder.proofs.Steps.{good-alone, alone-after, good-after}
 use Rattle.parts.proofs.Names.{named-known}
-use Rattle.constraints.proofs.Steps.{knows-after, named-knows, known-non-matching, new-is, many-full, many-added}
+use Rattle.constraints.proofs.Steps.{knows-after, named-knows, known-non-matching, many-full, many-added}
 use Rattle.constraints.proofs.Owners.{violation-fits}
 use Rattle.constraints.proofs.constrain_many.Statement.{statement}
 use Rattle.constraints.proofs.constrain_many.Tie as tie

@@ -1,7 +1,8 @@
 -- `constraints::serve_constraint` serves a constraint's task.
 use borrow.Author.Needs.{needs}
+use Rattle.state.proofs.Sizes.{fits-same}
+use Rattle.encoder.proofs.Steps.{good-alone, good-after}
 use Rattle.owners.proofs.Records.{constrained-owner, constrained-range}
-use Rattle.parts.proofs.Steps.{fits-same, good-alone, good-after}
 use Rattle.constraints.proofs.Serving.{few-served, many-served}
 use Rattle.constraints.proofs.Steps.{named-knows}
 use Rattle.constraints.proofs.Owners.{owner-fits, owner-low}

@@ -1,6 +1,6 @@
 -- `encoding::begin_run` begins a run.
 use borrow.Author.Needs.{needs}
-use Rattle.encoding.proofs.Begin.{some-emptied, added-after, alone-begun, drawn-few, all-given, begins-all}
+use Rattle.encoding.proofs.Begin.{some-emptied, added-after, alone-begun, drawn-few, drawn-given, begins-all}
 use Rattle.encoding.proofs.begin_run.Statement.{statement}
 use Rattle.encoding.proofs.begin_run.Tie as tie
 
@@ -14,7 +14,7 @@ forget-added-requires : tie.Need-forget-added-requires
 forget-added-requires c κs = (search needs, added-after (rw ((c .before .before .before .before .emptied .ensures)) (some-emptied (c .before .before .before .before .before .before .before .before .before .before .before .before .pre .1 .1 .0 .holds .good))) (c .before .before .before .open-added .ensures))
 
 fire-drawn-requires : tie.Need-fire-drawn-requires
-fire-drawn-requires c κs = let p = (c .before .before .before .before .before .before .before .before .before .before .before .before .before .before .before .before .pre) in (p .0, (search needs, (alone-begun (p .1 .1 .0 .holds .good) (c .before .before .before .before .before .before .before .before .emptied .ensures) (c .before .before .before .before .before .before .before .open-added .ensures) (c .before .before .before .forget-added .ensures), ((record { waiting = p .1 .1 .1 .0 .waiting; long = p .1 .1 .1 .0 .entries }, drawn-few (p .1 .1 .0)), all-given (p .1 .1 .0)))))
+fire-drawn-requires c κs = let p = (c .before .before .before .before .before .before .before .before .before .before .before .before .before .before .before .before .pre) in (p .0, (search needs, (alone-begun (p .1 .1 .0 .holds .good) (c .before .before .before .before .before .before .before .before .emptied .ensures) (c .before .before .before .before .before .before .before .open-added .ensures) (c .before .before .before .forget-added .ensures), ((record { waiting = p .1 .1 .1 .0 .waiting; long = p .1 .1 .1 .0 .entries }, drawn-few (p .1 .1 .0)), drawn-given (p .1 .1 .0)))))
 
 same-length : tie.Need-same-length
 same-length c = search needs

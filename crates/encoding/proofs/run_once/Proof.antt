@@ -2,8 +2,8 @@
 use borrow.Author.Needs.{needs}
 use mathlib.Core.Path.{refl, _∙_}
 use native.Mathlib.Omega.{arith}
-use Rattle.state.proofs.Sizes.{length-line}
-use Rattle.owners.proofs.Steps.{good-waiting, fits-same}
+use Rattle.state.proofs.Sizes.{length-line, fits-same}
+use Rattle.encoder.proofs.Steps.{good-waiting}
 use Rattle.encoding.proofs.Ran.{long-alone, line-begun, line-over, can-join, joined-good, join-over, can-link, ran}
 use Rattle.encoding.proofs.run_once.Statement.{statement}
 use Rattle.encoding.proofs.run_once.Tie as tie

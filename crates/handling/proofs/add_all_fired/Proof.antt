@@ -2,9 +2,10 @@
 use borrow.Author.Needs.{needs}
 use Prim.Native.Nat.{_-_}
 use Rattle.cache.specs.Areas.{catalogue}
+use Rattle.state.proofs.Sizes.{fits-same}
 use Rattle.encoder.specs.Held.{runOf}
+use Rattle.encoder.proofs.Steps.{long-same}
 use Rattle.firing.specs.Firing.{indicesIn}
-use Rattle.parts.proofs.Steps.{fits-same, long-same}
 use Rattle.naming.proofs.Disjuncts.{index-low}
 use Rattle.handling.proofs.Steps.{Firing, firing-start, firing-known, firing-step, firing-end, firing-full}
 use Rattle.handling.proofs.add_all_fired.Statement.{statement}

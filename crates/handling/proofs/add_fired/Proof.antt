@@ -1,8 +1,9 @@
 -- `handling::add_fired` adds the requires clause of a fired disjunct, if there is room for its literals.
 use borrow.Author.Needs.{needs}
 use native.Mathlib.Omega.{arith}
+use Rattle.state.proofs.Sizes.{fits-same}
+use Rattle.encoder.proofs.Steps.{good-after}
 use Rattle.clauses.proofs.Adding.{good-can-add}
-use Rattle.parts.proofs.Steps.{fits-same, good-after}
 use Rattle.handling.proofs.Pushing.{push-good, push-did}
 use Rattle.handling.proofs.Owning.{by-form}
 use Rattle.handling.proofs.Adding.{fired-named, fired-added, fired-over}

@@ -1,9 +1,11 @@
 -- `handling::add_through_gate` names the gate, adds its clause if it is new, and then the one that opens it, unless it is full.
 use borrow.Author.Needs.{needs}
+use Rattle.state.proofs.Sizes.{fits-same}
+use Rattle.variable_map.proofs.Places.{new-is}
+use Rattle.encoder.proofs.Steps.{long-same, good-after, good-later}
 use Rattle.clauses.proofs.Adding.{good-can-add}
-use Rattle.parts.proofs.Steps.{fits-same, long-same, good-after, good-later}
 use Rattle.handling.proofs.Owning.{found, gate-origin, gate-in-tables}
-use Rattle.handling.proofs.Adding.{new-is, gate-known, through-full, through-added}
+use Rattle.handling.proofs.Adding.{gate-known, through-full, through-added}
 use Rattle.handling.proofs.Steps.{hand-after, named-after}
 use Rattle.handling.proofs.add_through_gate.Statement.{statement}
 use Rattle.handling.proofs.add_through_gate.Tie as tie

@@ -3,7 +3,7 @@ use borrow.Author.Needs.{needs}
 use Prim.Native.Nat.{_-_}
 use Rattle.rules.specs.Conditions.{disjunctAt}
 use Rattle.cache.specs.Areas.{catalogue}
-use Rattle.handling.proofs.Required.{condition-given}
+use Rattle.firing.proofs.Required.{condition-given}
 use Rattle.handling.proofs.Literals.{Collecting, disjunct-there, collect-start, collect-known, collect-step, collect-end}
 use Rattle.handling.proofs.disjunct_literals.Statement.{statement}
 use Rattle.handling.proofs.disjunct_literals.Tie as tie

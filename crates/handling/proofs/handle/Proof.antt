@@ -1,7 +1,8 @@
 -- `handling::handle` names the owner and the candidates and adds the clauses, unless it is full.
 use borrow.Author.Needs.{needs}
+use Rattle.state.proofs.Sizes.{fits-same}
+use Rattle.encoder.proofs.Steps.{good-alone, alone-after}
 use Rattle.owners.proofs.Records.{required-owner}
-use Rattle.parts.proofs.Steps.{fits-same, good-alone, alone-after}
 use Rattle.handling.proofs.Owning.{owner-origin, owner-in-tables, without, with-one}
 use Rattle.handling.proofs.Steps.{hand-after, handle-good, handle-named, handle-hand, handled-full, handled-unconditional, handled-conditional}
 use Rattle.handling.proofs.handle.Statement.{statement}

@@ -1,6 +1,7 @@
 -- `handling::handle_conditional` names what the fired disjuncts need and adds their clauses, unless it is full.
 use borrow.Author.Needs.{needs}
-use Rattle.parts.proofs.Steps.{fits-same, good-alone, good-after, state-then-clauses}
+use Rattle.state.proofs.Sizes.{fits-same}
+use Rattle.encoder.proofs.Steps.{good-alone, state-then-clauses, good-after}
 use Rattle.handling.proofs.Steps.{hand-after, named-after, fired-after, conditional-full}
 use Rattle.handling.proofs.handle_conditional.Statement.{statement}
 use Rattle.handling.proofs.handle_conditional.Tie as tie

@@ -1,7 +1,7 @@
 -- `handling::serve_requirement` serves a requirement's task.
 use borrow.Author.Needs.{needs}
+use Rattle.state.proofs.Sizes.{fits-same}
 use Rattle.firing.proofs.Required.{goal-given}
-use Rattle.parts.proofs.Steps.{fits-same}
 use Rattle.handling.proofs.Steps.{hand-later}
 use Rattle.goals.proofs.Released.{good-hand}
 use Rattle.handling.proofs.Serving.{gathered, requirement-served}

@@ -1,6 +1,7 @@
 -- `names::add_clauses` adds the clauses of a name whose parts have their variables.
 use borrow.Author.Needs.{needs}
-use Rattle.parts.proofs.Steps.{fits-same, long-same, good-later, known-later}
+use Rattle.state.proofs.Sizes.{fits-same}
+use Rattle.encoder.proofs.Steps.{long-same, good-later, known-later}
 use Rattle.names.proofs.Serving.{excluded-known, clauses-added}
 use Rattle.names.proofs.add_clauses.Statement.{statement}
 use Rattle.names.proofs.add_clauses.Tie as tie

@@ -1,6 +1,6 @@
 -- `names::name_locked`: where a part is locked, it and the others get their variables.
 use borrow.Author.Needs.{needs}
-use Rattle.parts.proofs.Steps.{alone-after}
+use Rattle.encoder.proofs.Steps.{alone-after}
 use Rattle.names.proofs.Locked.{locked-named, locked-none}
 use Rattle.names.proofs.name_locked.Statement.{statement}
 use Rattle.names.proofs.name_locked.Tie as tie

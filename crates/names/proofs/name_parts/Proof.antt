@@ -1,6 +1,7 @@
 -- `names::name_parts`: the parts that a name's clauses are for get their variables.
 use borrow.Author.Needs.{needs}
-use Rattle.parts.proofs.Steps.{fits-same, alone-after}
+use Rattle.state.proofs.Sizes.{fits-same}
+use Rattle.encoder.proofs.Steps.{alone-after}
 use Rattle.names.proofs.Serving.{parts-named}
 use Rattle.names.proofs.name_parts.Statement.{statement}
 use Rattle.names.proofs.name_parts.Tie as tie

@@ -1,6 +1,7 @@
 -- `names::serve_name` serves a name's task.
 use borrow.Author.Needs.{needs}
-use Rattle.parts.proofs.Steps.{fits-same, good-alone, good-after}
+use Rattle.state.proofs.Sizes.{fits-same}
+use Rattle.encoder.proofs.Steps.{good-alone, good-after}
 use Rattle.names.proofs.Serving.{name-served}
 use Rattle.names.proofs.serve_name.Statement.{statement}
 use Rattle.names.proofs.serve_name.Tie as tie

@@ -5,10 +5,10 @@ use Rattle.rules.specs.Lists.{fold}
 use Rattle.rules.specs.Candidates.{sorted}
 use Rattle.cache.specs.Areas.{catalogue}
 use Rattle.state.specs.Layout.{held}
+use Rattle.state.proofs.Sizes.{fits-same}
 use Rattle.marked.specs.Marked.{listed}
 use Rattle.parts.specs.declared.Naming.the-variants.{Candidate}
 use Rattle.parts.specs.Parts.{namingOf}
-use Rattle.parts.proofs.Steps.{fits-same}
 use Rattle.naming.proofs.Loops.{Passed, pass-start, hand-step, hand-end}
 use Rattle.naming.proofs.all_candidates.Statement.{statement}
 use Rattle.naming.proofs.all_candidates.Tie as tie

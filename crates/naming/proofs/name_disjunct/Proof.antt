@@ -3,7 +3,7 @@ use borrow.Author.Needs.{needs}
 use Prim.Native.Nat.{_-_}
 use Rattle.conditions.specs.Sizes.{rangesOf}
 use Rattle.cache.specs.Areas.{catalogue}
-use Rattle.parts.proofs.Steps.{fits-same}
+use Rattle.state.proofs.Sizes.{fits-same}
 use Rattle.naming.specs.Naming.{nameRange}
 use Rattle.naming.proofs.Loops.{Passed, pass-start}
 use Rattle.naming.proofs.Disjuncts.{ranges-step, its-condition, index-given, its-range, disjunct-end}

@@ -4,8 +4,8 @@ use Prim.Native.Nat.{_-_}
 use Rattle.rules.specs.Lists.{fold}
 use Rattle.rules.specs.Conditions.{disjunctAt}
 use Rattle.cache.specs.Areas.{catalogue}
+use Rattle.state.proofs.Sizes.{fits-same}
 use Rattle.firing.specs.Firing.{indicesIn}
-use Rattle.parts.proofs.Steps.{fits-same}
 use Rattle.naming.specs.Naming.{nameRange}
 use Rattle.naming.proofs.Loops.{Passed, pass-start}
 use Rattle.naming.proofs.Disjuncts.{index-low, indices-step, indices-end}

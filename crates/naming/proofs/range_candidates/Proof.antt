@@ -1,6 +1,6 @@
 -- `naming::range_candidates`: the favoured candidates of a range are named, then the others.
 use borrow.Author.Needs.{needs}
-use Rattle.parts.proofs.Steps.{alone-after}
+use Rattle.encoder.proofs.Steps.{alone-after}
 use Rattle.naming.proofs.Ranges.{candidates-named}
 use Rattle.naming.proofs.range_candidates.Statement.{statement}
 use Rattle.naming.proofs.range_candidates.Tie as tie

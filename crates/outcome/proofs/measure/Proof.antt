@@ -1,6 +1,7 @@
 -- `outcome::measure` lends the first none of the listing area, so nothing is written.
 use borrow.Author.Needs.{needs}
-use Rattle.outcome.proofs.Ending.{waits-given, lent-none}
+use Rattle.sheet.proofs.Held.{reaches-given}
+use Rattle.outcome.proofs.Ending.{lent-none}
 use Rattle.outcome.proofs.measure.Statement.{statement}
 use Rattle.outcome.proofs.measure.Tie as tie
 
@@ -11,7 +12,7 @@ slice-aggregate-write : tie.Need-slice-aggregate-write
 slice-aggregate-write c = search needs
 
 write-requires : tie.Need-write-requires
-write-requires c κs = ((c .before .before .before .before .before .before .before .before .pre .0 .kept), ((c .before .before .before .before .before .before .before .before .pre .0 .formed), ((c .before .before .before .before .before .before .before .before .pre .1 .0 .0), ((c .before .before .before .before .before .before .before .before .pre .1 .0 .1), ((c .before .before .before .before .before .before .before .before .pre .1 .1 .0), ((c .before .before .before .before .before .before .before .before .pre .1 .1 .1 .holds .good), waits-given (c .before .before .before .before .before .before .before .before .pre .1 .1 .1)))))))
+write-requires c κs = ((c .before .before .before .before .before .before .before .before .pre .0 .kept), ((c .before .before .before .before .before .before .before .before .pre .0 .formed), ((c .before .before .before .before .before .before .before .before .pre .1 .0 .0), ((c .before .before .before .before .before .before .before .before .pre .1 .0 .1), ((c .before .before .before .before .before .before .before .before .pre .1 .1 .0), ((c .before .before .before .before .before .before .before .before .pre .1 .1 .1 .holds .good), reaches-given (c .before .before .before .before .before .before .before .before .pre .1 .1 .1)))))))
 
 same-length : tie.Need-same-length
 same-length c = search needs

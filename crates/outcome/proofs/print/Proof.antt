@@ -1,6 +1,7 @@
 -- `outcome::print` measures the listing and writes it if it fits.
 use borrow.Author.Needs.{needs}
-use Rattle.outcome.proofs.Ending.{waits-given, no-room, printed-out}
+use Rattle.sheet.proofs.Held.{reaches-given}
+use Rattle.outcome.proofs.Ending.{no-room, printed-out}
 use Rattle.outcome.proofs.print.Statement.{statement}
 use Rattle.outcome.proofs.print.Tie as tie
 
@@ -14,7 +15,7 @@ returns : tie.Need-returns
 returns c = rw (c .before .before .before .measure .ensures .1) (no-room (c .before .before .before .before .before .before .before .before .before .before .before .before .pre .1 .0 .2) (c .before .before .before .measure .ensures .0) (c .if1 .taken))
 
 write-requires : tie.Need-write-requires
-write-requires c κs = ((c .before .before .before .before .before .before .before .before .before .before .before .before .before .pre .0 .kept), ((c .before .before .before .before .before .before .before .before .before .before .before .before .before .pre .0 .formed), ((c .before .before .before .before .before .before .before .before .before .before .before .before .before .pre .1 .0 .0), ((c .before .before .before .before .before .before .before .before .before .before .before .before .before .pre .1 .0 .1), ((c .before .before .before .before .before .before .before .before .before .before .before .before .before .pre .1 .1 .0), ((c .before .before .before .before .before .before .before .before .before .before .before .before .before .pre .1 .1 .1 .holds .good), waits-given (c .before .before .before .before .before .before .before .before .before .before .before .before .before .pre .1 .1 .1)))))))
+write-requires c κs = ((c .before .before .before .before .before .before .before .before .before .before .before .before .before .pre .0 .kept), ((c .before .before .before .before .before .before .before .before .before .before .before .before .before .pre .0 .formed), ((c .before .before .before .before .before .before .before .before .before .before .before .before .before .pre .1 .0 .0), ((c .before .before .before .before .before .before .before .before .before .before .before .before .before .pre .1 .0 .1), ((c .before .before .before .before .before .before .before .before .before .before .before .before .before .pre .1 .1 .0), ((c .before .before .before .before .before .before .before .before .before .before .before .before .before .pre .1 .1 .1 .holds .good), reaches-given (c .before .before .before .before .before .before .before .before .before .before .before .before .before .pre .1 .1 .1)))))))
 
 same-length-2 : tie.Need-same-length-2
 same-length-2 c = search needs

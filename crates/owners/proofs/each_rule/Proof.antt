@@ -5,8 +5,8 @@ use Prim.Native.Nat.{_-_}
 use lib.ListN.{length}
 use Rattle.cache.specs.Areas.{catalogue}
 use Rattle.state.specs.Layout.{held}
+use Rattle.state.proofs.Sizes.{fits-same}
 use Rattle.marked.specs.Marked.{ownerOf}
-use Rattle.owners.proofs.Steps.{fits-same}
 use Rattle.owners.proofs.Rules.{record-counted, Ruled, ruled-start, ruled-step, ruled-end}
 use Rattle.owners.proofs.each_rule.Statement.{statement}
 use Rattle.owners.proofs.each_rule.Tie as tie

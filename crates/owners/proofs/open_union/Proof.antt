@@ -5,8 +5,8 @@ use Prim.Native.Nat.{_-_}
 use lib.ListN.{length}
 use Rattle.state.specs.Layout.{held}
 use Rattle.owners.proofs.Names.{Opened, opened-start, union-range, opened-step, opened-end}
-use Rattle.owners.proofs.Steps.{fits-same}
 use native.Mathlib.Omega.{arith}
+use Rattle.state.proofs.Sizes.{fits-same}
 use Rattle.owners.proofs.open_union.Statement.{statement}
 use Rattle.owners.proofs.open_union.Tie as tie
 

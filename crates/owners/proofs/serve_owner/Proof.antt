@@ -1,12 +1,12 @@
 -- `owners::serve_owner` serves the root or a known part, or excludes a part with unknown dependencies.
 use borrow.Author.Needs.{needs}
-use Rattle.owners.proofs.Steps.{alone}
+use Rattle.encoder.proofs.Steps.{good-alone}
 use Rattle.owners.proofs.Serving.{root-known, part-given, part-unknown, part-known, served-known, served-unknown}
 use Rattle.owners.proofs.serve_owner.Statement.{statement}
 use Rattle.owners.proofs.serve_owner.Tie as tie
 
 serve-known-requires : tie.Need-serve-known-requires
-serve-known-requires c κs = ((c .before .before .before .before .before .before .before .pre .0), ((c .before .before .before .before .before .before .before .pre .1 .0), ((c .before .before .before .before .before .before .before .pre .1 .1 .0), (alone (c .before .before .before .before .before .before .before .pre .1 .1 .1 .0), ((c .before .before .before .before .before .before .before .pre .1 .1 .1 .1 .1 .1 .0), root-known _ (c .before .if1 .taken))))))
+serve-known-requires c κs = ((c .before .before .before .before .before .before .before .pre .0), ((c .before .before .before .before .before .before .before .pre .1 .0), ((c .before .before .before .before .before .before .before .pre .1 .1 .0), (good-alone (c .before .before .before .before .before .before .before .pre .1 .1 .1 .0), ((c .before .before .before .before .before .before .before .pre .1 .1 .1 .1 .1 .1 .0), root-known _ (c .before .if1 .taken))))))
 
 same-length : tie.Need-same-length
 same-length c = search needs
@@ -30,7 +30,7 @@ returns-2 : tie.Need-returns-2
 returns-2 c = served-unknown _ _ _ _ (c .before .before .before .before .before .before .before .before .before .before .before .before .before .before .before .pre .1 .1 .1 .1 .1 .1 .0) (c .before .before .before .before .before .before .before .before .before .if1 .left) _ (c .before .before .before .before .serve-unknown .ensures)
 
 serve-known-requires-2 : tie.Need-serve-known-requires-2
-serve-known-requires-2 c κs = ((c .before .before .before .before .before .before .before .before .before .pre .0), ((c .before .before .before .before .before .before .before .before .before .pre .1 .0), ((c .before .before .before .before .before .before .before .before .before .pre .1 .1 .0), (alone (c .before .before .before .before .before .before .before .before .before .pre .1 .1 .1 .0), ((c .before .before .before .before .before .before .before .before .before .pre .1 .1 .1 .1 .1 .1 .0), part-known _ _ _ _ (c .before .before .before .before .before .before .before .before .before .pre .1 .1 .1 .1 .1 .1 .0) (c .before .before .before .if1 .left) (c .before .before .unknown .ensures) (c .before .if2 .left))))))
+serve-known-requires-2 c κs = ((c .before .before .before .before .before .before .before .before .before .pre .0), ((c .before .before .before .before .before .before .before .before .before .pre .1 .0), ((c .before .before .before .before .before .before .before .before .before .pre .1 .1 .0), (good-alone (c .before .before .before .before .before .before .before .before .before .pre .1 .1 .1 .0), ((c .before .before .before .before .before .before .before .before .before .pre .1 .1 .1 .1 .1 .1 .0), part-known _ _ _ _ (c .before .before .before .before .before .before .before .before .before .pre .1 .1 .1 .1 .1 .1 .0) (c .before .before .before .if1 .left) (c .before .before .unknown .ensures) (c .before .if2 .left))))))
 
 same-length-4 : tie.Need-same-length-4
 same-length-4 c = search needs

@@ -1,6 +1,6 @@
 -- `owners::serve_unknown` gives a part its variable and excludes it.
 use borrow.Author.Needs.{needs}
-use Rattle.owners.proofs.Steps.{fits-same}
+use Rattle.state.proofs.Sizes.{fits-same}
 use Rattle.owners.proofs.Serving.{part-in-tables, named-good, named-mapped, can-add, unknown-full, unknown-excluded}
 use Rattle.owners.proofs.serve_unknown.Statement.{statement}
 use Rattle.owners.proofs.serve_unknown.Tie as tie

@@ -1,7 +1,7 @@
 -- `parts::name_candidate`: the same of a candidate, which is also opened if it is ready.
 use borrow.Author.Needs.{needs}
+use Rattle.encoder.proofs.Steps.{alone-after}
 use Rattle.parts.proofs.Names.{candidate-named}
-use Rattle.parts.proofs.Steps.{alone-after}
 use Rattle.parts.proofs.name_candidate.Statement.{statement}
 use Rattle.parts.proofs.name_candidate.Tie as tie
 

@@ -1,7 +1,7 @@
 -- `serving::serve_task` serves a task by its kind.
 use borrow.Author.Needs.{needs}
 use mathlib.Core.List.{[]}
-use Rattle.owners.proofs.Steps.{good-waiting, alone}
+use Rattle.encoder.proofs.Steps.{good-waiting, good-alone}
 use Rattle.serving.specs.Serving.{servedAs}
 use Rattle.serving.proofs.Tasks.{long-most, long-entries, given-as, condition-below, requirement-below, constraint-below, drawn-first, as-kind}
 use Rattle.serving.proofs.serve_task.Statement.{statement}
@@ -30,7 +30,7 @@ enum-known-q c = search needs
 serve-condition-requires : tie.Need-serve-condition-requires
 serve-condition-requires c κs = let p = (c .before .before .before .before .before .before .before .before .before .before .before .before .pre) in
     let g = given-as _ (p .1 .1 .1 .1 .1 .0) (c .before .before .before .before .before .task-of .ensures) (c .before .before .before .q .given .1) in
-    (p .0, (p .1 .0, (alone (p .1 .1 .0), (long-entries (p .1 .1 .1 .0), (condition-below _ _ _ _ g, g .given .1, p .1 .1 .1 .1 .1 .1 .2)))))
+    (p .0, (p .1 .0, (good-alone (p .1 .1 .0), (long-entries (p .1 .1 .1 .0), (condition-below _ _ _ _ g, g .given .1, p .1 .1 .1 .1 .1 .1 .2)))))
 
 enum-known-q-2 : tie.Need-enum-known-q-2
 enum-known-q-2 c = search needs

@@ -1,5 +1,5 @@
 -- For callers too: steps of the state area, and of it and the clauses', one after another; what they keep.
-use mathlib.Core.Path.{_≡_, sym, _∙_, ap, subst}
+use mathlib.Core.Path.{_≡_, refl, sym, _∙_, ap, subst}
 use mathlib.Core.Bool.{true, false, true≢false}
 use mathlib.Core.List.{List, []}
 use Prim.Native.Nat.{ℕ}
@@ -10,26 +10,22 @@ use Rattle.rules.proofs.Bools.{by-cases}
 use Rattle.rules.proofs.Each.{each-imp}
 use Rattle.rules.proofs.Grows.{Prefix}
 use Rattle.rules.proofs.Places.{keeps-variable}
+use Rattle.rules.proofs.Forgotten.{forget}
 use Rattle.state.specs.declared.Limits.{Limits}
-use Rattle.state.specs.Layout.{Fits}
 use Rattle.variable_map.specs.Mapping.{variables}
 use Rattle.encoder.specs.declared.Counters.{Counters}
-use Rattle.encoder.specs.Held.{Reading, stateOf, Good, LongEnough}
+use Rattle.encoder.specs.Held.{Reading, openingOf, stateOf, Good, GoodAlone, KnownUnlessFull, LongEnough}
 use Rattle.encoder.specs.Did.{Widens, Did, StateDid, ClausesDid}
 use Rattle.encoder.proofs.Did.{did-as, did-then, did-idle, widens-same}
-use Rattle.parts.specs.Parts.{AllKnown, GoodAlone}
 
 -- the waiting area has no part in it
-pub good-any : {c : Catalogue} {l : Limits} {n : Counters} {st : ℕ → List ℕ} {cl wt : List ℕ} (wt′ : List ℕ) → Good c l n st cl wt → Good c l n st cl wt′
-good-any wt′ g = record { state = g .state; clauses = g .clauses; entries = g .entries }
+pub good-waiting : {c : Catalogue} {l : Limits} {n : Counters} {st : ℕ → List ℕ} {cl wt : List ℕ} (wt′ : List ℕ) → Good c l n st cl wt → Good c l n st cl wt′
+good-waiting wt′ g = record { state = g .state; clauses = g .clauses; entries = g .entries }
 
 pub good-alone : {c : Catalogue} {l : Limits} {n : Counters} {st : ℕ → List ℕ} {cl wt : List ℕ} → Good c l n st cl wt → GoodAlone c l n st
-good-alone {cl = cl} g = record { clauses = cl; good = good-any [] g }
+good-alone {cl = cl} g = record { clauses = cl; good = good-waiting [] g }
 
--- an area keeps its length
-pub fits-same : {l : Limits} {a b : ℕ} → b ≡ a → Fits l a → Fits l b
-fits-same e f = rw e f
-
+-- the areas keep their lengths
 pub long-same : {l : Limits} {a b k : ℕ} → b ≡ a → LongEnough l a k → LongEnough l b k
 long-same e f = rw e f
 
@@ -106,14 +102,28 @@ module _ {c : Catalogue} {l : Limits} {F : Reading → State → State} {n n′ 
   still-known o k = keeps-variable prefix o k .0
 
 module _ {c : Catalogue} {l : Limits} {F : Reading → State → State} {n n′ : Counters} {st st′ : ℕ → List ℕ} {ps : List ℕ} where
-  did-known : {cl wt cl′ wt′ : List ℕ} → Did c l F n st cl wt n′ st′ cl′ wt′ → Good c l n st cl wt → AllKnown (n .full) (variables (n .variables) st) ps
-      → AllKnown (n′ .full) (variables (n′ .variables) st′) ps
-  did-known d g a = record { known = λ e. each-imp (λ p k. still-known d g e (partOrigin p) k) (a .known (not-full d g e)) }
+  did-known : {cl wt cl′ wt′ : List ℕ} → Did c l F n st cl wt n′ st′ cl′ wt′ → Good c l n st cl wt → KnownUnlessFull (n .full) (variables (n .variables) st) ps
+      → KnownUnlessFull (n′ .full) (variables (n′ .variables) st′) ps
+  did-known d g a = record { known = λ e. record { known = each-imp (λ p k. still-known d g e (partOrigin p) k) (a .known (not-full d g e) .known) } }
 
-  pub known-after : StateDid c l F n st n′ st′ → GoodAlone c l n st → AllKnown (n .full) (variables (n .variables) st) ps
-      → AllKnown (n′ .full) (variables (n′ .variables) st′) ps
+  pub known-after : StateDid c l F n st n′ st′ → GoodAlone c l n st → KnownUnlessFull (n .full) (variables (n .variables) st) ps
+      → KnownUnlessFull (n′ .full) (variables (n′ .variables) st′) ps
   known-after d g a = did-known (d .is (g .clauses) []) (g .good) a
 
-  pub known-later : {cl cl′ : List ℕ} → ClausesDid c l F n st cl n′ st′ cl′ → Good c l n st cl [] → AllKnown (n .full) (variables (n .variables) st) ps
-      → AllKnown (n′ .full) (variables (n′ .variables) st′) ps
+  pub known-later : {cl cl′ : List ℕ} → ClausesDid c l F n st cl n′ st′ cl′ → Good c l n st cl [] → KnownUnlessFull (n .full) (variables (n .variables) st) ps
+      → KnownUnlessFull (n′ .full) (variables (n′ .variables) st′) ps
   known-later d g a = did-known (d .is []) g a
+
+-- ---- what was handled and fired is not kept
+
+pub forget-widens : {s s′ : State} → Widens s s′ → Widens s (forget s′)
+forget-widens w =
+    record {
+      grows = record { variables = w .grows .variables; clauses = w .grows .clauses; waiting = w .grows .waiting };
+      line = w .line;
+      several = w .several;
+    }
+
+pub nothing-kept : (c : Catalogue) (l : Limits) (v : Reading) (n : Counters) (st : ℕ → List ℕ) (cl wt : List ℕ) → forget (stateOf c l v n st cl wt) ≡ stateOf c l v n st cl wt
+unfolding stateOf openingOf
+nothing-kept c l v n st cl wt = refl
