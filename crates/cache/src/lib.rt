@@ -46,7 +46,15 @@ fn asked(w: Choice, member: bool, favoured: bool) -> bool
 }
 
 // Is part p of the range's name, and asked for?
-pub fn chosen(marks: &[u8], unions: &[u8], t: &[u8], k: Counts, r: usize, w: Choice, p: usize) -> bool
+pub fn chosen(
+    marks: &[u8],
+    unions: &[u8],
+    t: &[u8],
+    k: Counts,
+    r: usize,
+    w: Choice,
+    p: usize,
+) -> bool
     requires { ⌜ Held k (length (now marks)) (length (now unions)) (length (now t)) ⌝ }
     ensures { λ b. ⌜ b ≡ chosen (catalogue k (now (marks .entry)) (now (unions .entry)) (now (t .entry))) r w p ⌝ }
 {

@@ -22,7 +22,13 @@ impl Literal {
         requires { ⌜ variable < 32768 ⌝ }
         ensures { λ r. ⌜ literalOf r ≡ signed variable positive ⌝ }
     {
-        if positive { Literal { code: 2 * variable } } else { Literal { code: 2 * variable + 1 } }
+        if positive {
+            Literal { code: 2 * variable }
+        } else {
+            Literal {
+                code: 2 * variable + 1,
+            }
+        }
     }
 
     pub fn variable(self) -> u16
@@ -41,7 +47,11 @@ impl Literal {
         ensures { λ r. ⌜ literalOf r ≡ opposite (literalOf self) ⌝ }
     {
         let code = self.code;
-        if code % 2 == 0 { Literal { code: code + 1 } } else { Literal { code: code - 1 } }
+        if code % 2 == 0 {
+            Literal { code: code + 1 }
+        } else {
+            Literal { code: code - 1 }
+        }
     }
 
     // The literal against what its variable was decided to be.
@@ -51,10 +61,18 @@ impl Literal {
         match value {
             Value::Undecided => Value::Undecided,
             Value::False => {
-                if self.code % 2 == 0 { Value::False } else { Value::True }
+                if self.code % 2 == 0 {
+                    Value::False
+                } else {
+                    Value::True
+                }
             }
             Value::True => {
-                if self.code % 2 == 0 { Value::True } else { Value::False }
+                if self.code % 2 == 0 {
+                    Value::True
+                } else {
+                    Value::False
+                }
             }
         }
     }

@@ -270,8 +270,9 @@ fn run_within(
     ensures { λ r. ⌜ Runs (now (job .entry)) (termsOf (limitsOf l) (lentOf lent) (length (now (out .entry)))) r (now (out .entry)) (now (out .exit)) ⌝ }
 {
     if lends_enough(l, lent) {
-        if 65536 < job.len() {
-            return refused(job.len(), 0, Refusal::Overlong);
+        let length = job.len();
+        if 65536 < length {
+            return refused(length, 0, Refusal::Overlong);
         }
         let limits = state::Limits {
             variables: l.variables as usize,
@@ -280,7 +281,7 @@ fn run_within(
             waiting: l.waiting as usize,
         };
         let outcome = outcome::run(job, marks, unions, t, s, clauses, w, limits, out);
-        return told_outcome(job.len(), outcome);
+        return told_outcome(length, outcome);
     }
     refused(job.len(), 0, Refusal::Unfit)
 }
@@ -319,7 +320,18 @@ pub extern "C" fn kit_run(
         state: state.len(),
         waiting: deferred.len(),
     };
-    let answer = run_within(job, l, lent, marks, unions, catalogue, store, state, deferred, listing);
+    let answer = run_within(
+        job,
+        l,
+        lent,
+        marks,
+        unions,
+        catalogue,
+        store,
+        state,
+        deferred,
+        listing,
+    );
     clear_three(marks, unions, catalogue);
     clear_three(store, state, deferred);
     answer

@@ -24,4 +24,3 @@ module _ {S : Type 0} (f : ℕ → Bool) (g : ℕ → S → S) where
   pub fold-more : (p : ℕ) (s : S) → when (f p) (g p) (fold g (filter f (upTo 0 p)) s) ≡ fold g (filter f (upTo 0 (p + 1))) s
   fold-more p s =
       sym (rw (upTo-last p, filter-append f (upTo 0 p) (p ∷ []), fold-append g (filter f (upTo 0 p)) (filter f (p ∷ [])) s) (one p (fold g (filter f (upTo 0 p)) s)))
-

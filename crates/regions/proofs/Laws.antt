@@ -61,8 +61,8 @@ unfolding part setIn
 in-earlier w start size start′ size′ i v q =
     by-place i size′ (λ b. take size (drop start (cond b (set w (start′ + i) v) w)) ≡ take size (drop start w))
     (λ h.
-      let k : start′ + i ≡ start + (start′ + i - start) = omega arith in
-      ap (λ (n : ℕ). take size (drop start (set w n v))) k ∙ rw (drop-set-add, take-set-le size (drop start w) (start′ + i - start) v (omega arith)))
+    let k : start′ + i ≡ start + (start′ + i - start) = omega arith in
+    ap (λ (n : ℕ). take size (drop start (set w n v))) k ∙ rw (drop-set-add, take-set-le size (drop start w) (start′ + i - start) v (omega arith)))
     (λ h. refl)
 
 -- ---- regions follow each other
@@ -98,8 +98,9 @@ store-at sizes b b′ j i v m e = rw e (go (eqb m j) refl)
     go false q =
         let n = eqb-false m j q in
         elim (decLt m j) [
-            yes h ↦ in-earlier (words b) (startOf sizes m) (sizeOf sizes m) (startOf sizes j) (sizeOf sizes j) i v (follows sizes m j h)
-          | no h ↦ in-later (words b) (startOf sizes m) (sizeOf sizes m) (startOf sizes j) (sizeOf sizes j) i v (follows sizes j m (apart m j h n)) ]
+          | yes h ↦ in-earlier (words b) (startOf sizes m) (sizeOf sizes m) (startOf sizes j) (sizeOf sizes j) i v (follows sizes m j h)
+          | no h ↦ in-later (words b) (startOf sizes m) (sizeOf sizes m) (startOf sizes j) (sizeOf sizes j) i v (follows sizes j m (apart m j h n))
+        ]
 
 -- A STORE IN ONE REGION: the others stay as they are
 pub store-in : (sizes : Layout) (b b′ : List ℕ) (j i v : ℕ) → words b′ ≡ setIn (words b) (startOf sizes j) (sizeOf sizes j) i v

@@ -9,7 +9,11 @@ pub fn at(m: &[u8], start: usize, size: usize, i: usize) -> u16
     requires { ⌜ (start + size) * 2 ≤ length (now m) ⌝ }
     ensures { λ r. ⌜ r ≡ getD (part start size (words (now (m .entry)))) i 0 ⌝ }
 {
-    if i < size { words::get(m, start + i) } else { 0 }
+    if i < size {
+        words::get(m, start + i)
+    } else {
+        0
+    }
 }
 
 pub fn put(m: &mut [u8], start: usize, size: usize, i: usize, v: u16)

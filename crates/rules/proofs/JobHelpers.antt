@@ -112,7 +112,7 @@ module _ (c : Catalogue) where
   end-helped r s p =
       let t = joinAll-tracked c r s in
       let h =
-          linkAll-helpers c r (joinAll c r s) {log = p .log} (rw t (joinAll-encoded c r s (p .encoded))) (rw t (joinAll-helpers c r s (p .encoded) (p .helpers))) in
+      linkAll-helpers c r (joinAll c r s) {log = p .log} (rw t (joinAll-encoded c r s (p .encoded))) (rw t (joinAll-helpers c r s (p .encoded) (p .helpers))) in
       record { helpers = rw (linkAll-opening c r (joinAll c r s)) h }
 
   run-helped : {l : Limits} {s : State} → Given c → Reached l c s → (level : ℕ) → Helped c s → Helped c (runOnce c level s)

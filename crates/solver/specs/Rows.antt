@@ -21,8 +21,14 @@ noRow = record { kind = 0; first = 0; second = 0; start = 0; count = 0; form = 0
 unfoldable pub rowIn : List ℕ → ℕ → Row
 rowIn w i =
     record {
-      kind = field w 0 10 i 0; first = field w 0 10 i 1; second = field w 0 10 i 2; start = field w 0 10 i 3;
-      count = field w 0 10 i 4; form = field w 0 10 i 5; number = field w 0 10 i 6; conflict = field w 0 10 i 7
+      kind = field w 0 10 i 0;
+      first = field w 0 10 i 1;
+      second = field w 0 10 i 2;
+      start = field w 0 10 i 3;
+      count = field w 0 10 i 4;
+      form = field w 0 10 i 5;
+      number = field w 0 10 i 6;
+      conflict = field w 0 10 i 7;
     }
 
 unfoldable pub rows : ℕ → List ℕ → List Row
@@ -31,8 +37,14 @@ rows n bytes = listed n (rowIn (words bytes))
 unfoldable pub rowOf : Stored → Row
 rowOf r =
     record {
-      kind = r .kind; first = r .first; second = r .second; start = r .start; count = r .count; form = r .form; number = r .number;
-      conflict = r .conflict
+      kind = r .kind;
+      first = r .first;
+      second = r .second;
+      start = r .start;
+      count = r .count;
+      form = r .form;
+      number = r .number;
+      conflict = r .conflict;
     }
 
 unfoldable pub rowNumbers : Stored → List ℕ

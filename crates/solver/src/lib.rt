@@ -66,5 +66,14 @@ pub fn row_at(clauses: &[u8], n: usize, i: usize) -> Stored
     let form = words::get(clauses, at + 5);
     let number = words::get(clauses, at + 6);
     let conflict = words::get(clauses, at + 7);
-    Stored { kind, first, second, start, count, form, number, conflict }
+    Stored {
+        kind,
+        first,
+        second,
+        start,
+        count,
+        form,
+        number,
+        conflict,
+    }
 }

@@ -57,9 +57,44 @@ pub const LITERALS: usize = 19;
 pub const LINE: usize = 20;
 
 // Where the regions whose size is fixed start, and the first of those behind them.
-const STARTS: [usize; 17] = [0, 2881, 3906, 4931, 4995, 5059, 5123, 6148, 7173, 8197, 9221, 10245, 11269, 11333, 15429, 16453, 16965];
+const STARTS: [usize; 17] = [
+    0,
+    2881,
+    3906,
+    4931,
+    4995,
+    5059,
+    5123,
+    6148,
+    7173,
+    8197,
+    9221,
+    10245,
+    11269,
+    11333,
+    15429,
+    16453,
+    16965,
+];
 
-const SIZES: [usize; 16] = [2881, 1025, 1025, 64, 64, 64, 1025, 1025, 1024, 1024, 1024, 1024, 64, 4096, 1024, 512];
+const SIZES: [usize; 16] = [
+    2881,
+    1025,
+    1025,
+    64,
+    64,
+    64,
+    1025,
+    1025,
+    1024,
+    1024,
+    1024,
+    1024,
+    64,
+    4096,
+    1024,
+    512,
+];
 
 pub fn start(l: Limits, region: usize) -> usize
     requires { ⌜ (l .variables ≤ 4096) × (l .literals ≤ 8192) × (l .waiting ≤ 2048) ⌝ }

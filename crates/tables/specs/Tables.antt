@@ -91,7 +91,7 @@ tablesIn k w =
       conditions = listed (k .conditions) (conditionRow w);
       sizes = listed (k .conditions) (sizeRow w);
       requirements = listed (k .requirements) (requirementRow w);
-      constraints = listed (k .constraints) (constraintRow w)
+      constraints = listed (k .constraints) (constraintRow w);
     }
 
 unfoldable pub tables : Counts → List ℕ → Tables

@@ -13,20 +13,20 @@ ghost use Rattle.rules.specs.Items.{partOf};
 ghost use Rattle.words.specs.Words.{words};
 ghost use Rattle.requirement.specs.Requirements.{requirementIs};
 ghost use Rattle.tables.specs.Tables.{
-    tables,
-    conditionIs,
-    sizeIs,
-    noSize,
-    constraintIs,
-    withName,
-    withPart,
-    withRange,
-    withUnion,
-    withCondition,
-    withRequirement,
-    withConstraint,
-    Laid,
-    Added,
+  tables,
+  conditionIs,
+  sizeIs,
+  noSize,
+  constraintIs,
+  withName,
+  withPart,
+  withRange,
+  withUnion,
+  withCondition,
+  withRequirement,
+  withConstraint,
+  Laid,
+  Added,
 };
 
 // How many of each thing a catalogue has given; `members` counts union members.
@@ -73,70 +73,110 @@ pub fn several_allowed(t: &[u8], k: Counts, n: usize) -> bool
     requires { ⌜ Laid k (length (now t)) ⌝ }
     ensures { λ r. ⌜ r ≡ getD (tables k (now (t .entry)) .names) n false ⌝ }
 {
-    if n < k.names { has_bit(words::get(t, 6 * n), 1) } else { false }
+    if n < k.names {
+        has_bit(words::get(t, 6 * n), 1)
+    } else {
+        false
+    }
 }
 
 pub fn part_name(t: &[u8], k: Counts, p: usize) -> u16
     requires { ⌜ Laid k (length (now t)) ⌝ }
     ensures { λ r. ⌜ r ≡ (getD (tables k (now (t .entry)) .parts) p noPart) .name ⌝ }
 {
-    if p < k.parts { words::get(t, 384 + 5 * p) } else { 0 }
+    if p < k.parts {
+        words::get(t, 384 + 5 * p)
+    } else {
+        0
+    }
 }
 
 pub fn ready(t: &[u8], k: Counts, p: usize) -> bool
     requires { ⌜ Laid k (length (now t)) ⌝ }
     ensures { λ r. ⌜ r ≡ (getD (tables k (now (t .entry)) .parts) p noPart) .ready ⌝ }
 {
-    if p < k.parts { has_bit(words::get(t, 384 + 5 * p + 1), 1) } else { false }
+    if p < k.parts {
+        has_bit(words::get(t, 384 + 5 * p + 1), 1)
+    } else {
+        false
+    }
 }
 
 pub fn unknown(t: &[u8], k: Counts, p: usize) -> bool
     requires { ⌜ Laid k (length (now t)) ⌝ }
     ensures { λ r. ⌜ r ≡ (getD (tables k (now (t .entry)) .parts) p noPart) .unknown ⌝ }
 {
-    if p < k.parts { has_bit(words::get(t, 384 + 5 * p + 1), 2) } else { false }
+    if p < k.parts {
+        has_bit(words::get(t, 384 + 5 * p + 1), 2)
+    } else {
+        false
+    }
 }
 
 pub fn locked(t: &[u8], k: Counts, p: usize) -> bool
     requires { ⌜ Laid k (length (now t)) ⌝ }
     ensures { λ r. ⌜ r ≡ (getD (tables k (now (t .entry)) .parts) p noPart) .locked ⌝ }
 {
-    if p < k.parts { has_bit(words::get(t, 384 + 5 * p + 1), 4) } else { false }
+    if p < k.parts {
+        has_bit(words::get(t, 384 + 5 * p + 1), 4)
+    } else {
+        false
+    }
 }
 
 pub fn favoured(t: &[u8], k: Counts, p: usize) -> bool
     requires { ⌜ Laid k (length (now t)) ⌝ }
     ensures { λ r. ⌜ r ≡ (getD (tables k (now (t .entry)) .parts) p noPart) .favoured ⌝ }
 {
-    if p < k.parts { has_bit(words::get(t, 384 + 5 * p + 1), 8) } else { false }
+    if p < k.parts {
+        has_bit(words::get(t, 384 + 5 * p + 1), 8)
+    } else {
+        false
+    }
 }
 
 pub fn excluded(t: &[u8], k: Counts, p: usize) -> bool
     requires { ⌜ Laid k (length (now t)) ⌝ }
     ensures { λ r. ⌜ r ≡ (getD (tables k (now (t .entry)) .parts) p noPart) .excluded ⌝ }
 {
-    if p < k.parts { has_bit(words::get(t, 384 + 5 * p + 1), 16) } else { false }
+    if p < k.parts {
+        has_bit(words::get(t, 384 + 5 * p + 1), 16)
+    } else {
+        false
+    }
 }
 
 pub fn unknown_reason(t: &[u8], k: Counts, p: usize) -> u16
     requires { ⌜ Laid k (length (now t)) ⌝ }
     ensures { λ r. ⌜ r ≡ (getD (tables k (now (t .entry)) .parts) p noPart) .unknownReason ⌝ }
 {
-    if p < k.parts { words::get(t, 384 + 5 * p + 2) } else { 0 }
+    if p < k.parts {
+        words::get(t, 384 + 5 * p + 2)
+    } else {
+        0
+    }
 }
 
 pub fn exclusion_reason(t: &[u8], k: Counts, p: usize) -> u16
     requires { ⌜ Laid k (length (now t)) ⌝ }
     ensures { λ r. ⌜ r ≡ (getD (tables k (now (t .entry)) .parts) p noPart) .exclusionReason ⌝ }
 {
-    if p < k.parts { words::get(t, 384 + 5 * p + 3) } else { 0 }
+    if p < k.parts {
+        words::get(t, 384 + 5 * p + 3)
+    } else {
+        0
+    }
 }
 
 pub fn range_name(t: &[u8], k: Counts, r: usize) -> u16
     requires { ⌜ Laid k (length (now t)) ⌝ }
     ensures { λ x. ⌜ x ≡ getD (tables k (now (t .entry)) .ranges) r 0 ⌝ }
 {
-    if r < k.ranges { words::get(t, 9604 + 4 * r) } else { 0 }
+    if r < k.ranges {
+        words::get(t, 9604 + 4 * r)
+    } else {
+        0
+    }
 }
 
 pub fn condition_at(t: &[u8], k: Counts, c: usize) -> Condition
@@ -148,9 +188,17 @@ pub fn condition_at(t: &[u8], k: Counts, c: usize) -> Condition
         let operator = words::get(t, at);
         let left = words::get(t, at + 1);
         let right = words::get(t, at + 2);
-        Condition { operator, left, right }
+        Condition {
+            operator,
+            left,
+            right,
+        }
     } else {
-        Condition { operator: 2, left: 0, right: 0 }
+        Condition {
+            operator: 2,
+            left: 0,
+            right: 0,
+        }
     }
 }
 
@@ -164,7 +212,10 @@ pub fn condition_size(t: &[u8], k: Counts, c: usize) -> Size
         let longest = words::get(t, at + 4);
         Size { count, longest }
     } else {
-        Size { count: 0, longest: 0 }
+        Size {
+            count: 0,
+            longest: 0,
+        }
     }
 }
 
@@ -179,9 +230,17 @@ pub fn requirement_at(t: &[u8], k: Counts, q: usize) -> ConditionalRequirement
         let number = words::get(t, at + 2);
         let condition = words::get(t, at + 3);
         let requirement = Requirement::from_parts(form, number);
-        ConditionalRequirement { owner, requirement, condition }
+        ConditionalRequirement {
+            owner,
+            requirement,
+            condition,
+        }
     } else {
-        ConditionalRequirement { owner: 65535, requirement: Requirement::Single(0), condition: 65535 }
+        ConditionalRequirement {
+            owner: 65535,
+            requirement: Requirement::Single(0),
+            condition: 65535,
+        }
     }
 }
 
@@ -195,7 +254,10 @@ pub fn constraint_at(t: &[u8], k: Counts, c: usize) -> Constraint
         let range = words::get(t, at + 1);
         Constraint { owner, range }
     } else {
-        Constraint { owner: 65535, range: 0 }
+        Constraint {
+            owner: 65535,
+            range: 0,
+        }
     }
 }
 
@@ -212,7 +274,14 @@ pub fn put_name(t: &mut [u8], k: Counts, flags: u8) -> Counts
     more
 }
 
-pub fn put_part(t: &mut [u8], k: Counts, name: u16, flags: u8, unknown: u16, exclusion: u16) -> Counts
+pub fn put_part(
+    t: &mut [u8],
+    k: Counts,
+    name: u16,
+    flags: u8,
+    unknown: u16,
+    exclusion: u16,
+) -> Counts
     requires { ⌜ Laid k (length (now t)) ⌝ }
     requires { ⌜ k .parts < 1024 ⌝ }
     ensures { λ r. ⌜ Added k r (now (t .exit)) (withPart (tables k (now (t .entry))) (partOf name flags unknown exclusion)) ⌝ }

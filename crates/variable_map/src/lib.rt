@@ -29,49 +29,77 @@ pub enum Named {
 pub fn root() -> Origin
     ensures { λ o. ⌜ originOf o ≡ chosen root ⌝ }
 {
-    Origin { kind: 0, number: 0, bit: 0 }
+    Origin {
+        kind: 0,
+        number: 0,
+        bit: 0,
+    }
 }
 
 // Part p's.
 pub fn part(p: u16) -> Origin
     ensures { λ o. ⌜ originOf o ≡ partOrigin p ⌝ }
 {
-    Origin { kind: 1, number: p, bit: 0 }
+    Origin {
+        kind: 1,
+        number: p,
+        bit: 0,
+    }
 }
 
 // Helper j of a name.
 pub fn helper(name: u16, j: u16) -> Origin
     ensures { λ o. ⌜ originOf o ≡ forbid name j ⌝ }
 {
-    Origin { kind: 2, number: name, bit: j }
+    Origin {
+        kind: 2,
+        number: name,
+        bit: j,
+    }
 }
 
 // One-of-name.
 pub fn one(name: u16) -> Origin
     ensures { λ o. ⌜ originOf o ≡ one name ⌝ }
 {
-    Origin { kind: 3, number: name, bit: 0 }
+    Origin {
+        kind: 3,
+        number: name,
+        bit: 0,
+    }
 }
 
 // The violation of a range.
 pub fn violation(range: u16) -> Origin
     ensures { λ o. ⌜ originOf o ≡ violation range ⌝ }
 {
-    Origin { kind: 4, number: range, bit: 0 }
+    Origin {
+        kind: 4,
+        number: range,
+        bit: 0,
+    }
 }
 
 // The gate of a range.
 pub fn range_gate(number: u16) -> Origin
     ensures { λ o. ⌜ originOf o ≡ gate (range number) ⌝ }
 {
-    Origin { kind: 5, number, bit: 0 }
+    Origin {
+        kind: 5,
+        number,
+        bit: 0,
+    }
 }
 
 // The gate of a union.
 pub fn union_gate(number: u16) -> Origin
     ensures { λ o. ⌜ originOf o ≡ gate (union number) ⌝ }
 {
-    Origin { kind: 6, number, bit: 0 }
+    Origin {
+        kind: 6,
+        number,
+        bit: 0,
+    }
 }
 
 pub fn slot(o: Origin) -> usize
