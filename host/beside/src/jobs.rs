@@ -53,7 +53,7 @@ pub fn growing() -> Vec<(&'static str, Vec<Job>)> {
         (name, jobs.collect())
     };
     vec![
-        family("chain", &[1, 2, 4, 8, 16, 32, 64], chain),
+        family("chain", &[1, 2, 4, 8, 16, 32, 63], chain),
         family("small runs", &[15, 31, 62, 125, 250, 500, 1_000], small_runs),
         family("repeated union", &[70, 140, 280, 562, 1_125, 2_250, 4_500, 9_000], repeated_union),
         family("wide union", &[16, 32, 64, 128, 256, 512], wide_union),
@@ -96,7 +96,7 @@ fn chain(names: usize) -> Vec<Record> {
     }
     for name in 0..names {
         for range in 0..CHAIN_RANGES {
-            let outside = range..range + 6;
+            let outside = range..range + 5;
             let members = (0..CHAIN_PARTS).filter(|at| !outside.contains(at));
             records.extend(members.map(|at| Record::Member {
                 range: number(name, range, CHAIN_RANGES),
@@ -306,7 +306,7 @@ fn draws_with_runs() -> Vec<Record> {
     records.extend(repeat_n(Record::Leaf { range: 0 }, CONDITIONS));
     let waiting = |condition| Record::Requirement { owner: ROOT, form: 1, number: 0, condition };
     records.extend((0..REQUIREMENTS).map(|at| waiting((at % CONDITIONS) as u16)));
-    // A constraint to another name's range of one part makes no clause, but names the part.
+    // The constraint makes no clause, but gives its owner variable 1.
     records.push(Record::Constraint { owner: 0, range: 1 });
     records.extend([Record::Add { owner: 0 }, Record::Add { owner: ROOT }]);
     records.push(Record::Run { level: 1 });

@@ -24,6 +24,11 @@ const TOO_LONG: Duration = Duration::from_secs(2);
 /// A process that takes longer is given up.
 const GIVEN_UP: Duration = Duration::from_secs(90);
 
+/// Callgrind counts an instruction that repeats itself once for each byte; so clearing and copying are
+/// to do without it.
+const NO_REPEATS: &str =
+    "glibc.cpu.x86_rep_stosb_threshold=1000000000:glibc.cpu.x86_rep_movsb_threshold=1000000000";
+
 /// What is measured.
 #[derive(Clone, Copy, Debug, PartialEq, Eq)]
 pub enum Side {
@@ -81,9 +86,10 @@ enum Given {
     Unlisted(Result<(), Refusal>),
 }
 
-/// Runs the job once, or until the best time is likely to be found.
+/// Runs the job once, or until the best time is likely to be found. The areas are there before.
 pub fn measure(side: Side, request: &Request, once: bool) -> Found {
     let mut kit = Kit::with_listing_area(request.listing_area);
+    kit.check(&[], &request.limits).expect("the limits are allowed");
     let (mut best, mut total) = (Duration::MAX, Duration::ZERO);
     for round in 1.. {
         let (time, given) = timed(|| measured(side, &mut kit, request));
@@ -152,7 +158,7 @@ pub fn instructions(side: Side, job: &Job) -> Option<u64> {
         "--callgrind-out-file=/dev/null",
         "--toggle-collect=measured",
     ]);
-    valgrind.arg(program);
+    valgrind.arg(program).env("GLIBC_TUNABLES", NO_REPEATS);
     let (_, notes) = outputs(valgrind, &["once"], side, job)?;
     let counted = notes.lines().find_map(|line| line.split_once("Collected : "))?;
     counted.1.trim().parse().ok()
