@@ -6,7 +6,7 @@ SEED ?= 1
 COUNT ?= 20000
 HOST_RUN = host/with-reference cargo run --quiet --release
 
-.PHONY: test host-test compare record demo
+.PHONY: test host-test compare bench record demo
 
 # `rt ci` proves everything from nothing; the host tests link what it built, and its last line is said again at the end.
 test:
@@ -20,7 +20,13 @@ host-test:
 # The listing of the proved library beside the Rust's on COUNT generated jobs.
 compare:
 	@rt staticlib kit
-	@$(HOST_RUN) --package kit --bin compare -- kit random $(SEED) $(COUNT)
+	@$(HOST_RUN) --package beside --bin compare -- kit random $(SEED) $(COUNT)
+
+# The time of the proved library beside the Rust's, job by job; with valgrind also instructions.
+bench:
+	@rt staticlib kit
+	@host/setup valgrind || echo 'no valgrind: instructions are not counted'
+	@$(HOST_RUN) --package beside --bin bench
 
 # The recorded jobs and the listings of the examples, made again with the Rust's answers.
 record:

@@ -3,21 +3,26 @@
 /// A job is at most this long.
 pub const JOB_CEILING: usize = 65_536;
 
+/// How much a job's runs may make (docs/LIMITS.md).
 #[derive(Clone, Copy, Debug, PartialEq, Eq)]
 pub struct Limits {
     pub variables: u32,
     pub clauses: u32,
     pub condition_literals: u32,
+    /// Waiting entries.
     pub waiting: u32,
 }
 
 impl Limits {
+    /// No limit may be higher.
     pub const CEILINGS: Limits =
         Limits { variables: 4_096, clauses: 16_384, condition_literals: 8_192, waiting: 2_048 };
 
+    /// Those of the program `kitlist`.
     pub const KITLIST: Limits =
         Limits { variables: 1_024, clauses: 2_048, condition_literals: 1_024, waiting: 256 };
 
+    /// Those of a branch.
     pub const BRANCH: Limits =
         Limits { variables: 256, clauses: 512, condition_literals: 256, waiting: 64 };
 

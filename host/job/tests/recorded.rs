@@ -5,6 +5,7 @@ use std::{fs, path::PathBuf};
 
 use job::{
     answer::{Answer, Refusal, Request},
+    listing::lines,
     reader::{Reader, before_reading, read_catalogue},
     recorded::{RecordedJob, job_line, read_answers, read_jobs},
 };
@@ -66,6 +67,16 @@ fn every_refusal_is_recorded() {
     for number in 1..=11 {
         let start = format!("refused {number} ");
         assert!(jobs.iter().any(|(_, answer)| answer.starts_with(&start)), "{number}");
+    }
+}
+
+#[test]
+fn listings_print_back() {
+    for (job, answer) in jobs_with_answers() {
+        if !answer.starts_with("refused ") {
+            let lines: String = lines(&answer).map(|line| format!("{line}\n")).collect();
+            assert_eq!(lines, answer, "{}", job.name);
+        }
     }
 }
 

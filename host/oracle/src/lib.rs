@@ -35,7 +35,7 @@ fn answer(request: &Request) -> Answer {
 }
 
 /// The sheet at the job's end.
-fn carried_out(request: &Request) -> Result<Sheet, Refusal> {
+pub fn carried_out(request: &Request) -> Result<Sheet, Refusal> {
     before_reading(request)?;
     let mut reader = Reader::new(&request.job);
     let mut sheet = Sheet::new(read_catalogue(&mut reader)?);

@@ -15,11 +15,9 @@ use job::{
     recorded::hex,
 };
 
-use crate::{
-    Numbers,
-    areas::{Areas, needed},
-    check,
-};
+use kit::lent::{self, Answer, needed};
+
+use crate::areas::Areas;
 
 /// What was compared.
 #[derive(Debug, Default)]
@@ -146,7 +144,7 @@ impl Outcome {
     pub fn compare(&mut self, request: &Request, lengths: [usize; 6], junk: u8) {
         let mut areas = Areas::new(lengths, junk);
         let start = Instant::now();
-        let ours = check(&request.job, request.limits, &mut areas);
+        let ours = lent::check(&request.job, &request.limits, areas.lent());
         self.slowest = self.slowest.max(start.elapsed());
         let told = || format!("{:?} {lengths:?} {}", request.limits.to_array(), hex(&request.job));
         assert_eq!(ours, expected(request, areas.lengths()), "{}", told());
@@ -157,7 +155,7 @@ impl Outcome {
 
     /// Checks a job in areas that are exact, or longer, or of which one is a byte too short.
     pub fn compare_in_some_areas(&mut self, request: &Request, random: &mut Random) {
-        let mut lengths = needed(request.limits);
+        let mut lengths = needed(&request.limits);
         match random.below(10) {
             0..6 => (),
             6..8 => lengths = lengths.map(|length| length + random.below(200)),
@@ -171,19 +169,19 @@ impl Outcome {
 }
 
 /// The answer by the host's own reading.
-fn expected(request: &Request, lengths: [usize; 6]) -> Numbers {
-    let read = covered(request.limits, lengths)
+fn expected(request: &Request, lengths: [usize; 6]) -> Answer {
+    let read = covered(&request.limits, lengths)
         .and_then(|()| before_reading(request))
         .and_then(|()| read_catalogue(&mut Reader::new(&request.job)));
     let (number, place) = match read {
         Ok(Catalogue { .. }) => (0, 0),
         Err(Refusal { number, place }) => (u64::from(number), place as u64),
     };
-    Numbers { number, place, length: 0, variables: 0, clauses: 0 }
+    Answer { number, place, length: 0, variables: 0, clauses: 0 }
 }
 
 /// Refusal 7 for the areas.
-fn covered(limits: Limits, lengths: [usize; 6]) -> Result<(), Refusal> {
+fn covered(limits: &Limits, lengths: [usize; 6]) -> Result<(), Refusal> {
     let short = needed(limits).into_iter().zip(lengths).any(|(needed, lent)| lent < needed);
     if short { Err(Refusal { number: 7, place: 0 }) } else { Ok(()) }
 }

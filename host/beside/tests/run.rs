@@ -3,12 +3,13 @@
 
 use std::fs;
 
+use beside::{checking, side::Kit};
 use compare::paths;
 use job::{
     answer::{Answer, Refusal, Request, Side},
     recorded::{answers_text, read_jobs},
 };
-use kit::{areas::needed, checking, side::Kit};
+use kit::lent::needed;
 use oracle::Rust;
 
 fn recorded(file: &str) -> String {
@@ -45,7 +46,7 @@ fn ceilings_are_those_of_the_rust() {
 #[test]
 fn an_area_may_be_longer_but_no_byte_shorter() {
     let (request, mut kit) = (worked(), Kit::default());
-    let exact = needed(request.limits);
+    let exact = needed(&request.limits);
     let answer = kit.answer_in(&request, exact);
     assert!(matches!(answer, Answer::Accepted { .. }));
     for at in 0..6 {

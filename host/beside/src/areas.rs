@@ -1,6 +1,4 @@
-//! The six work areas of a call (docs/LIMITS.md).
-
-use job::limits::Limits;
+//! Work areas full of junk, and what a call leaves of them.
 
 /// So many bytes behind each area must stay as they are.
 pub const GUARD: usize = 64;
@@ -9,12 +7,6 @@ const GUARD_BYTE: u8 = 0xA5;
 pub struct Areas {
     lengths: [usize; 6],
     bytes: [Vec<u8>; 6],
-}
-
-/// The length that each area needs: marks, unions, catalogue, clauses, state, waiting.
-pub fn needed(limits: Limits) -> [usize; 6] {
-    let [v, c, l, w] = limits.to_array().map(|limit| limit as usize);
-    [65_536, 52_428, 50_696, 20 * c, 16 * v + 2 * l + 2 * (3_649 + w) + 34_954, 8 * w]
 }
 
 impl Areas {
@@ -32,7 +24,7 @@ impl Areas {
         self.lengths
     }
 
-    pub fn lent(&mut self) -> [&mut [u8]; 6] {
+    pub fn lent(&mut self) -> kit::lent::Areas<'_> {
         let lengths = self.lengths;
         let mut at = 0;
         self.bytes.each_mut().map(|bytes| {

@@ -5,13 +5,13 @@
 
 use std::process::ExitCode;
 
+use beside::side::Kit;
 use compare::{
     comparison::{compare, smallest},
     generate::{self, short},
     model::Model,
 };
 use job::answer::{Request, Side};
-use kit::side::Kit;
 
 const USAGE: &str =
     "usage: compare kit|model|MISREADING (random SEED COUNT | short|sheets|bytes LENGTH)";

@@ -4,14 +4,14 @@
 
 use std::time::{Duration, Instant};
 
-use compare::random::Random;
-use job::{answer::Request, limits::Limits};
-use kit::{
-    areas::{Areas, needed},
-    check,
+use beside::{
+    areas::Areas,
     checking::{self, Outcome},
     slow,
 };
+use compare::random::Random;
+use job::{answer::Request, limits::Limits};
+use kit::lent::{self, needed};
 
 const USAGE: &str = "usage: check random SEED COUNT | check slow";
 
@@ -35,7 +35,7 @@ fn number<N: std::str::FromStr>(word: &str) -> N {
 fn random(seed: u64, count: usize) {
     let mut outcome = Outcome::default();
     for request in checking::edges() {
-        let exact = needed(request.limits);
+        let exact = needed(&request.limits);
         outcome.compare(&request, exact, 0xFF);
         outcome.compare(&request, exact.map(|length| length + 1), 1);
         for at in 0..6 {
@@ -46,7 +46,7 @@ fn random(seed: u64, count: usize) {
     }
     for limits in checking::all_limits() {
         let request = Request { limits, ..Request::kitlist(vec![1, 0]) };
-        outcome.compare(&request, needed(limits), 0xFF);
+        outcome.compare(&request, needed(&limits), 0xFF);
     }
     let mut random = Random::new(seed, u64::MAX);
     for request in (0..).flat_map(|step| checking::step(seed, step)).take(count) {
@@ -60,9 +60,9 @@ fn random(seed: u64, count: usize) {
 fn slow_jobs() {
     for (what, job) in slow::jobs() {
         let times = (0..20).map(|_| {
-            let mut areas = Areas::new(needed(Limits::CEILINGS), 1);
+            let mut areas = Areas::new(needed(&Limits::CEILINGS), 1);
             let start = Instant::now();
-            let answer = check(&job, Limits::CEILINGS, &mut areas);
+            let answer = lent::check(&job, &Limits::CEILINGS, areas.lent());
             let time = start.elapsed();
             assert_eq!(answer.number, 0, "{what} is accepted");
             time

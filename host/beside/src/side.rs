@@ -5,11 +5,9 @@ use job::{
     recorded::hex,
 };
 
-use crate::{
-    Numbers,
-    areas::{Areas, GUARD, needed},
-    run,
-};
+use kit::lent::{self, needed};
+
+use crate::areas::{Areas, GUARD};
 
 /// Lends areas full of junk, another byte at each call.
 #[derive(Default)]
@@ -21,7 +19,7 @@ pub struct Kit {
 
 impl Side for Kit {
     fn answers(&mut self, requests: &[Request]) -> Vec<Answer> {
-        let answer = |request: &Request| self.answer_in(request, needed(request.limits));
+        let answer = |request: &Request| self.answer_in(request, needed(&request.limits));
         requests.iter().map(answer).collect()
     }
 }
@@ -36,7 +34,7 @@ impl Kit {
         let mut areas = Areas::new(lengths, self.junk);
         let mut listing = self.listing_area(request.listing_area + GUARD);
         let lent = &mut listing[..request.listing_area];
-        let numbers = run(&request.job, request.limits, &mut areas, lent);
+        let numbers = lent::run(&request.job, &request.limits, areas.lent(), lent);
         let told = || format!("{:?} {lengths:?} {}", request.limits.to_array(), hex(&request.job));
         assert!(areas.left_zero(), "an area is not left zero: {}", told());
         let length = numbers.length as usize;
@@ -54,12 +52,12 @@ impl Kit {
 }
 
 /// The numbers that an answer leaves open are 0.
-fn answer(numbers: Numbers, listing: Vec<u8>) -> Answer {
+fn answer(numbers: lent::Answer, listing: Vec<u8>) -> Answer {
     match numbers {
-        Numbers { number: 0, place: 0, variables, clauses, .. } => {
+        lent::Answer { number: 0, place: 0, variables, clauses, .. } => {
             Answer::Accepted { variables: variables as usize, clauses: clauses as usize, listing }
         }
-        Numbers { number, place, length: 0, variables: 0, clauses: 0 } if number > 0 => {
+        lent::Answer { number, place, length: 0, variables: 0, clauses: 0 } if number > 0 => {
             Answer::Refused(Refusal { number: number as u8, place: place as usize })
         }
         _ => panic!("{numbers:?} is no answer"),

@@ -1,0 +1,331 @@
+//! The jobs of `bench`: plain ones, jobs built to be slow to run, and families of rising size.
+
+use std::{fs, iter::repeat_n};
+
+use compare::{generate::edges, paths};
+use job::{
+    answer::Request,
+    catalogue::{CONDITIONS, PARTS, RANGES, READY, REQUIREMENTS},
+    limits::{JOB_CEILING, Limits},
+    record::{NO_CONDITION, ROOT, Record, job_of},
+    recorded::read_jobs,
+};
+
+use crate::slow;
+
+/// Room for the listings of all these jobs that are not refused.
+const LISTING: usize = 16 << 20;
+
+pub struct Job {
+    pub name: String,
+    pub request: Request,
+}
+
+fn job(name: &str, records: Vec<Record>) -> Job {
+    of_bytes(name, job_of(records))
+}
+
+fn of_bytes(name: &str, job: Vec<u8>) -> Job {
+    assert!(job.len() <= JOB_CEILING, "{name} has {} bytes", job.len());
+    let request = Request { job, limits: Limits::CEILINGS, listing_area: LISTING };
+    Job { name: name.to_string(), request }
+}
+
+/// The job as `kitlist` runs it.
+fn as_kitlist(name: &str, job: Vec<u8>) -> Job {
+    Job { name: name.to_string(), request: Request::kitlist(job) }
+}
+
+/// All but the growing families.
+pub fn all() -> Vec<Job> {
+    let mut jobs = vec![worked(), example("sorter-kit"), example("scanning-arch")];
+    jobs.push(job("16 KB", chain(CHAIN_OF_16_KB)));
+    jobs.extend(at_ceilings());
+    jobs.push(job("small runs", small_runs(1_000)));
+    jobs.extend(slow_jobs());
+    jobs
+}
+
+/// Each family by rising size.
+pub fn growing() -> Vec<(&'static str, Vec<Job>)> {
+    let family = |name: &'static str, sizes: &[usize], records: fn(usize) -> Vec<Record>| {
+        let jobs = sizes.iter().map(|&size| job(&format!("{name} {size}"), records(size)));
+        (name, jobs.collect())
+    };
+    vec![
+        family("chain", &[1, 2, 4, 8, 16, 32, 63], chain),
+        family("small runs", &[15, 31, 62, 125, 250, 500, 1_000], small_runs),
+        family("repeated union", &[70, 140, 280, 562, 1_125, 2_250, 4_500, 9_000], repeated_union),
+        family("wide union", &[16, 32, 64, 128, 256, 512], wide_union),
+        family("draws", &[1, 2, 4, 8, 16, 32, 64], |draws| drawing(200, 64, draws)),
+    ]
+}
+
+// ---- plain jobs
+
+fn worked() -> Job {
+    let list = fs::read_to_string(paths::repository().join("recorded/jobs.txt")).expect("the list");
+    let worked = read_jobs(&list).into_iter().find(|job| job.name == "starred-worked");
+    Job { name: "document 01".to_string(), request: worked.expect("the worked job").request }
+}
+
+fn example(name: &str) -> Job {
+    let file = paths::repository().join("examples").join(name).with_extension("bytes");
+    as_kitlist(name, fs::read(file).expect("an example"))
+}
+
+fn at_ceilings() -> Vec<Job> {
+    let names = ["ceiling of clauses", "ceiling of literals", "ceiling of waiting"];
+    let accepted = edges::at_ceilings().into_iter().step_by(2);
+    let named = names.into_iter().zip(accepted);
+    named.map(|(name, Request { job, .. })| of_bytes(name, job)).collect()
+}
+
+const CHAIN_OF_16_KB: usize = 22;
+const CHAIN_PARTS: usize = 16;
+const CHAIN_RANGES: usize = 8;
+
+/// So many names of 16 parts. Each part requires a range of the next name; four of a name's parts are
+/// constrained to ranges of it. All of it is opened in one run.
+fn chain(names: usize) -> Vec<Record> {
+    let mut records = vec![Record::Name { flags: 0 }; names];
+    let number = |name: usize, at: usize, of: usize| (name % names * of + at) as u16;
+    for name in 0..names {
+        records.extend(repeat_n(part(name as u16, READY), CHAIN_PARTS));
+        records.extend(repeat_n(Record::Range { name: name as u16 }, CHAIN_RANGES));
+    }
+    for name in 0..names {
+        for range in 0..CHAIN_RANGES {
+            let outside = range..range + 5;
+            let members = (0..CHAIN_PARTS).filter(|at| !outside.contains(at));
+            records.extend(members.map(|at| Record::Member {
+                range: number(name, range, CHAIN_RANGES),
+                part: number(name, at, CHAIN_PARTS),
+            }));
+        }
+    }
+    for name in 0..names {
+        for at in 0..CHAIN_PARTS {
+            let owner = number(name, at, CHAIN_PARTS);
+            let range = number(name + 1, at % CHAIN_RANGES, CHAIN_RANGES);
+            records.push(requirement(owner, range));
+            if at < 4 {
+                records.push(Record::Constraint { owner, range });
+            }
+        }
+    }
+    records.push(requirement(ROOT, 0));
+    records.extend(run_of_root());
+    records
+}
+
+/// So many parts of 64 names that do not open by themselves; each is added and run by itself, and a
+/// decision made and taken back.
+fn small_runs(parts: usize) -> Vec<Record> {
+    let names = 64.min(parts);
+    let mut records = vec![Record::Name { flags: 0 }; names];
+    records.extend((0..parts).map(|at| part((at % names) as u16, 0)));
+    records.extend((0..names).map(|name| Record::Range { name: name as u16 }));
+    let member = |at: usize| Record::Member { range: (at % names) as u16, part: at as u16 };
+    records.extend((0..parts).map(member));
+    let next = |at: usize| requirement(at as u16, ((at + 1) % names) as u16);
+    records.extend((0..parts).map(next));
+    for owner in 0..parts as u16 {
+        records.push(Record::Add { owner });
+        records.push(Record::Run { level: 1 });
+        records.push(Record::Decide { variable: 1, value: 1, level: 1 });
+        records.push(Record::Undo { level: 0 });
+    }
+    records
+}
+
+// ---- jobs built to be slow
+
+fn slow_jobs() -> Vec<Job> {
+    let again = job("repeated union", repeated_union(9_000));
+    let mut jobs = vec![as_kitlist("repeated union, kitlist", again.request.job.clone()), again];
+    jobs.push(job("empty union, 10 times", empty_union(10)));
+    jobs.push(job("empty union", empty_union(1_000)));
+    jobs.push(job("wide union", wide_union(RANGES)));
+    jobs.push(job("wide union, several", wide_union_of_several()));
+    jobs.push(job("many candidates", many_candidates()));
+    jobs.push(job("many owners", many_owners()));
+    jobs.push(job("wide conditions", drawing(PARTS, 2_048, 0)));
+    jobs.push(job("10 draws", drawing(PARTS, 2_048, 10)));
+    jobs.push(job("18,000 draws", drawing(PARTS, 2_048, 18_000)));
+    jobs.push(job("draws with runs", draws_with_runs()));
+    jobs.push(job("waiting of all conditions", waiting_of_all_conditions()));
+    jobs.push(job("empty runs", vec![Record::Run { level: 1 }; 21_845]));
+    jobs.extend(slow::jobs().into_iter().map(|(name, job)| of_bytes(name, job)));
+    jobs
+}
+
+fn part(name: u16, flags: u8) -> Record {
+    Record::Part { name, flags, unknown_reason: 0, exclusion_reason: 0 }
+}
+
+fn requirement(owner: u16, range: u16) -> Record {
+    Record::Requirement { owner, form: 0, number: range, condition: NO_CONDITION }
+}
+
+fn of_union(union: u16) -> Record {
+    Record::Requirement { owner: ROOT, form: 1, number: union, condition: NO_CONDITION }
+}
+
+fn run_of_root() -> [Record; 2] {
+    [Record::Add { owner: ROOT }, Record::Run { level: 1 }]
+}
+
+/// A union that names a range of 500 parts so many times, required 1,000 times by the root: at 9,000
+/// the 59,512 bytes of DIFFERENCES.md.
+fn repeated_union(times: usize) -> Vec<Record> {
+    let mut records = vec![Record::Name { flags: 0 }];
+    records.extend(repeat_n(part(0, 0), 500));
+    records.push(Record::Range { name: 0 });
+    records.extend((0..500).map(|part| Record::Member { range: 0, part }));
+    records.push(Record::Union);
+    records.extend(repeat_n(Record::UnionMember { union: 0, range: 0 }, times));
+    records.extend(repeat_n(of_union(0), 1_000));
+    records.extend(run_of_root());
+    records
+}
+
+/// A union that names a range without members 9,900 times, in a name of 1,000 parts; the root requires
+/// it so many times.
+fn empty_union(times: usize) -> Vec<Record> {
+    let mut records = vec![Record::Name { flags: 0 }];
+    records.extend(repeat_n(part(0, 0), 1_000));
+    records.extend([Record::Range { name: 0 }, Record::Union]);
+    records.extend(repeat_n(Record::UnionMember { union: 0, range: 0 }, 9_900));
+    records.extend(repeat_n(of_union(0), times));
+    records.extend(run_of_root());
+    records
+}
+
+/// A union of so many ranges of one part each, out of a name of twice as many, required as many times
+/// as there are parts.
+fn wide_union(ranges: usize) -> Vec<Record> {
+    let mut records = vec![Record::Name { flags: 0 }];
+    records.extend(repeat_n(part(0, 0), 2 * ranges));
+    records.extend(repeat_n(Record::Range { name: 0 }, ranges));
+    let numbers = 0..ranges as u16;
+    records.extend(numbers.clone().map(|range| Record::Member { range, part: 2 * range }));
+    records.push(Record::Union);
+    records.extend(numbers.map(|range| Record::UnionMember { union: 0, range }));
+    records.extend(repeat_n(of_union(0), 2 * ranges));
+    records.extend(run_of_root());
+    records
+}
+
+/// A union of 512 ranges of 16 parts each; the 64 names allow several.
+fn wide_union_of_several() -> Vec<Record> {
+    let mut records = vec![Record::Name { flags: 1 }; 64];
+    records.extend((0..PARTS).map(|at| part((at % 64) as u16, 0)));
+    records.extend((0..RANGES).map(|range| Record::Range { name: (range % 64) as u16 }));
+    for range in 0..RANGES as u16 {
+        let members = (0..16).map(|at| at * 64 + range % 64);
+        records.extend(members.map(|part| Record::Member { range, part }));
+    }
+    records.push(Record::Union);
+    let ranges = 0..RANGES as u16;
+    records.extend(ranges.map(|range| Record::UnionMember { union: 0, range }));
+    records.extend(repeat_n(of_union(0), 300));
+    records.extend(run_of_root());
+    records
+}
+
+/// 1,024 clauses of 1,000 candidates each.
+fn many_candidates() -> Vec<Record> {
+    let mut records = vec![Record::Name { flags: 1 }];
+    records.extend(repeat_n(part(0, 0), 1_000));
+    records.push(Record::Range { name: 0 });
+    records.extend((0..1_000).map(|part| Record::Member { range: 0, part }));
+    records.extend(repeat_n(requirement(ROOT, 0), 1_024));
+    records.extend(run_of_root());
+    records
+}
+
+/// 1,023 parts that open by themselves, each with a requirement, every other with a constraint.
+fn many_owners() -> Vec<Record> {
+    let owners = 0..(PARTS - 1) as u16;
+    let mut records = vec![Record::Name { flags: 1 }; 64];
+    records.extend(owners.clone().map(|owner| part(owner % 64, READY)));
+    records.extend((0..64).map(|name| Record::Range { name }));
+    records.extend(owners.clone().map(|part| Record::Member { range: part % 64, part }));
+    records.push(requirement(ROOT, 0));
+    records.extend(owners.clone().map(|owner| requirement(owner, (owner + 1) % 64)));
+    let constraint = |owner| Record::Constraint { owner, range: (owner + 2) % 64 };
+    records.extend(owners.step_by(2).map(constraint));
+    records.extend(run_of_root());
+    records
+}
+
+/// So many entries wait for a condition, 64 for a requirement, each on 16 ranges of a name of so many
+/// parts. Fifteen of them hold by the name's last part, the last does not. Then so many draws.
+fn drawing(parts: usize, entries: usize, draws: usize) -> Vec<Record> {
+    let mut records = vec![Record::Name { flags: 1 }];
+    records.extend(repeat_n(part(0, 0), parts));
+    records.extend([Record::Range { name: 0 }; 2]);
+    records.push(Record::Member { range: 0, part: (parts - 1) as u16 });
+    records.push(Record::Member { range: 1, part: 0 });
+    let conditions = sixty_four_disjuncts(Record::Leaf { range: 0 }, Record::Leaf { range: 1 });
+    let condition = (conditions.len() - 1) as u16;
+    records.extend(conditions);
+    records.push(requirement(ROOT, 0));
+    let waiting = Record::Requirement { owner: 0, form: 0, number: 0, condition };
+    records.extend(repeat_n(waiting, entries / 64));
+    records.extend(run_of_root());
+    // Variable 1 is the root's only candidate, the last part.
+    records.push(Record::Decide { variable: 1, value: 1, level: 1 });
+    records.extend([Record::Add { owner: 0 }, Record::Run { level: 1 }]);
+    records.extend(repeat_n(Record::Draw { condition }, draws));
+    records
+}
+
+/// Conditions of which the last has 64 disjuncts, each fifteen times the first and once the second.
+fn sixty_four_disjuncts(first: Record, second: Record) -> Vec<Record> {
+    let and = |left, right| Record::Joined { operator: 0, left, right };
+    let or = |both| Record::Joined { operator: 1, left: both, right: both };
+    let fifteen = [and(0, 0), and(1, 1), and(2, 2), and(3, 2), and(4, 1), and(5, 0)];
+    let mut conditions = vec![first];
+    conditions.extend(fifteen);
+    conditions.extend([second, and(6, 7)]);
+    conditions.extend((8..14).map(or));
+    conditions
+}
+
+/// 1,024 requirements of a union of all parts wait, four for each of 256 conditions. These hold, and
+/// are drawn and run one after another.
+fn draws_with_runs() -> Vec<Record> {
+    let mut records = vec![Record::Name { flags: 0 }; 64];
+    records.extend((0..PARTS as u16).map(|at| part(at % 64, 0)));
+    records.extend((0..64).map(|name| Record::Range { name }));
+    records.extend((0..PARTS as u16).map(|part| Record::Member { range: part % 64, part }));
+    records.push(Record::Union);
+    records.extend((0..64).map(|range| Record::UnionMember { union: 0, range }));
+    records.extend(repeat_n(Record::Leaf { range: 0 }, CONDITIONS));
+    let waiting = |condition| Record::Requirement { owner: ROOT, form: 1, number: 0, condition };
+    records.extend((0..REQUIREMENTS).map(|at| waiting((at % CONDITIONS) as u16)));
+    // The constraint makes no clause, but gives its owner variable 1.
+    records.push(Record::Constraint { owner: 0, range: 1 });
+    records.extend([Record::Add { owner: 0 }, Record::Add { owner: ROOT }]);
+    records.push(Record::Run { level: 1 });
+    records.push(Record::Decide { variable: 1, value: 1, level: 1 });
+    for condition in 0..CONDITIONS as u16 {
+        records.extend([Record::Draw { condition }, Record::Run { level: 1 }]);
+    }
+    records
+}
+
+/// 253 conditions of eight disjuncts, one requirement waiting for each.
+fn waiting_of_all_conditions() -> Vec<Record> {
+    let or = |both| Record::Joined { operator: 1, left: both, right: both };
+    let mut records = vec![Record::Name { flags: 0 }, part(0, 0), Record::Range { name: 0 }];
+    records.extend([Record::Leaf { range: 0 }, or(0), or(1)]);
+    let of_eight = 3..CONDITIONS as u16;
+    records.extend(of_eight.clone().map(|_| or(2)));
+    let waiting = |condition| Record::Requirement { owner: ROOT, form: 0, number: 0, condition };
+    records.extend(of_eight.map(waiting));
+    records.extend(run_of_root());
+    records
+}

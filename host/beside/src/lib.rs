@@ -1,0 +1,9 @@
+//! The proved library set beside the Rust and beside the host's own reading.
+
+pub mod areas;
+pub mod checking;
+pub mod clock;
+pub mod jobs;
+pub mod measure;
+pub mod side;
+pub mod slow;
