@@ -65,6 +65,12 @@ pub enum Record {
     Refused(Refusal),
 }
 
+// The lent job together with a position in it.
+pub struct Reader<'a> {
+    pub job: &'a [u8],
+    pub at: usize,
+}
+
 // The length of each kind's body, and 99 for a number that is no kind.
 const LENGTHS: [u8; 37] = [
     99,
@@ -204,8 +210,8 @@ pub fn out_of_place(begun: bool, kind: u8) -> bool
     if begun { kind < 32 } else { false }
 }
 
-// The record at `at`; `begun`: a sheet record has stood before.
-pub fn record_at(job: &[u8], at: usize, begun: bool) -> Record
+// The record at `at`, from the slice and the number; `begun`: a sheet record has stood before.
+pub fn decode(job: &[u8], at: usize, begun: bool) -> Record
     requires { ⌜ at < length (now job) ⌝ }
     ensures { λ r. ⌜ resultOf r ≡ read begun (getD (now (job .entry)) at 0) (drop (at + 1) (now (job .entry))) ⌝ }
 {
@@ -226,4 +232,22 @@ pub fn record_at(job: &[u8], at: usize, begun: bool) -> Record
     } else {
         Record::Sheet(read_command(kind, b))
     }
+}
+
+impl<'a> Reader<'a> {
+    // The record at the position.
+    pub fn read(self, begun: bool) -> Record
+        requires { ⌜ self .at < length (now (self .job)) ⌝ }
+        ensures { λ r. ⌜ resultOf r ≡ read begun (getD (now (self .entry .job)) (self .entry .at) 0) (drop (self .entry .at + 1) (now (self .entry .job))) ⌝ }
+    {
+        decode(self.job, self.at, begun)
+    }
+}
+
+// The record at `at`.
+pub fn record_at(job: &[u8], at: usize, begun: bool) -> Record
+    requires { ⌜ at < length (now job) ⌝ }
+    ensures { λ r. ⌜ resultOf r ≡ read begun (getD (now (job .entry)) at 0) (drop (at + 1) (now (job .entry))) ⌝ }
+{
+    Reader { job, at }.read(begun)
 }

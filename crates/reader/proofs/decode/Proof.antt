@@ -1,7 +1,8 @@
+-- `reader::decode` gives the record at a position of the job: each way out is a law of `Laws`. Assumes nothing.
 use borrow.Author.Needs.{needs}
 use Rattle.reader.proofs.Laws.{at-unknown, at-misplaced, at-short, at-item, at-command}
-use Rattle.reader.proofs.record_at.Statement.{statement}
-use Rattle.reader.proofs.record_at.Tie as tie
+use Rattle.reader.proofs.decode.Statement.{statement}
+use Rattle.reader.proofs.decode.Tie as tie
 
 shared-slice-read-kind : tie.Need-shared-slice-read-kind
 shared-slice-read-kind c = search needs
@@ -48,8 +49,8 @@ returns-4 c = search (needs, at-item)
 returns-5 : tie.Need-returns-5
 returns-5 c = search (needs, at-command)
 
-pub record-at-spec : {M : Type 1} → statement M
-record-at-spec =
+pub decode-spec : {M : Type 1} → statement M
+decode-spec =
     tie.close
     (tie.spec
     shared-slice-read-kind
