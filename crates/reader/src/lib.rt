@@ -6,7 +6,7 @@ ghost use lib.ListN.{length, take, drop, getD};
 ghost use Rattle.rules.specs.Bytes.{byteAt, wordAt};
 ghost use mathlib.Core.Bool.{not, _&&_};
 ghost use Rattle.rules.specs.Records.{ofSheet, read};
-ghost use Rattle.reader.specs.Reading.{bodyLength, itemOf, itemRead, commandOf, commandRead, resultOf};
+ghost use Rattle.reader.specs.Reading.{bodyLength, nextOf, itemOf, itemRead, commandOf, commandRead, resultOf};
 
 // A catalogue record with the numbers of its body, in their order.
 pub enum Item {
@@ -234,6 +234,14 @@ pub fn decode(job: &[u8], at: usize, begun: bool) -> Record
     }
 }
 
+// The position behind the record at `at`, from the slice and the number.
+pub fn behind(job: &[u8], at: usize) -> usize
+    requires { ⌜ (at < length (now job)) × (length (now job) ≤ 65536) ⌝ }
+    ensures { λ r. ⌜ r ≡ nextOf (now (job .entry)) at ⌝ }
+{
+    at + 1 + body_length(job[at]) as usize
+}
+
 impl<'a> Reader<'a> {
     // The record at the position.
     pub fn read(self, begun: bool) -> Record
@@ -241,6 +249,14 @@ impl<'a> Reader<'a> {
         ensures { λ r. ⌜ resultOf r ≡ read begun (getD (now (self .entry .job)) (self .entry .at) 0) (drop (self .entry .at + 1) (now (self .entry .job))) ⌝ }
     {
         decode(self.job, self.at, begun)
+    }
+
+    // The position behind that record.
+    pub fn next(self) -> usize
+        requires { ⌜ (self .at < length (now (self .job))) × (length (now (self .job)) ≤ 65536) ⌝ }
+        ensures { λ r. ⌜ r ≡ nextOf (now (self .entry .job)) (self .entry .at) ⌝ }
+    {
+        behind(self.job, self.at)
     }
 }
 
@@ -250,4 +266,12 @@ pub fn record_at(job: &[u8], at: usize, begun: bool) -> Record
     ensures { λ r. ⌜ resultOf r ≡ read begun (getD (now (job .entry)) at 0) (drop (at + 1) (now (job .entry))) ⌝ }
 {
     Reader { job, at }.read(begun)
+}
+
+// The position behind the record at `at`.
+pub fn next_at(job: &[u8], at: usize) -> usize
+    requires { ⌜ (at < length (now job)) × (length (now job) ≤ 65536) ⌝ }
+    ensures { λ r. ⌜ r ≡ nextOf (now (job .entry)) at ⌝ }
+{
+    Reader { job, at }.next()
 }

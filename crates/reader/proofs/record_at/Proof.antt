@@ -1,5 +1,5 @@
 -- `reader::record_at` gives the record at a position of the job: a walk of its MIR, by hand. A reader is made of the slice and the number in a local, and passed to `Reader::read`. All that the proof knows of `Reader::read` is that it meets its contract.
--- A `&[u8]` is Copy, so what it owns is had twice: once for job at exit, and once inside the reader. In a local of a body MIR erases the lifetime of the reader's type: what the reader owns does not say the lifetime's name.
+-- What job owns is kept for the exit, and what the reader owns goes to the callee, beside the lifetime's token, which comes back. In a local of a body MIR erases the lifetime of the reader's type: what the reader owns does not say the lifetime's name.
 -- Assumes nothing.
 use mathlib.Core.Path.{_≡_, refl}
 use mathlib.Core.Bool.{Bool}
@@ -15,23 +15,21 @@ use prog.Memory.{Memory}
 use prog.Routine.{Routine}
 use prog.Wp.{Heap, Calls, Loops, WpFn, Tables}
 use ghost.Atoms.{Atoms, sem}
-use contract.Lifetimes.{Lfts}
 use contract.Monad.{Fun, fact}
 use contract.Running.{givenOf, tables, tablesOf}
 use types.Kit.{Given, ‵, raw, _⊛_, ⋆, some, later, _$_, _∵_, !, qed, by, move, drop, use1, use2, split, pick, fsplit, fjoin, suffices, frame, await, done}
 use types.Part.{agg}
 use types.Run.{look, init, forget, stop, from, load, and-then, no-more, assigns, land, returns, enter, alloc1, alloc0, params1, pass1, pass0, free1, free0}
 use sound.WpLaws.{FmC, fmOf, WpFn-mono}
-use denote.RattleType.{RattleType, owns}
+use denote.RattleType.{owns}
 use denote.Laws.{Is, shows}
 use denote.Plain.{uint-vals, uint-tells, uint-makes, bool-vals, bool-tells, bool-makes}
 use denote.Builtin.{u8, usize, bool}
-use denote.Ref.{RefT, NamedLft, now}
-use denote.Signature.{plain, namedLft}
-use denote.Slice.{sliceVal, ShrSlice, slice-vals, shr-slice-tells, shr-slice-lawful, shr-slice-copy}
+use denote.Ref.{RefT, now}
+use denote.Signature.{plain}
+use denote.Slice.{ShrSlice, slice-vals, shr-slice-tells, shr-slice-lawful}
 use denote.Steps.{owned, peeks, heard, nothing}
 use denote.Enum.Laws as EL
-use denote.Struct.Rest.{own-shut}
 use denote.Triple.Statement.{Contract, Triple}
 use denote.Triple.Call.{calls-at}
 use denote.Triple.Entry.{Vals, onEntry}
@@ -45,10 +43,10 @@ use Rattle.rules.specs.Records as rules
 use Rattle.reader.specs.Reading.{resultOf}
 use Rattle.reader.specs.declared.Reader.{Reader}
 use Rattle.reader.specs.declared.Record.{Record}
-use Rattle.reader.proofs.Reader as T
 use Rattle.reader.proofs.Reader.Laws as T′
 use Rattle.reader.proofs.Record as S
 use Rattle.reader.proofs.Record.Laws as S′
+use Rattle.reader.proofs.Held.{B, machine, OfReader, OfJob, puts-together}
 use Rattle.reader.proofs.Reader.read as read
 use Rattle.reader.proofs.Reader.read.Symbol as read-def
 use Rattle.reader.proofs.Reader.read.Symbol.{name as #reader·read}
@@ -57,10 +55,6 @@ use Rattle.reader.proofs.record_at.Key.{name as #reader·record-at}
 use Rattle.reader.proofs.record_at as record-at
 use Rattle.reader.proofs.record_at.Statement as stated
 use Rattle.reader.proofs.record_at.Code as code
-
--- the reader's type, over the signature's lifetimes
-abbrev B : Lfts 1 → RattleType
-B κs = T.the-row (namedLft 1 0 tt κs)
 
 abbrev stayed : Stays (record-at.ended .signature .params) (record-at.ended .kept)
 stayed = (stay-none-slice (0 ∷ []) tt (plain (λ _. u8)) yes, (stay-none (λ _. usize) yes, (stay-none (λ _. bool) yes, tt)))
@@ -71,12 +65,9 @@ module _ {M : Type 1} (𝓤 : URA M) (H : Heap 𝓤) (A : Atoms 𝓤) (mem : Mem
   Read = tripleOf 𝓤 H A read.signature (read.spec 𝓤 H A mem run)
 
 module _ {M : Type 1} (𝓤 : URA M) (H : Heap 𝓤) (A : Atoms 𝓤) (W : Given 𝓤 H A) (mem : Memory → SProp 𝓤) (run : Routine → Fun 𝓤) (κ : Lft) (q : Share) (s : RefT (List ℕ)) (n : ℕ) (fits : n < 2 ^ 64) (begun : Bool) (ok : n < length (now s)) where
-  abbrev α : NamedLft
-  α = namedLft 1 0 tt (κ, tt)
-
   -- the machine value of job
   abbrev v : Val
-  v = sliceVal (s .ptr) (length (s .now))
+  v = machine s
 
   abbrev made : Reader
   made = record { job = s; at = n }
@@ -91,9 +82,6 @@ module _ {M : Type 1} (𝓤 : URA M) (H : Heap 𝓤) (A : Atoms 𝓤) (W : Given
   abbrev Post : Val → SProp 𝓤
   Post = walkOf 𝓤 H A record-at.ended stayed (record-at.clauses 𝓤 H A mem run) .post (((κ, tt), (q, tt), tt, (s, (n, (begun, tt))), at), tt)
 
-  abbrev Own : Fml
-  Own = ShrSlice (named 0) κ u8 .own s (v ∷ [])
-
   -- what the callee is passed
   abbrev passed : Vals read.signature (κ, tt)
   passed = (T′.lowered made ∷ [], (vbool begun ∷ [], tt))
@@ -104,13 +92,11 @@ module _ {M : Type 1} (𝓤 : URA M) (H : Heap 𝓤) (A : Atoms 𝓤) (W : Given
   asked : ent 𝓤 (onEntry 𝓤 H A read.signature (κ, tt) (q, tt) (made, (begun, tt)) passed) (Read 𝓤 H A mem run .pre to)
   asked = qed W ((‵ (flft κ q) ⊛ ‵ ftrue) ∷ ‵ (owns (B (κ, tt) ∷ bool ∷ []) (made, (begun, tt)) passed) ∷ []) ∵ says ! ok $ frame ! $ done !
 
-  -- what job owns, beside the position's facts, is what the reader owns, and is kept
-  goes : ent 𝓤 (onEntry 𝓤 H A record-at.signature (κ, tt) (q, tt) (s, (n, (begun, tt))) at) (sep 𝓤 (Read 𝓤 H A mem run .pre to) (sem 𝓤 H A Own))
+  -- what job owns gives what the callee asks, and is kept
+  goes : ent 𝓤 (onEntry 𝓤 H A record-at.signature (κ, tt) (q, tt) (s, (n, (begun, tt))) at) (sep 𝓤 (Read 𝓤 H A mem run .pre to) (sem 𝓤 H A (OfJob κ s)))
   goes =
       qed W ((‵ (flft κ q) ⊛ ‵ ftrue) ∷ ‵ (owns (ShrSlice (named 0) κ u8 ∷ usize ∷ bool ∷ []) (s, (n, (begun, tt))) at) ∷ []) ∵
-      move ! (1 ∷ []) $ fsplit ! $ move ! (1 ∷ []) $ drop ! $ use1 W (‵ Own ⊛ ‵ Own) (shr-slice-copy 𝓤 H A W (named 0) κ u8 .twice s (v ∷ [])) $ split ! $
-      -- [what job owns; what job owns; the token]
-      nothing ! $ owned ! usize (Is usize) (uint-makes 𝓤 H A W w64) n _ (refl, fits) $ fjoin ! $ move ! (1 ∷ 0 ∷ []) $ fjoin ! $ use1 W (‵ (B (κ, tt) .own made (T′.lowered made ∷ []))) (own-shut 𝓤 H A W (T.the-type α) (T′.the-laws α) (s, (n, tt))) $
+      move ! (1 ∷ []) $ fsplit ! $ move ! (1 ∷ []) $ drop ! $ use1 W (‵ (OfReader κ made) ⊛ ‵ (OfJob κ s)) (puts-together 𝓤 H A W κ s n fits) $ split ! $
       -- [what the reader owns; what job owns; the token]
       nothing ! $ owned ! bool (Is bool) (bool-makes 𝓤 H A W) begun _ refl $ fjoin ! $ move ! (1 ∷ 0 ∷ []) $ fjoin ! $
       move ! (2 ∷ 0 ∷ []) $ use2 W (raw (Read 𝓤 H A mem run .pre to)) asked $ frame ! $ done !
@@ -119,9 +105,9 @@ module _ {M : Type 1} (𝓤 : URA M) (H : Heap 𝓤) (A : Atoms 𝓤) (W : Given
   said : (r : Record) → ent 𝓤 (ensured 𝓤 H A read.ended (read.clauses 𝓤 H A mem run) (κ, tt) (made, (begun, tt)) tt r) (fact 𝓤 (resultOf r ≡ found))
   said r = exE 𝓤 _ (λ ws. snd∗ 𝓤 (sem 𝓤 H A (lasts read.ended (κ, tt) (made, (begun, tt)) ws)) (fact 𝓤 (resultOf r ≡ found)))
 
-  exits : (r : Record) (u : Val) → resultOf r ≡ found → ent 𝓤 (⋆ 𝓤 H A (‵ (S.the-row .own r (u ∷ [])) ∷ (‵ (flft κ q) ⊛ ‵ ftrue) ∷ ‵ Own ∷ [])) (Post u)
+  exits : (r : Record) (u : Val) → resultOf r ≡ found → ent 𝓤 (⋆ 𝓤 H A (‵ (S.the-row .own r (u ∷ [])) ∷ (‵ (flft κ q) ⊛ ‵ ftrue) ∷ ‵ (OfJob κ s) ∷ [])) (Post u)
   exits r u e =
-      qed W (‵ (S.the-row .own r (u ∷ [])) ∷ (‵ (flft κ q) ⊛ ‵ ftrue) ∷ ‵ Own ∷ []) ∵
+      qed W (‵ (S.the-row .own r (u ∷ [])) ∷ (‵ (flft κ q) ⊛ ‵ ftrue) ∷ ‵ (OfJob κ s) ∷ []) ∵
       suffices ! _ (ends-at 𝓤 H A record-at.ended stayed (record-at.clauses 𝓤 H A mem run) W (((κ, tt), (q, tt), tt, (s, (n, (begun, tt))), at), tt) u r (tt, (tt, (tt, tt))) (tt, (tt, (tt, tt)))) $ says ! e $
       move ! (1 ∷ []) $ frame ! $ nothing ! $ owned ! bool (Is bool) (bool-makes 𝓤 H A W) begun _ refl $ fjoin ! $ owned ! usize (Is usize) (uint-makes 𝓤 H A W w64) n _ (refl, fits) $ fjoin ! $ move ! (2 ∷ 0 ∷ []) $ fjoin ! $ frame ! $ done !
 
@@ -132,7 +118,7 @@ module _ {M : Type 1} (𝓤 : URA M) (H : Heap 𝓤) (A : Atoms 𝓤) (W : Given
         alloc1 ! (λ l₀. alloc1 ! (λ l₁. alloc1 ! (λ l₂. alloc1 ! (λ l₃. alloc1 ! (λ l₄. alloc0 ! $ params1 ! $
         pass1 ! (init ! 6 refl (shr-slice-lawful 𝓤 H A W (named 0) κ u8 .typed s (v ∷ []) p .0)) $ pass1 ! (init ! 4 refl (tt, record { fits = fits })) $ pass1 ! (init ! 2 refl (tt, tt)) $ pass0 ! $
         assigns ! (agg ! (and-then ! (load ! (from ! (stop !)) (look ! 6 refl)) (and-then ! (load ! (from ! (stop !)) (look ! 4 refl)) (no-more !)))) (from ! (stop !)) (init ! 0 refl (tt, (shr-slice-lawful 𝓤 H A W (named 0) κ u8 .typed s (v ∷ []) p .0 .1, (record { fits = fits }, tt)))) $
-        move ! (10 ∷ []) $ use1 W (raw (Read 𝓤 H A mem run .pre to) ⊛ ‵ Own) goes $ split ! $
+        move ! (10 ∷ []) $ use1 W (raw (Read 𝓤 H A mem run .pre to) ⊛ ‵ (OfJob κ s)) goes $ split ! $
         calls-at ! fm (Read 𝓤 H A mem run) known to (and-then ! (load ! (from ! (stop !)) (look ! 2 refl)) (and-then ! (load ! (from ! (stop !)) (look ! 4 refl)) (no-more !))) (λ u.
         use1 W (later (some (λ (r : Record). ((‵ (flft κ q) ⊛ ‵ ftrue) ⊛ ‵ (S.the-row .own r (u ∷ []))) ⊛ raw (ensured 𝓤 H A read.ended (read.clauses 𝓤 H A mem run) (κ, tt) (made, (begun, tt)) tt r)))) (id⊢ 𝓤 _) $ await ! tt $ pick ! (λ r.
         split ! $ move ! (1 ∷ []) $ use1 W (raw (fact 𝓤 (resultOf r ≡ found))) (said r) $ heard ! (resultOf r ≡ found) (λ e. split ! $ move ! (1 ∷ []) $

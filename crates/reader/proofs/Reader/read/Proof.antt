@@ -1,5 +1,5 @@
 -- `reader::Reader::read` gives the record at the reader's position: a walk of its MIR, by hand. The reader is taken apart, and `decode` is called on the slice and the number. All that the proof knows of `decode` is that it meets its contract.
--- The reader is Copy: what it owns is had twice, one copy is kept whole for the exit, and of the other what job owns goes to the callee, beside the lifetime's token, which comes back.
+-- What the reader owns is kept for the exit, and what its job owns goes to the callee, beside the lifetime's token, which comes back.
 -- Assumes nothing.
 use mathlib.Core.Path.{_≡_, refl}
 use mathlib.Core.Bool.{Bool}
@@ -16,26 +16,21 @@ use prog.Memory.{Memory}
 use prog.Routine.{Routine}
 use prog.Wp.{Heap, Calls, Loops, WpFn, Tables}
 use ghost.Atoms.{Atoms, sem}
-use contract.Lifetimes.{Lfts}
 use contract.Monad.{Fun, fact}
 use contract.Running.{givenOf, tables, tablesOf}
 use types.Kit.{Given, ‵, raw, _⊛_, given, ⋆, some, later, _$_, _∵_, !, qed, by, move, drop, use1, use2, split, join, learn, pick, fsplit, fjoin, suffices, frame, await, done}
 use types.Part.{whole, sub, look-in}
 use types.Run.{look, init, forget, stop, fld, from, load, of-opd, and-then, no-more, assigns, land, returns, enter, alloc1, alloc0, params1, pass1, pass0, free1, free0}
 use sound.WpLaws.{FmC, fmOf, WpFn-mono}
-use denote.RattleType.{RattleType, owns}
+use denote.RattleType.{owns}
 use denote.Laws.{Is, shows}
 use denote.Plain.{uint-makes, bool-vals, bool-tells, bool-makes}
 use denote.Builtin.{u8, usize, bool}
 use denote.Ref.{now}
-use denote.Signature.{namedLft}
-use denote.Slice.{sliceVal, ShrSlice}
+use denote.Slice.{ShrSlice}
 use denote.Steps.{owned, peeks, heard, nothing}
 use denote.Enum.Laws as EL
-use denote.Struct.Declared.{Declared}
 use denote.Struct.Laws as LL
-use denote.Struct.Rest.{all-own, ownAt, rest, own-open, own-out}
-use denote.Struct.Values.{Values}
 use denote.Triple.Statement.{Contract, Triple}
 use denote.Triple.Call.{calls-at}
 use denote.Triple.Entry.{Vals, onEntry}
@@ -49,10 +44,10 @@ use Rattle.rules.specs.Records as rules
 use Rattle.reader.specs.Reading.{resultOf}
 use Rattle.reader.specs.declared.Reader.{Reader}
 use Rattle.reader.specs.declared.Record.{Record}
-use Rattle.reader.proofs.Reader as T
 use Rattle.reader.proofs.Reader.Laws as T′
 use Rattle.reader.proofs.Record as S
 use Rattle.reader.proofs.Record.Laws as S′
+use Rattle.reader.proofs.Held.{B, D, L, machine, OfReader, OfJob, takes-apart}
 use Rattle.reader.proofs.decode as decode
 use Rattle.reader.proofs.decode.Symbol as decode-def
 use Rattle.reader.proofs.decode.Symbol.{name as #reader·decode}
@@ -61,10 +56,6 @@ use Rattle.reader.proofs.Reader.read.Key.{name as #reader·read}
 use Rattle.reader.proofs.Reader.read as read
 use Rattle.reader.proofs.Reader.read.Statement as stated
 use Rattle.reader.proofs.Reader.read.Code as code
-
--- the reader's type, over the signature's lifetimes
-abbrev B : Lfts 1 → RattleType
-B κs = T.the-row (namedLft 1 0 tt κs)
 
 abbrev stayed : Stays (read.ended .signature .params) (read.ended .kept)
 stayed = (stay-none B yes, (stay-none (λ _. bool) yes, tt))
@@ -78,10 +69,6 @@ module _ {M : Type 1} (𝓤 : URA M) (H : Heap 𝓤) (A : Atoms 𝓤) (W : Given
   abbrev mach : Val
   mach = T′.lowered d
 
-  -- the machine value of job
-  abbrev v : Val
-  v = sliceVal (d .job .ptr) (length (d .job .now))
-
   abbrev found : Result rules.Record
   found = rules.read begun (getD (now (d .job)) (d .at) 0) (dropped (d .at + 1) (now (d .job)))
 
@@ -92,22 +79,9 @@ module _ {M : Type 1} (𝓤 : URA M) (H : Heap 𝓤) (A : Atoms 𝓤) (W : Given
   abbrev Post : Val → SProp 𝓤
   Post = walkOf 𝓤 H A read.ended stayed (read.clauses 𝓤 H A mem run) .post (((κ, tt), (q, tt), tt, (d, (begun, tt)), at), tt)
 
-  abbrev Own : Fml
-  Own = B (κ, tt) .own d (mach ∷ [])
-
-  -- the reader's type and laws, and d's fields' values
-  abbrev D : Declared
-  D = T.the-type (namedLft 1 0 tt (κ, tt))
-
-  abbrev L : LL.Laws D
-  L = T′.the-laws (namedLft 1 0 tt (κ, tt))
-
-  abbrev vd : Values (D .parts)
-  vd = (d .job, (d .at, tt))
-
   -- what the callee is passed
   abbrev passed : Vals decode.signature (κ, tt)
-  passed = (v ∷ [], (vint w64 (d .at) ∷ [], (vbool begun ∷ [], tt)))
+  passed = (machine (d .job) ∷ [], (vint w64 (d .at) ∷ [], (vbool begun ∷ [], tt)))
 
   abbrev to : Decode 𝓤 H A mem run .Ghost
   to = (((κ, tt), (q, tt), tt, (d .job, (d .at, (begun, tt))), passed), tt)
@@ -116,22 +90,21 @@ module _ {M : Type 1} (𝓤 : URA M) (H : Heap 𝓤) (A : Atoms 𝓤) (W : Given
   asked = qed W ((‵ (flft κ q) ⊛ ‵ ftrue) ∷ ‵ (owns (ShrSlice (named 0) κ u8 ∷ usize ∷ bool ∷ []) (d .job, (d .at, (begun, tt))) passed) ∷ []) ∵ says ! ok $ frame ! $ done !
 
   -- what the reader owns gives what the callee asks, and is kept
-  apart : d .at < 2 ^ 64 → ent 𝓤 (onEntry 𝓤 H A read.signature (κ, tt) (q, tt) (d, (begun, tt)) at) (sep 𝓤 (Decode 𝓤 H A mem run .pre to) (sem 𝓤 H A Own))
+  apart : d .at < 2 ^ 64 → ent 𝓤 (onEntry 𝓤 H A read.signature (κ, tt) (q, tt) (d, (begun, tt)) at) (sep 𝓤 (Decode 𝓤 H A mem run .pre to) (sem 𝓤 H A (OfReader κ d)))
   apart fits =
       qed W ((‵ (flft κ q) ⊛ ‵ ftrue) ∷ ‵ (owns (B (κ, tt) ∷ bool ∷ []) (d, (begun, tt)) at) ∷ []) ∵
-      move ! (1 ∷ []) $ fsplit ! $ move ! (1 ∷ []) $ drop ! $ use1 W (‵ Own ⊛ ‵ Own) (LL.copy D (T′.the-copy (namedLft 1 0 tt (κ, tt))) 𝓤 H A W .twice d (mach ∷ [])) $ split ! $
-      use1 W (given (mach ∷ [] ≡ mach ∷ []) (‵ (all-own (D .parts) L vd))) (own-open 𝓤 H A W D L vd mach) $ learn ! (λ _. use1 W (‵ (ownAt (D .parts) L 0 (d .job)) ⊛ ‵ (rest (D .parts) L 0 vd)) (own-out 𝓤 H A W (D .parts) L 0 vd) $ split ! $
-      -- [what job owns; what at owns; what the reader owns; the token]
-      move ! (1 ∷ []) $ drop ! $ nothing ! $ owned ! bool (Is bool) (bool-makes 𝓤 H A W) begun _ refl $ fjoin ! $ owned ! usize (Is usize) (uint-makes 𝓤 H A W w64) (d .at) _ (refl, fits) $ fjoin ! $ move ! (1 ∷ 0 ∷ []) $ fjoin ! $
-      move ! (2 ∷ 0 ∷ []) $ use2 W (raw (Decode 𝓤 H A mem run .pre to)) asked $ frame ! $ done !)
+      move ! (1 ∷ []) $ fsplit ! $ move ! (1 ∷ []) $ drop ! $ use1 W (‵ (OfJob κ (d .job)) ⊛ ‵ (OfReader κ d)) (takes-apart 𝓤 H A W κ d) $ split ! $
+      -- [what job owns; what the reader owns; the token]
+      nothing ! $ owned ! bool (Is bool) (bool-makes 𝓤 H A W) begun _ refl $ fjoin ! $ owned ! usize (Is usize) (uint-makes 𝓤 H A W w64) (d .at) _ (refl, fits) $ fjoin ! $ move ! (1 ∷ 0 ∷ []) $ fjoin ! $
+      move ! (2 ∷ 0 ∷ []) $ use2 W (raw (Decode 𝓤 H A mem run .pre to)) asked $ frame ! $ done !
 
   -- of the callee's `ensured`, the clause alone: it has no `&mut`, so what is said of last values is dropped
   said : (r : Record) → ent 𝓤 (ensured 𝓤 H A decode.ended (decode.clauses 𝓤 H A mem run) (κ, tt) (d .job, (d .at, (begun, tt))) tt r) (fact 𝓤 (resultOf r ≡ found))
   said r = exE 𝓤 _ (λ ws. snd∗ 𝓤 (sem 𝓤 H A (lasts decode.ended (κ, tt) (d .job, (d .at, (begun, tt))) ws)) (fact 𝓤 (resultOf r ≡ found)))
 
-  exits : (r : Record) (u : Val) → resultOf r ≡ found → ent 𝓤 (⋆ 𝓤 H A (‵ (S.the-row .own r (u ∷ [])) ∷ (‵ (flft κ q) ⊛ ‵ ftrue) ∷ ‵ Own ∷ [])) (Post u)
+  exits : (r : Record) (u : Val) → resultOf r ≡ found → ent 𝓤 (⋆ 𝓤 H A (‵ (S.the-row .own r (u ∷ [])) ∷ (‵ (flft κ q) ⊛ ‵ ftrue) ∷ ‵ (OfReader κ d) ∷ [])) (Post u)
   exits r u e =
-      qed W (‵ (S.the-row .own r (u ∷ [])) ∷ (‵ (flft κ q) ⊛ ‵ ftrue) ∷ ‵ Own ∷ []) ∵
+      qed W (‵ (S.the-row .own r (u ∷ [])) ∷ (‵ (flft κ q) ⊛ ‵ ftrue) ∷ ‵ (OfReader κ d) ∷ []) ∵
       suffices ! _ (ends-at 𝓤 H A read.ended stayed (read.clauses 𝓤 H A mem run) W (((κ, tt), (q, tt), tt, (d, (begun, tt)), at), tt) u r (tt, (tt, tt)) (tt, (tt, tt))) $ says ! e $
       move ! (1 ∷ []) $ frame ! $ nothing ! $ owned ! bool (Is bool) (bool-makes 𝓤 H A W) begun _ refl $ fjoin ! $ move ! (2 ∷ 0 ∷ []) $ fjoin ! $ frame ! $ done !
 
@@ -142,7 +115,7 @@ module _ {M : Type 1} (𝓤 : URA M) (H : Heap 𝓤) (A : Atoms 𝓤) (W : Given
         alloc1 ! (λ l₀. alloc1 ! (λ l₁. alloc1 ! (λ l₂. alloc1 ! (λ l₃. alloc1 ! (λ l₄. alloc0 ! $ params1 ! $ pass1 ! (init ! 6 refl wt) $ pass1 ! (init ! 4 refl (tt, tt)) $ pass0 ! $
         assigns ! (of-opd ! (load ! (from ! (fld ! refl (stop !))) (look-in ! 6 (sub ! 0 refl (whole !))))) (from ! (stop !)) (init ! 2 refl (tt, wt .1 .0)) $
         assigns ! (of-opd ! (load ! (from ! (fld ! refl (stop !))) (look-in ! 6 (sub ! 1 refl (whole !))))) (from ! (stop !)) (init ! 0 refl (tt, wt .1 .1 .0)) $
-        move ! (10 ∷ []) $ use1 W (raw (Decode 𝓤 H A mem run .pre to) ⊛ ‵ Own) (apart (wt .1 .1 .0 .fits)) $ split ! $
+        move ! (10 ∷ []) $ use1 W (raw (Decode 𝓤 H A mem run .pre to) ⊛ ‵ (OfReader κ d)) (apart (wt .1 .1 .0 .fits)) $ split ! $
         calls-at ! fm (Decode 𝓤 H A mem run) known to (and-then ! (load ! (from ! (stop !)) (look ! 4 refl)) (and-then ! (load ! (from ! (stop !)) (look ! 2 refl)) (and-then ! (load ! (from ! (stop !)) (look ! 6 refl)) (no-more !)))) (λ u.
         use1 W (later (some (λ (r : Record). ((‵ (flft κ q) ⊛ ‵ ftrue) ⊛ ‵ (S.the-row .own r (u ∷ []))) ⊛ raw (ensured 𝓤 H A decode.ended (decode.clauses 𝓤 H A mem run) (κ, tt) (d .job, (d .at, (begun, tt))) tt r)))) (id⊢ 𝓤 _) $ await ! tt $ pick ! (λ r.
         split ! $ move ! (1 ∷ []) $ use1 W (raw (fact 𝓤 (resultOf r ≡ found))) (said r) $ heard ! (resultOf r ≡ found) (λ e. split ! $ move ! (1 ∷ []) $
@@ -155,9 +128,9 @@ module _ {M : Type 1} (𝓤 : URA M) (H : Heap 𝓤) (A : Atoms 𝓤) (W : Given
 module _ {M : Type 1} (𝓤 : URA M) (H : Heap 𝓤) (A : Atoms 𝓤) (W : Given 𝓤 H A) (mem : Memory → SProp 𝓤) (run : Routine → Fun 𝓤) where
   read-walks : (C : Calls 𝓤 H) (Λ : Loops 𝓤 H) → FmC 𝓤 H (W .laws) C → Triple 𝓤 (C #reader·decode) (Decode 𝓤 H A mem run)
       → Walks 𝓤 H A read.ended stayed (WpFn 𝓤 H C Λ code.function) (read.clauses 𝓤 H A mem run)
-  read-walks C Λ fm known = walked 𝓤 H A read.ended stayed (read.clauses 𝓤 H A mem run) (WpFn 𝓤 H C Λ code.function) (λ κs. (LL.vals (T.the-type (namedLft 1 0 tt κs)) (T′.the-laws (namedLft 1 0 tt κs)), (bool-vals, tt))) (λ κs. (LL.tells (T.the-type (namedLft 1 0 tt κs)) (T′.the-laws (namedLft 1 0 tt κs)), (bool-tells, tt)))
+  read-walks C Λ fm known = walked 𝓤 H A read.ended stayed (read.clauses 𝓤 H A mem run) (WpFn 𝓤 H C Λ code.function) (λ κs. (LL.vals (D κs) (L κs), (bool-vals, tt))) (λ κs. (LL.tells (D κs) (L κs), (bool-tells, tt)))
       (λ κs qs bounds a g are. needs 𝓤 _ _
-      (λ ok. walk 𝓤 H A W mem run (κs .0) (qs .0) (a .0) (a .1 .0) ok C Λ fm known (LL.lawful (T.the-type (namedLft 1 0 tt κs)) (T′.the-laws (namedLft 1 0 tt κs)) 𝓤 H A W .typed (a .0) _ (are .0) .0)))
+      (λ ok. walk 𝓤 H A W mem run (κs .0) (qs .0) (a .0) (a .1 .0) ok C Λ fm known (LL.lawful (D κs) (L κs) 𝓤 H A W .typed (a .0) _ (are .0) .0)))
 
 read-meets : {M : Type 1} (𝓤 : URA M) (H : Heap 𝓤) (A : Atoms 𝓤) (W : Given 𝓤 H A) (mem : Memory → SProp 𝓤) (run : Routine → Fun 𝓤) (𝓣 : Tables 𝓤 H)
     → Triple 𝓤 (𝓣 .C #reader·decode) (Decode 𝓤 H A mem run)
