@@ -1,4 +1,5 @@
 // Job bytes to records: one byte of kind, then a body whose length the kind fixes. Refusals 2 and 1.
+// A `Reader` carries the lent job with its position: its functions take it apart and call a function on the slice and the number.
 use refusal::Refusal;
 ghost use mathlib.Core.Path.{_≡_};
 ghost use Prim.Native.Nat.{_+_, _*_, _<_, _≤_, _-_};
@@ -210,7 +211,7 @@ pub fn out_of_place(begun: bool, kind: u8) -> bool
     if begun { kind < 32 } else { false }
 }
 
-// The record at `at`, from the slice and the number; `begun`: a sheet record has stood before.
+// The record at `at`, decoded on the slice and the number.
 pub fn decode(job: &[u8], at: usize, begun: bool) -> Record
     requires { ⌜ at < length (now job) ⌝ }
     ensures { λ r. ⌜ resultOf r ≡ read begun (getD (now (job .entry)) at 0) (drop (at + 1) (now (job .entry))) ⌝ }
@@ -234,7 +235,7 @@ pub fn decode(job: &[u8], at: usize, begun: bool) -> Record
     }
 }
 
-// The position behind the record at `at`, from the slice and the number.
+// The position behind the record at `at`.
 pub fn behind(job: &[u8], at: usize) -> usize
     requires { ⌜ (at < length (now job)) × (length (now job) ≤ 65536) ⌝ }
     ensures { λ r. ⌜ r ≡ nextOf (now (job .entry)) at ⌝ }
@@ -243,7 +244,7 @@ pub fn behind(job: &[u8], at: usize) -> usize
 }
 
 impl<'a> Reader<'a> {
-    // The record at the position.
+    // The record at the reader's position.
     pub fn read(self, begun: bool) -> Record
         requires { ⌜ self .at < length (now (self .job)) ⌝ }
         ensures { λ r. ⌜ resultOf r ≡ read begun (getD (now (self .entry .job)) (self .entry .at) 0) (drop (self .entry .at + 1) (now (self .entry .job))) ⌝ }
@@ -260,7 +261,9 @@ impl<'a> Reader<'a> {
     }
 }
 
-// The record at `at`.
+// What callers use: the parameters are plain, so that their proofs need no walk.
+
+// The record at `at`; `begun`: a sheet record has stood before.
 pub fn record_at(job: &[u8], at: usize, begun: bool) -> Record
     requires { ⌜ at < length (now job) ⌝ }
     ensures { λ r. ⌜ resultOf r ≡ read begun (getD (now (job .entry)) at 0) (drop (at + 1) (now (job .entry))) ⌝ }
