@@ -44,7 +44,7 @@ same-length-3 : tie.Need-same-length-3
 same-length-3 c = search needs
 
 returns-3 : tie.Need-returns-3
-returns-3 c = search (needs, step-carried)
+returns-3 c = step-carried _ _ _ (c .before .before .before .before .before .before .before .before .before .before .before .before .before .before .before .before .before .before .before .before .before .before .before .before .before .pre .0 .0) (c .before .before .before .before .before .before .before .before .before .before .before .before .before .before .before .before .record-at .ensures) _ (search needs) (c .before .before .before .before .before .before .before .before .before .carry-out .ensures) _ _ (c .before .before .before .before .before .before .before .before .before .before .before .before .before .before .before .before .before .next-at .ensures) (search needs)
 
 same-length-4 : tie.Need-same-length-4
 same-length-4 c = search needs
