@@ -26,7 +26,7 @@ use Rattle.reader.specs.declared.Item.{Item}
 use Rattle.reader.specs.declared.Command as code
 use Rattle.reader.specs.declared.Record.{Record}
 use Rattle.reader.specs.declared.Record.the-variants as R
-use Rattle.reader.specs.Reading.{itemOf, commandOf, resultOf, bodyLength}
+use Rattle.reader.specs.Reading.{itemOf, commandOf, resultOf, nextOf}
 use Rattle.reader.proofs.Laws.{body-read}
 use Rattle.state.specs.declared.Limits.{Limits}
 use Rattle.encoder.specs.declared.Counters.{Counters}
@@ -124,33 +124,33 @@ module _ {c : Catalogue} {l : Limits} (job : List ℕ) (at : ℕ) {n : Counters}
     pub step-refused : (f : Refusal) → r ≡ outcome.Refused f → StepDid c l job at n st cl wt (Step.Refused f) st′ cl′ wt′
     step-refused f y = refuses f (λ s g z o t p. not-carried l job at h c s t p (commandOf k) is-read (refusalOf f) (d .refused f y s g z o))
 
-    behind : (b : ℕ) → b ≡ bodyLength (getD job at 0) → at + 1 + b ≡ at + 1 + bodyOf (kindOf (getD job at 0))
-    behind b u = rw (body-read true (getD job at 0) (drop (at + 1) job) _ is-read, u)
+    behind : (next : ℕ) → next ≡ nextOf job at → next ≡ at + 1 + bodyOf (kindOf (getD job at 0))
+    behind next u = rw (body-read true (getD job at 0) (drop (at + 1) job) _ is-read) u
 
-    whole : (b : ℕ) → b ≡ bodyLength (getD job at 0) → at + 1 + b ≤ length job
+    whole : (next : ℕ) → next ≡ nextOf job at → next ≤ length job
     unfolding bodyOf
-    whole b u =
+    whole next u =
         let a = read-ok true (getD job at 0) (drop (at + 1) job) (sheet (commandOf k)) is-read in
         let w : a .body ≤ length job - (at + 1) = rw length-drop at (a .whole) in
-        let z : at + 1 + b ≡ at + 1 + a .body = behind b u ∙ rw (a .found) in
+        let z : next ≡ at + 1 + a .body = behind next u ∙ rw (a .found) in
         omega (arith, h)
 
-    pub step-carried : (b : ℕ) (m : Counters) → b ≡ bodyLength (getD job at 0) → r ≡ outcome.Carried m → StepDid c l job at n st cl wt (Step.Next (at + 1 + b) m) st′ cl′ wt′
-    step-carried b m u y =
+    pub step-carried : (next : ℕ) (m : Counters) → next ≡ nextOf job at → r ≡ outcome.Carried m → StepDid c l job at n st cl wt (Step.Next next m) st′ cl′ wt′
+    step-carried next m u y =
         record {
-          next = λ a m′ v. let i : a ≡ at + 1 + b = cc in let j : m′ ≡ m = cc in rw (i, j) passed;
+          next = λ a m′ v. let i : a ≡ next = cc in let j : m′ ≡ m = cc in rw (i, j) passed;
           refused = λ f v. absurd (not-one (cc));
         }
       where
-        passed : (s : State) → Given c → Reached (limitsOf l) c s → Holds c l s n st cl wt → Passed c l job at (at + 1 + b) s n m st′ cl′ wt′
+        passed : (s : State) → Given c → Reached (limitsOf l) c s → Holds c l s n st cl wt → Passed c l job at next s n m st′ cl′ wt′
         passed s g z o =
             let x = d .carried m y s g z o in
             record {
-              onward = omega (arith, behind b u, sheet-body (getD job at 0) (drop (at + 1) job) (commandOf k) is-read);
-              inside = whole b u;
+              onward = omega (arith, behind next u, sheet-body (getD job at 0) (drop (at + 1) job) (commandOf k) is-read);
+              inside = whole next u;
               runs = x .runs;
               state = x .state;
               reached = then-reached z (commandOf k) (x .is);
               holds = x .holds;
-              alike = λ t p. goes-on l job at h c s t p (commandOf k) is-read (x .state) (at + 1 + b) (behind b u) (x .is);
+              alike = λ t p. goes-on l job at h c s t p (commandOf k) is-read (x .state) next (behind next u) (x .is);
             }

@@ -90,7 +90,7 @@ fn carry_record(
     requires { ⌜ LongEnough l (length (now clauses)) (length (now w)) × (n .runs < 65535) ⌝ }
     ensures { λ r. ⌜ StepDid (catalogue k (now (marks .entry)) (now (unions .entry)) (now (t .entry))) l (now (job .entry)) at n (held l (now (s .entry))) (now (clauses .entry)) (now (w .entry)) r (held l (now (s .exit))) (now (clauses .exit)) (now (w .exit)) ⌝ }
 {
-    let next = at + 1 + reader::body_length(job[at]) as usize;
+    let next = reader::next_at(job, at);
     match reader::record_at(job, at, true) {
         Record::Refused(refusal) => Step::Refused(refusal),
         Record::Catalogue(_) => Step::Refused(Refusal::OutOfPlace),

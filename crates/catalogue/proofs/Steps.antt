@@ -26,7 +26,7 @@ use Rattle.reader.specs.declared.Item.the-variants as I
 use Rattle.reader.specs.declared.Command.{Command}
 use Rattle.reader.specs.declared.Record.{Record}
 use Rattle.reader.specs.declared.Record.the-variants as R
-use Rattle.reader.specs.Reading.{itemOf, resultOf, commandOf, bodyLength}
+use Rattle.reader.specs.Reading.{itemOf, resultOf, commandOf, nextOf}
 use Rattle.reader.proofs.Laws.{body-read}
 use Rattle.tables.specs.declared.Counts.{Counts}
 use Rattle.tables.specs.Tables.{listed, tables, tablesIn}
@@ -203,12 +203,12 @@ module _ (job : List ℕ) (at : ℕ) (k : Counts) (m u t : List ℕ) (y : Ready 
           then = tt;
         }
 
-pub item-at : (job : List ℕ) (at n : ℕ) (b : Bool) (x : Record) (i : D.Item) → at < length job → b ≡ startsSheet (getD job at 0) (kindOf (getD job at 0)) → b ≡ false
-    → n ≡ bodyLength (getD job at 0) → resultOf x ≡ read false (getD job at 0) (drop (at + 1) job) → x ≡ R.Catalogue i → ItemAt job at (at + 1 + n) (itemOf i)
+pub item-at : (job : List ℕ) (at next : ℕ) (b : Bool) (x : Record) (i : D.Item) → at < length job → b ≡ startsSheet (getD job at 0) (kindOf (getD job at 0)) → b ≡ false
+    → next ≡ nextOf job at → resultOf x ≡ read false (getD job at 0) (drop (at + 1) job) → x ≡ R.Catalogue i → ItemAt job at next (itemOf i)
 unfolding resultOf
-item-at job at n b x i h s l d e q =
+item-at job at next b x i h s l d e q =
     let g : read false (getD job at 0) (drop (at + 1) job) ≡ rules.ok (records.catalogue (itemOf i)) = sym (rw q at e) in
-    record { there = h; kind = sym s ∙ l; is = g; behind = rw (body-read false (getD job at 0) (drop (at + 1) job) _ g, d) }
+    record { there = h; kind = sym s ∙ l; is = g; behind = rw (body-read false (getD job at 0) (drop (at + 1) job) _ g) d }
 
 module _ (job : List ℕ) (at next : ℕ) (k : Counts) (m u t : List ℕ) (i : Item) (y : Ready at k m u t) (x : ItemAt job at next i) where
   whole : next ≤ length job

@@ -537,8 +537,7 @@ pub fn read_record(
     if starts_sheet(kind) {
         return Step::Sheet;
     }
-    let n = reader::body_length(kind);
-    let next = at + 1 + n as usize;
+    let next = reader::next_at(job, at);
     let record = reader::record_at(job, at, false);
     match record {
         Record::Refused(refusal) => Step::Refused(refusal),

@@ -1,4 +1,5 @@
 // Job bytes to records: one byte of kind, then a body whose length the kind fixes. Refusals 2 and 1.
+// A `Reader` carries the lent job with its position: its functions take it apart and call a function on the slice and the number.
 use refusal::Refusal;
 ghost use mathlib.Core.Path.{_≡_};
 ghost use Prim.Native.Nat.{_+_, _*_, _<_, _≤_, _-_};
@@ -6,7 +7,7 @@ ghost use lib.ListN.{length, take, drop, getD};
 ghost use Rattle.rules.specs.Bytes.{byteAt, wordAt};
 ghost use mathlib.Core.Bool.{not, _&&_};
 ghost use Rattle.rules.specs.Records.{ofSheet, read};
-ghost use Rattle.reader.specs.Reading.{bodyLength, itemOf, itemRead, commandOf, commandRead, resultOf};
+ghost use Rattle.reader.specs.Reading.{bodyLength, nextOf, itemOf, itemRead, commandOf, commandRead, resultOf};
 
 // A catalogue record with the numbers of its body, in their order.
 pub enum Item {
@@ -63,6 +64,12 @@ pub enum Record {
     Catalogue(Item),
     Sheet(Command),
     Refused(Refusal),
+}
+
+// The lent job together with a position in it.
+pub struct Reader<'a> {
+    pub job: &'a [u8],
+    pub at: usize,
 }
 
 // The length of each kind's body, and 99 for a number that is no kind.
@@ -204,8 +211,8 @@ pub fn out_of_place(begun: bool, kind: u8) -> bool
     if begun { kind < 32 } else { false }
 }
 
-// The record at `at`; `begun`: a sheet record has stood before.
-pub fn record_at(job: &[u8], at: usize, begun: bool) -> Record
+// The record at `at`, decoded on the slice and the number.
+pub fn decode(job: &[u8], at: usize, begun: bool) -> Record
     requires { ⌜ at < length (now job) ⌝ }
     ensures { λ r. ⌜ resultOf r ≡ read begun (getD (now (job .entry)) at 0) (drop (at + 1) (now (job .entry))) ⌝ }
 {
@@ -226,4 +233,48 @@ pub fn record_at(job: &[u8], at: usize, begun: bool) -> Record
     } else {
         Record::Sheet(read_command(kind, b))
     }
+}
+
+// The position behind the record at `at`.
+pub fn behind(job: &[u8], at: usize) -> usize
+    requires { ⌜ (at < length (now job)) × (length (now job) ≤ 65536) ⌝ }
+    ensures { λ r. ⌜ r ≡ nextOf (now (job .entry)) at ⌝ }
+{
+    at + 1 + body_length(job[at]) as usize
+}
+
+impl<'a> Reader<'a> {
+    // The record at the reader's position.
+    pub fn read(self, begun: bool) -> Record
+        requires { ⌜ self .at < length (now (self .job)) ⌝ }
+        ensures { λ r. ⌜ resultOf r ≡ read begun (getD (now (self .entry .job)) (self .entry .at) 0) (drop (self .entry .at + 1) (now (self .entry .job))) ⌝ }
+    {
+        decode(self.job, self.at, begun)
+    }
+
+    // The position behind that record.
+    pub fn next(self) -> usize
+        requires { ⌜ (self .at < length (now (self .job))) × (length (now (self .job)) ≤ 65536) ⌝ }
+        ensures { λ r. ⌜ r ≡ nextOf (now (self .entry .job)) (self .entry .at) ⌝ }
+    {
+        behind(self.job, self.at)
+    }
+}
+
+// What callers use: the parameters are plain, so that their proofs need no walk.
+
+// The record at `at`; `begun`: a sheet record has stood before.
+pub fn record_at(job: &[u8], at: usize, begun: bool) -> Record
+    requires { ⌜ at < length (now job) ⌝ }
+    ensures { λ r. ⌜ resultOf r ≡ read begun (getD (now (job .entry)) at 0) (drop (at + 1) (now (job .entry))) ⌝ }
+{
+    Reader { job, at }.read(begun)
+}
+
+// The position behind the record at `at`.
+pub fn next_at(job: &[u8], at: usize) -> usize
+    requires { ⌜ (at < length (now job)) × (length (now job) ≤ 65536) ⌝ }
+    ensures { λ r. ⌜ r ≡ nextOf (now (job .entry)) at ⌝ }
+{
+    Reader { job, at }.next()
 }

@@ -4,20 +4,8 @@ use Rattle.carried.proofs.Records.{step-unread, step-item, step-refused
 use Rattle.carried.proofs.carry_record.Statement.{statement}
 use Rattle.carried.proofs.carry_record.Tie as tie
 
-add-next : tie.Need-add-next
-add-next c = search needs
-
-shared-slice-read-body-length : tie.Need-shared-slice-read-body-length
-shared-slice-read-body-length c = search needs
-
-body-length-requires : tie.Need-body-length-requires
-body-length-requires c κs = search needs
-
-cast-next : tie.Need-cast-next
-cast-next c = search needs
-
-add-next-2 : tie.Need-add-next-2
-add-next-2 c = search needs
+next-at-requires : tie.Need-next-at-requires
+next-at-requires c κs = search needs
 
 record-at-requires : tie.Need-record-at-requires
 record-at-requires c κs = search needs
@@ -56,7 +44,7 @@ same-length-3 : tie.Need-same-length-3
 same-length-3 c = search needs
 
 returns-3 : tie.Need-returns-3
-returns-3 c = step-carried _ _ _ (c .before .before .before .before .before .before .before .before .before .before .before .before .before .before .before .before .before .before .before .before .before .before .before .before .before .before .pre .0 .0) (c .before .before .before .before .before .before .before .before .before .before .before .before .before .before .before .before .record-at .ensures) _ (search needs) (c .before .before .before .before .before .before .before .before .before .carry-out .ensures) _ _ (c .before .before .before .before .before .before .before .before .before .before .before .before .before .before .before .before .before .body-length .ensures) (search needs)
+returns-3 c = step-carried _ _ _ (c .before .before .before .before .before .before .before .before .before .before .before .before .before .before .before .before .before .before .before .before .before .before .before .before .before .pre .0 .0) (c .before .before .before .before .before .before .before .before .before .before .before .before .before .before .before .before .record-at .ensures) _ (search needs) (c .before .before .before .before .before .before .before .before .before .carry-out .ensures) _ _ (c .before .before .before .before .before .before .before .before .before .before .before .before .before .before .before .before .before .next-at .ensures) (search needs)
 
 same-length-4 : tie.Need-same-length-4
 same-length-4 c = search needs
@@ -74,11 +62,7 @@ pub carry-record-spec : {M : Type 1} → statement M
 carry-record-spec =
     tie.close
     (tie.spec
-    add-next
-    shared-slice-read-body-length
-    body-length-requires
-    cast-next
-    add-next-2
+    next-at-requires
     record-at-requires
     enum-known-refusal
     enum-told

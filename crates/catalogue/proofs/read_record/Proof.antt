@@ -13,17 +13,8 @@ starts-sheet-requires c κs = search needs
 returns : tie.Need-returns
 returns c = search (needs, step-sheet)
 
-body-length-requires : tie.Need-body-length-requires
-body-length-requires c κs = search needs
-
-add-next : tie.Need-add-next
-add-next c = search needs
-
-cast-next : tie.Need-cast-next
-cast-next c = search needs
-
-add-next-2 : tie.Need-add-next-2
-add-next-2 c = search needs
+next-at-requires : tie.Need-next-at-requires
+next-at-requires c κs = search needs
 
 record-at-requires : tie.Need-record-at-requires
 record-at-requires c κs = search needs
@@ -65,10 +56,7 @@ read-record-spec =
     shared-slice-read-kind
     starts-sheet-requires
     returns
-    body-length-requires
-    add-next
-    cast-next
-    add-next-2
+    next-at-requires
     record-at-requires
     enum-known-record
     enum-told
