@@ -22,7 +22,7 @@ use Rattle.rules.proofs.Line.{emit-opening}
 use Rattle.rules.proofs.ClauseByClause.{effects-changed}
 use Rattle.rules.proofs.DistinctEnough.{fold-append}
 use Rattle.encoder.specs.Did.{onOpening}
-use Rattle.binary_encoding.specs.Joining.{tracking, joinStep, joinIf, joinName, joinNames, forgetNamed}
+use Rattle.tracking.specs.Joining.{tracking, joinStep, joinIf, joinName, joinNames, forgetNamed}
 
 -- ---- a one-of-name variable that is linked
 

@@ -29,8 +29,8 @@ use Rattle.encoder.specs.Held.{runOf, openingOf, stateOf, Good}
 use Rattle.encoder.specs.Did.{Widens, onOpening, ClausesDid}
 use Rattle.goals.specs.Goals.{Gathers}
 use Rattle.goals.proofs.Released.{good-hand, did-released}
-use Rattle.binary_encoding.specs.Joining.{Makes, GoodOf, partName, namesOf, NamesLow, MakesOf, joinNames, forgetNamed, Forgets, CanJoin}
-use Rattle.binary_encoding.proofs.Steps.{makes-as, makes-then}
+use Rattle.tracking.specs.Joining.{Makes, GoodOf, partName, namesOf, NamesLow, MakesOf, joinNames, forgetNamed, Forgets, CanJoin}
+use Rattle.tracking.proofs.Steps.{makes-as, makes-then}
 use Rattle.binary_encoding.proofs.Track.{name-held}
 use Rattle.binary_encoding.proofs.Joins.{state-makes}
 use Rattle.binary_encoding.proofs.Names.{of-named, of-beside, of-after}

@@ -42,8 +42,8 @@ use Rattle.encoder.specs.Held.{runOf, Reading, openingOf, stateOf}
 use Rattle.encoder.specs.Did.{Widens, onOpening, StateDid}
 use Rattle.encoder.proofs.Did.{widens-then}
 use Rattle.encoder.proofs.Widening.{widens-opening, widens-when}
-use Rattle.binary_encoding.specs.Joining.{Makes, AddsAll, NamesAll, GoodOf, GoodSome, GoodAny, firstHelpers, joinOrigins, helperVariables, partName, ofName, NamesLow, newHelperClauses, oneClauses, trackedClauses, joinedClauses, tracking, Tracks, MakesOf, trackWith, joinStep, joinIf, CanJoin, CanAddPart}
-use Rattle.binary_encoding.proofs.Steps.{blind, of-some, some-good, some-tracked, some-all, makes-as, makes-stop, makes-then, makes-idle, clauses-widen, clauses-same}
+use Rattle.tracking.specs.Joining.{Makes, AddsAll, NamesAll, GoodOf, GoodSome, GoodAny, firstHelpers, joinOrigins, helperVariables, partName, ofName, NamesLow, newHelperClauses, oneClauses, trackedClauses, joinedClauses, tracking, Tracks, MakesOf, trackWith, joinStep, joinIf, CanJoin, CanAddPart}
+use Rattle.tracking.proofs.Steps.{blind, of-some, some-good, some-tracked, some-all, makes-as, makes-stop, makes-then, makes-idle, clauses-widen, clauses-same}
 use Rattle.binary_encoding.proofs.Track.{name-held, of-name-held, track-free, tracking-lengthens}
 
 -- ---- after origins have got variables

@@ -36,8 +36,8 @@ use Rattle.encoder.specs.declared.Run as code
 use Rattle.encoder.specs.Held.{runOf, openingOf, stateOf, Good, LongEnough}
 use Rattle.encoder.specs.Did.{Widens, ClausesDid}
 use Rattle.encoder.proofs.Did.{widens-fold}
-use Rattle.binary_encoding.specs.Joining.{Makes, AddsAll, GoodSome, ofName, variablesOf, anyClauses, linkClauses, CanLink}
-use Rattle.binary_encoding.proofs.Steps.{some-good, some-all, makes-as, Folded, folded-start, folded-step, folded-stop, folded-end, adds-none, adds-as, Areas, areas-start, areas-then, Same, same-count, clauses-same, known-same}
+use Rattle.tracking.specs.Joining.{Makes, AddsAll, GoodSome, ofName, variablesOf, anyClauses, linkClauses, CanLink}
+use Rattle.tracking.proofs.Steps.{some-good, some-all, makes-as, Folded, folded-start, folded-step, folded-stop, folded-end, adds-none, adds-as, Areas, areas-start, areas-then, Same, same-count, clauses-same, known-same}
 use Rattle.binary_encoding.proofs.Track.{of-name-held}
 use Rattle.binary_encoding.proofs.Joins.{emit-widens}
 use Rattle.binary_encoding.proofs.All.{linkStep, linkIf, all-linked}

@@ -32,8 +32,8 @@ use Rattle.encoder.specs.declared.Run as code
 use Rattle.encoder.specs.Held.{runOf, openingOf, stateOf, LongEnough}
 use Rattle.encoder.specs.Did.{Widens, onOpening, Beside}
 use Rattle.encoder.proofs.Did.{widens-fold}
-use Rattle.binary_encoding.specs.Joining.{Makes, GoodOf, tracking, MakesOf, joinStep, joinIf, joinName, joinNames, CanJoin}
-use Rattle.binary_encoding.proofs.Steps.{stateNow, makes-good, makes-state, makes-as, makes-same, Folded, folded-start, folded-step, folded-stop, folded-end, Areas, areas-start, areas-then}
+use Rattle.tracking.specs.Joining.{Makes, GoodOf, tracking, MakesOf, joinStep, joinIf, joinName, joinNames, CanJoin}
+use Rattle.tracking.proofs.Steps.{stateNow, makes-good, makes-state, makes-as, makes-same, Folded, folded-start, folded-step, folded-stop, folded-end, Areas, areas-start, areas-then}
 use Rattle.binary_encoding.proofs.Joins.{joinIf-widens}
 
 -- ---- what a part that joins keeps, by the state

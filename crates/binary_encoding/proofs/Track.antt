@@ -39,7 +39,7 @@ use Rattle.encoder.proofs.Frames.{good-kept, list-kept, line-kept}
 use Rattle.encoder.proofs.Did.{did-made, beside-kept}
 use Rattle.encoder.proofs.Widening.{Lengthens, widens-opening}
 use Rattle.goals.specs.Goals.{noted, Notes, Gathers}
-use Rattle.binary_encoding.specs.Joining.{partName, ofName, namesOf, NamesLow, tracking, Tracks, forgetNamed, Forgets}
+use Rattle.tracking.specs.Joining.{partName, ofName, namesOf, NamesLow, tracking, Tracks, forgetNamed, Forgets}
 
 -- ---- names by the area t
 

@@ -34,11 +34,11 @@ use Rattle.tables.proofs.Rows.{counts}
 use Rattle.unions.specs.Unions.{rows, rangesOf}
 use Rattle.conditions.proofs.Kept.{sized-none}
 use Rattle.cache.specs.Areas.{assembled, catalogue}
-use Rattle.catalogue.specs.declared.Added.{Added}
-use Rattle.catalogue.specs.declared.Added.the-variants.{Counted, Refused}
+use Rattle.kept.specs.declared.Added.{Added}
+use Rattle.kept.specs.declared.Added.the-variants.{Counted, Refused}
 use Rattle.catalogue.specs.declared.Step.the-variants as Step
 use Rattle.catalogue.specs.declared.Read.the-variants as Read
-use Rattle.catalogue.specs.Reading.{rowsOf, answered, After, Entered}
+use Rattle.kept.specs.Entered.{rowsOf, answered, After, Entered}
 use Rattle.catalogue.specs.Walking.{Same, Ready, ItemAt, placeAfter, progressAfter, Passed, AtSheet, Stepped, placeOf, progressOf, ReadUp}
 
 -- ---- one item of ten

@@ -13,7 +13,7 @@ use Rattle.rules.specs.Job.{Progress, reading, stopped, bodyOf, walk, runStep, 
 use Rattle.refusal.specs.Refusing.{refusalOf}
 use Rattle.tables.specs.declared.Counts.{Counts}
 use Rattle.cache.specs.Areas.{catalogue}
-use Rattle.catalogue.specs.Reading.{Kept}
+use Rattle.kept.specs.Kept.{Kept}
 use Rattle.catalogue.specs.declared.Step.{Step}
 use Rattle.catalogue.specs.declared.Step.the-variants as Step
 use Rattle.catalogue.specs.declared.Read.{Read}

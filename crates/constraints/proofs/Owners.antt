@@ -16,7 +16,7 @@ use Rattle.tables.specs.declared.Constraint as code
 use Rattle.tables.specs.Tables.{tables, constraintFrom, constraintIs}
 use Rattle.cache.specs.Areas.{catalogue}
 use Rattle.cache.proofs.Laws.{parts-held, constraints-held, constraint-held}
-use Rattle.catalogue.specs.Reading.{Kept}
+use Rattle.kept.specs.Kept.{Kept}
 use Rattle.variable_map.specs.declared.Origin as variable_map
 use Rattle.variable_map.specs.Mapping.{originOf, inTables}
 use Rattle.marked.specs.Marked.{ownerBy, ownerOf}

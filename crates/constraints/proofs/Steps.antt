@@ -25,7 +25,7 @@ use Rattle.encoder.proofs.Did.{widens-then, widens-fold, did-as, did-then, did-
 use Rattle.encoder.proofs.Widening.{widens-when, addVariable-widens, addClause-widens}
 use Rattle.cache.specs.declared.Choice.the-variants.{NonMatching}
 use Rattle.encoder.proofs.Steps.{clauses-same, state-then, state-then-clauses, not-full, variables-after, still-known}
-use Rattle.clauses.specs.Adding.{Adds}
+use Rattle.storing.specs.Adding.{Adds}
 use Rattle.parts.specs.declared.Parts.the-variants.{Chosen}
 use Rattle.parts.specs.declared.Naming.the-variants.{Variable}
 use Rattle.parts.specs.declared.Adding.{Adding}

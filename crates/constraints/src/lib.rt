@@ -17,7 +17,7 @@ ghost use Rattle.rules.specs.Opening.{constraint};
 ghost use Rattle.rules.specs.Variables.{chosen, violation, known};
 ghost use Rattle.rules.proofs.WellFormed.{WellFormed};
 ghost use Rattle.cache.specs.Areas.{catalogue};
-ghost use Rattle.catalogue.specs.Reading.{Kept};
+ghost use Rattle.kept.specs.Kept.{Kept};
 ghost use Rattle.state.specs.Layout.{held, Fits};
 ghost use Rattle.variable_map.specs.Mapping.{variables};
 ghost use Rattle.marked.specs.Marked.{ownerOf};
@@ -124,9 +124,9 @@ fn add_violation(
             },
             Adding::AuxOut(y),
         );
-        return clauses::add_aux_owner(s, clauses, l, m, run, x, y);
+        return reporting::add_aux_owner(s, clauses, l, m, run, x, y);
     }
-    clauses::add_aux_owner(s, clauses, l, n, run, x, y)
+    reporting::add_aux_owner(s, clauses, l, n, run, x, y)
 }
 
 fn constrain_many(

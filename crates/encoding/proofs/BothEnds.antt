@@ -24,11 +24,12 @@ use Rattle.entries.specs.Entries.{drawnIn}
 use Rattle.encoder.specs.declared.Counters.{Counters}
 use Rattle.encoder.specs.Held.{Reading, taskIn, openingOf, stateOf}
 use Rattle.encoder.specs.Did.{limitsOf, beyond}
-use Rattle.serving.specs.Line.{readingOf, taken, Point}
-use Rattle.serving.proofs.Points.{only-first}
+use Rattle.serving.specs.Line.{taken, Point}
+use Rattle.beginning.specs.Beginning.{readingOf}
+use Rattle.beginning.proofs.Begin.{only-first}
 use Rattle.serving.proofs.Point.{taken-is, point-end}
-use Rattle.encoding.specs.Running.{Holds}
-use Rattle.encoding.proofs.Begin.{held-drawn, held-count}
+use Rattle.beginning.specs.Beginning.{Holds}
+use Rattle.beginning.proofs.Begin.{held-drawn, held-count}
 
 -- ---- the beginning
 

@@ -25,12 +25,14 @@ use Rattle.encoder.specs.declared.Run.{Run}
 use Rattle.encoder.specs.Held.{Reading, runOf, openingOf, stateOf, LongEnough, Good}
 use Rattle.encoder.specs.Did.{limitsOf, roomOf, ClausesDid}
 use Rattle.encoder.proofs.Steps.{long-same}
-use Rattle.binary_encoding.specs.Joining.{CanJoin, CanLink}
-use Rattle.serving.specs.Line.{readingOf, taken, Point, Begun, LineServed}
+use Rattle.tracking.specs.Joining.{CanJoin, CanLink}
+use Rattle.serving.specs.Line.{taken, Point, Begun, LineServed}
+use Rattle.beginning.specs.Beginning.{readingOf}
 use Rattle.serving.proofs.Point.{taken-none}
 use Rattle.serving.proofs.Tasks.{long-most}
-use Rattle.encoding.specs.Running.{Holds, Reaches, Begins, RunDid}
-use Rattle.encoding.proofs.Begin.{held-count, drawn-few}
+use Rattle.beginning.specs.Beginning.{Holds, Reaches, Begins}
+use Rattle.encoding.specs.Running.{RunDid}
+use Rattle.beginning.proofs.Begin.{held-count, drawn-few}
 use Rattle.encoding.proofs.BothEnds.{held-run, held-entries, run-begins, any-reading, joined, run-ends, joined-over, linked-over}
 use Rattle.encoding.proofs.Known.{Tracked, first-tracked, point-tracked, joined-tracked}
 

@@ -20,7 +20,7 @@ use Rattle.unions.proofs.Laws.{walk-start}
 use Rattle.cache.specs.Areas.{catalogue}
 use Rattle.cache.specs.Lists.{Counted}
 use Rattle.cache.proofs.Laws.{union-missing, union-ranges-held}
-use Rattle.catalogue.specs.Reading.{Kept}
+use Rattle.kept.specs.Kept.{Kept}
 use Rattle.goals.specs.Goals.{Catalogued}
 
 -- the favoured first, and as many

@@ -12,7 +12,7 @@ use Rattle.rules.proofs.WellFormed.{WellFormed}
 use Rattle.rules.proofs.Valid.{Entry}
 use Rattle.tables.specs.declared.Counts.{Counts}
 use Rattle.cache.specs.Areas.{catalogue}
-use Rattle.catalogue.specs.Reading.{Kept}
+use Rattle.kept.specs.Kept.{Kept}
 use Rattle.state.specs.Changed.{Changed}
 use Rattle.marked.specs.Marked.{listed, Marked}
 

@@ -32,11 +32,12 @@ use Rattle.encoder.specs.Did.{Widens, filled, Did, ClausesDid, PlainDid}
 use Rattle.encoder.proofs.Did.{widens-then, did-as, did-then, did-stop}
 use Rattle.encoder.proofs.Widening.{addClause-widens, addClause-variables}
 use Rattle.encoder.proofs.Steps.{clauses-none, variables-after}
-use Rattle.clauses.specs.Adding.{Adds, AddsRequires, AddsGated}
-use Rattle.clauses.proofs.Added.{requires-over}
-use Rattle.handling.specs.Handling.{Found, Named, Pushes, addDirect, addGate, addThroughGate, addFired}
+use Rattle.storing.specs.Adding.{Adds, AddsRequires, AddsGated}
+use Rattle.storing.proofs.Added.{requires-over}
+use Rattle.condition_literals.specs.Literals.{Found, Named, Pushes}
+use Rattle.handling.specs.Handling.{addDirect, addGate, addThroughGate, addFired}
 use Rattle.handling.proofs.Widening.{direct-widens, gate-widens, through-gate-widens, fired-widens}
-use Rattle.handling.proofs.Pushing.{pushed-count, pushed-are, push-variables, push-did}
+use Rattle.condition_literals.proofs.Pushing.{pushed-count, pushed-are, push-variables, push-did}
 use Rattle.handling.proofs.Owning.{goal-own}
 
 none-first : (w : List ℕ) (a : ℕ) → literalsIn w a 0 ≡ []

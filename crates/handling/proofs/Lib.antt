@@ -2,9 +2,6 @@ pub mod Handled
 pub mod Named
 pub mod Widening
 pub mod Required
-pub mod Pushing
-pub mod Literals
-pub mod Falsified
 pub mod Owning
 pub mod Adding
 pub mod Steps

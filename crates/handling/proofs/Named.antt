@@ -9,14 +9,14 @@ use lib.Dec.{ltb}
 use lib.ListN.{length, getD}
 use Rattle.rules.specs.Lists.{fold, when, concatMap, distinct}
 use Rattle.rules.specs.Clause.{Clause}
-use Rattle.rules.specs.Catalogue.{Owner, root, part, Catalogue, rangeName, ownerAt, goalAt, conditionAt}
-use Rattle.rules.specs.Candidates.{sorted, nonMatching, goalRanges, candidates}
+use Rattle.rules.specs.Catalogue.{Owner, root, part, Catalogue, ownerAt, goalAt, conditionAt}
+use Rattle.rules.specs.Candidates.{sorted, goalRanges, candidates}
 use Rattle.rules.specs.Conditions.{isNone, disjunctAt, unconditional}
 use Rattle.rules.specs.Variables.{Origin, chosen, one, known, withVariables, partOrigin}
-use Rattle.rules.specs.Encoding.{shapeBy, shape, shapeOf, rangeOrigins, disjunctOrigins}
+use Rattle.rules.specs.Encoding.{shapeBy, shape, shapeOf, disjunctOrigins}
 use Rattle.rules.specs.State.{State, Run}
 use Rattle.rules.specs.Called.{_∈_}
-use Rattle.rules.proofs.Each.{Each, each-imp, each-in, each-out, each-at}
+use Rattle.rules.proofs.Each.{Each, each-imp, each-in, each-at}
 use Rattle.rules.proofs.Membership.{map-in, concatMap-in}
 use Rattle.rules.proofs.Grows.{Prefix, whole, withVariables-prefix}
 use Rattle.rules.proofs.Places.{keeps-variable, withVariables-known}
@@ -26,7 +26,8 @@ use Rattle.variable_map.specs.Mapping.{AllKnown}
 use Rattle.parts.specs.declared.Naming.the-variants.{Candidate}
 use Rattle.parts.specs.Parts.{namingOf}
 use Rattle.naming.specs.Naming.{nameDisjuncts}
-use Rattle.handling.specs.Handling.{RangeKnown, DisjunctKnown, FiredKnown, Named, addGate, addFired, addBy, addUnconditional, addAllFired}
+use Rattle.condition_literals.specs.Literals.{RangeKnown, DisjunctKnown, FiredKnown, Named}
+use Rattle.handling.specs.Handling.{addGate, addFired, addBy, addUnconditional, addAllFired}
 use Rattle.handling.proofs.Handled.{candidates-named, disjuncts-named}
 
 -- ---- what is named is known
@@ -115,23 +116,6 @@ disjuncts-keep c q is s = rw (disjuncts-named c q is s) (withVariables-prefix (c
 
 pub fired-at : {c : Catalogue} {vs : List Origin} {q : ℕ} {is : List ℕ} → FiredKnown c vs q is → (j d : ℕ) → j < length is → DisjunctKnown c vs (disjunctAt c q (getD is j d))
 fired-at h j d l = each-at (h .known) j d l
-
-pub range-in : {c : Catalogue} {vs : List Origin} {d : List ℕ} {x : ℕ} → DisjunctKnown c vs d → x ∈ d → RangeKnown c vs x
-unfolding disjunctOrigins
-range-in {c} {vs} {d} {x} h m =
-    record { known = each-in (rangeOrigins (rangeName c x) (nonMatching c x)) (λ o n. each-out (h .known) (concatMap-in (λ y. rangeOrigins (rangeName c y) (nonMatching c y)) d m n)) }
-
--- the parts of a range that has some
-pub range-parts : {c : Catalogue} {vs : List Origin} {x : ℕ} → RangeKnown c vs x → AllKnown vs (nonMatching c x)
-range-parts {c} {vs} {x} h = go (nonMatching c x) (h .known)
-  where
-    go : (ps : List ℕ) → Each (λ o. known vs o ≡ true) (rangeOrigins (rangeName c x) ps) → AllKnown vs ps
-    go [] k = record { known = Each.nil }
-    go (p ∷ ps) k = unfold rangeOrigins in record { known = each-in (p ∷ ps) (λ y m. each-out k (map-in partOrigin m)) }
-
--- one-of-name of a range without
-pub range-one : {c : Catalogue} {vs : List Origin} {x : ℕ} → RangeKnown c vs x → nonMatching c x ≡ [] → known vs (one (rangeName c x)) ≡ true
-range-one {c} {vs} {x} h e = each-out (rw e at (h .known)) (unfold rangeOrigins in List·Memᴰ·head refl)
 
 -- ---- with a condition or without
 

@@ -35,7 +35,7 @@ use Rattle.goals.specs.Goals.{Catalogued}
 use Rattle.owners.specs.Owners.{ownerIs, OwnerNumber}
 use Rattle.owners.proofs.Records.{required-owner}
 use Rattle.firing.proofs.Required.{goal-is, goal-given}
-use Rattle.handling.specs.Handling.{Found}
+use Rattle.condition_literals.specs.Literals.{Found}
 
 -- ---- origins that have variables
 

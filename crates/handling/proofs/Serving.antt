@@ -25,7 +25,8 @@ use Rattle.goals.specs.Goals.{Gathers}
 use Rattle.goals.proofs.Released.{did-released}
 use Rattle.owners.specs.Owners.{serving}
 use Rattle.firing.proofs.Required.{goal-is}
-use Rattle.handling.specs.Handling.{AtHand, handled}
+use Rattle.condition_literals.specs.Literals.{AtHand}
+use Rattle.handling.specs.Handling.{handled}
 use Rattle.handling.proofs.Handled.{handled-served}
 use Rattle.handling.proofs.Widening.{handled-widens}
 

@@ -32,7 +32,8 @@ use Rattle.firing.specs.declared.Indices.{Indices}
 use Rattle.firing.specs.Firing.{indicesIn}
 use Rattle.naming.specs.Naming.{nameDisjuncts, GivenIndices}
 use Rattle.naming.proofs.Loops.{one-more}
-use Rattle.handling.specs.Handling.{AtHand, DisjunctKnown, FiredKnown, Named, addDirect, addThroughGate, addFired, addAllFired, addBy, addUnconditional, handled}
+use Rattle.condition_literals.specs.Literals.{AtHand, DisjunctKnown, FiredKnown, Named}
+use Rattle.handling.specs.Handling.{addDirect, addThroughGate, addFired, addAllFired, addBy, addUnconditional, handled}
 use Rattle.handling.proofs.Named.{candidates-known, fired-known, added-unconditional, added-conditional}
 use Rattle.handling.proofs.Widening.{fired-widens, all-fired-widen, added-widens, handled-widens}
 

@@ -1,3 +1,3 @@
-pub mod Laws
+pub mod Checking
 pub mod Running
 pub mod Program

@@ -14,8 +14,10 @@ use Rattle.rules.proofs.KindTable.{not-one}
 use Rattle.rules.proofs.ReadBack.{read-back}
 use Rattle.rules.proofs.Demand3Read.{demand3-read}
 use Rattle.rules.proofs.CheckRun.{check-agrees, numbered, placed}
-use Rattle.kit.specs.declared.Answer.{Answer}
-use Rattle.kit.specs.Checking.{termsOf, answerOf, Served}
+use Rattle.terms.specs.declared.Answer.{Answer}
+use Rattle.terms.specs.Terms.{termsOf}
+use Rattle.terms.specs.Answers.{answerOf}
+use Rattle.kit.specs.Checking.{Served}
 use Rattle.kit.specs.Running.{Ran}
 use Rattle.kit.specs.Program.{terms, Accepts, Program, Refuses, Refusing, Agreeing}
 

@@ -21,15 +21,18 @@ use Rattle.state.specs.Layout.{Fits}
 use Rattle.encoder.specs.Held.{LongEnough}
 use Rattle.encoder.specs.Did as encoder
 use Rattle.carried.specs.Carrying.{endFrom}
-use Rattle.outcome.specs.declared.Outcome.{Outcome}
-use Rattle.outcome.specs.declared.Outcome.the-variants.{Accepted, Refused}
-use Rattle.outcome.specs.Outcomes.{told, RunsFrom}
-use Rattle.kit.specs.declared.Answer.{Answer}
-use Rattle.kit.specs.declared.Limits.{Limits}
-use Rattle.kit.specs.declared.Lent.{Lent}
-use Rattle.kit.specs.Checking.{limitsOf, lentOf, termsOf, Gives, Long, Zeroed, fourLimits}
+use Rattle.ending.specs.declared.Outcome.{Outcome}
+use Rattle.ending.specs.declared.Outcome.the-variants.{Accepted, Refused}
+use Rattle.ending.specs.Ending.{told}
+use Rattle.outcome.specs.Outcomes.{RunsFrom}
+use Rattle.terms.specs.declared.Answer.{Answer}
+use Rattle.terms.specs.declared.Limits.{Limits}
+use Rattle.terms.specs.declared.Lent.{Lent}
+use Rattle.terms.specs.Terms.{limitsOf, lentOf, termsOf, fourLimits}
+use Rattle.terms.specs.Answers.{Gives}
+use Rattle.terms.proofs.Terms.{same-fits}
+use Rattle.checking.specs.Areas.{Long, Zeroed}
 use Rattle.kit.specs.Running.{LendsAll, Runs, Ran}
-use Rattle.kit.proofs.Laws.{same-fits}
 
 -- the limits, as the code below takes them
 abbrev pub stateLimits : Limits → state.Limits

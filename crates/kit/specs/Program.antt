@@ -13,8 +13,10 @@ use Rattle.rules.specs.Job.{accepts, refuses, accepted, outcome}
 use Rattle.rules.specs.ReadBack.{clausesRead, SatisfiableRead}
 use Rattle.rules.specs.CheckRun.{sheetPlace}
 use Rattle.rules.specs.Keeps.{Parts, Keeps}
-use Rattle.kit.specs.declared.Answer.{Answer}
-use Rattle.kit.specs.Checking.{termsOf, answerOf, Served}
+use Rattle.terms.specs.declared.Answer.{Answer}
+use Rattle.terms.specs.Terms.{termsOf}
+use Rattle.terms.specs.Answers.{answerOf}
+use Rattle.kit.specs.Checking.{Served}
 use Rattle.kit.specs.Running.{Ran}
 
 -- one call of `run`

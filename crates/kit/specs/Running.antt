@@ -5,9 +5,10 @@ use Prim.Native.Nat.{ℕ, _≤_}
 use lib.ListN.{length}
 use Rattle.rules.specs.Limits as rules
 use Rattle.rules.specs.Job.{answer, listingArea, workArea}
-use Rattle.kit.specs.declared.Answer.{Answer}
-use Rattle.kit.specs.declared.Lent.{Lent}
-use Rattle.kit.specs.Checking.{termsOf, Gives}
+use Rattle.terms.specs.declared.Answer.{Answer}
+use Rattle.terms.specs.declared.Lent.{Lent}
+use Rattle.terms.specs.Terms.{termsOf}
+use Rattle.terms.specs.Answers.{Gives}
 
 -- the lengths are those of the six areas
 pub record LendsAll (x : Lent) (m u t c s w : List ℕ) : Type 0 where

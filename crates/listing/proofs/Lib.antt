@@ -1,10 +1,2 @@
-pub mod Fields
-pub mod Printing
-pub mod Lines
-pub mod Numbers
-pub mod Parts
-pub mod Walks
-pub mod Clauses
-pub mod Asserting
 pub mod Waiting
 pub mod Whole

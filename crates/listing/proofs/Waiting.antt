@@ -25,14 +25,14 @@ use Rattle.tables.specs.declared.Counts.{Counts}
 use Rattle.tables.specs.Tables.{tables}
 use Rattle.cache.specs.Areas.{catalogue}
 use Rattle.cache.proofs.Laws.{conditions-same, requirement-held}
-use Rattle.catalogue.specs.Reading.{Kept}
+use Rattle.kept.specs.Kept.{Kept}
 use Rattle.state.specs.declared.Limits.{Limits}
 use Rattle.entries.specs.declared.Entry as entries
 use Rattle.entries.specs.Entries.{noEntry, entryOf, waitingIn}
 use Rattle.encoder.proofs.Frames.{waiting-counted}
 use Rattle.goals.specs.Goals.{AllGiven}
-use Rattle.listing.specs.Listed.{ownerBut, entryFields, entryText, conditionText}
-use Rattle.listing.proofs.Printing.{Printing, printing-end}
+use Rattle.line_fields.specs.Listed.{ownerBut, entryFields, entryText, conditionText}
+use Rattle.line_fields.proofs.Printing.{Printing, printing-end}
 
 -- ---- an entry's fields and its line
 

@@ -17,7 +17,7 @@ use Rattle.text.proofs.Written.{then}
 use Rattle.tables.specs.declared.Counts.{Counts}
 use Rattle.cache.specs.Areas.{catalogue}
 use Rattle.cache.proofs.Laws.{conditions-held}
-use Rattle.catalogue.specs.Reading.{Kept}
+use Rattle.kept.specs.Kept.{Kept}
 use Rattle.state.specs.declared.Limits.{Limits}
 use Rattle.state.specs.Layout.{held, Fits}
 use Rattle.variable_map.specs.Mapping.{variables}
@@ -31,9 +31,9 @@ use Rattle.solver.specs.Rows.{Row, noRow, rows}
 use Rattle.encoder.specs.declared.Counters.{Counters}
 use Rattle.encoder.specs.Held.{Reading, conflictIf, conflictsFrom, openingOf, stateOf, Good, LongEnough}
 use Rattle.encoder.proofs.Frames.{clauses-counted, waiting-counted}
-use Rattle.listing.specs.Listed.{texts, variableText, clauseText, ownerText, nameText, conflictLines, conflictText, assertionText, decisionText, entryText, conditionText, clausesOf, firstHalf, clauseNotes, stateNotes, secondHalf, Ready, GoodRows, Lists}
-use Rattle.listing.proofs.Printing.{indexed, indexed-is, each-is, concatMap-append, concatMap-map}
-use Rattle.listing.proofs.Clauses.{rows-counted}
+use Rattle.line_fields.specs.Listed.{texts, variableText, clauseText, ownerText, nameText, conflictLines, conflictText, assertionText, decisionText, entryText, conditionText, clausesOf, firstHalf, clauseNotes, stateNotes, secondHalf, Ready, GoodRows, Lists}
+use Rattle.line_fields.proofs.Printing.{indexed, indexed-is, each-is, concatMap-append, concatMap-map}
+use Rattle.clause_lines.proofs.Clauses.{rows-counted}
 
 -- ---- the lists of the definitions, place by place
 

@@ -16,7 +16,7 @@ ghost use Rattle.rules.specs.Opening.{serveName};
 ghost use Rattle.rules.specs.Opening as rules;
 ghost use Rattle.rules.proofs.WellFormed.{WellFormed};
 ghost use Rattle.cache.specs.Areas.{catalogue};
-ghost use Rattle.catalogue.specs.Reading.{Kept};
+ghost use Rattle.kept.specs.Kept.{Kept};
 ghost use Rattle.state.specs.Layout.{held, Fits};
 ghost use Rattle.variable_map.specs.Mapping.{variables};
 ghost use Rattle.encoder.specs.Held.{runOf, LongEnough, Good, GoodAlone, KnownUnlessFull};

@@ -28,10 +28,11 @@ use Rattle.goals.specs.Goals.{Catalogued}
 use Rattle.carried.specs.declared.Sheet.{Sheet}
 use Rattle.carried.specs.declared.Sheet.the-variants as Sheet
 use Rattle.carried.specs.Carrying.{endFrom, Came, SheetDid}
-use Rattle.encoding.specs.Running.{Reaches}
-use Rattle.outcome.specs.declared.Outcome.{Outcome}
-use Rattle.outcome.specs.declared.Outcome.the-variants.{Refused}
-use Rattle.outcome.specs.Outcomes.{told, Comes, Finishes, RunsFrom}
+use Rattle.beginning.specs.Beginning.{Reaches}
+use Rattle.ending.specs.declared.Outcome.{Outcome}
+use Rattle.ending.specs.declared.Outcome.the-variants.{Refused}
+use Rattle.ending.specs.Ending.{told, Comes, Finishes}
+use Rattle.outcome.specs.Outcomes.{RunsFrom}
 
 -- a refusal leaves the listing area
 refused-comes : (job out : List ℕ) (f : Refusal) (at : ℕ) → Comes job (refused (numberAndPlace (length job) at (refusalOf f))) (Refused f at) out out

@@ -1,12 +1,10 @@
-// A job whose length and areas are right: its catalogue is read, its sheet carried out, and its listing written.
+// A job whose length and areas are right: its catalogue is read, its sheet carried out, and its end made of the state that it comes to.
+// What is left of the definitions' walk is the same at each of the three.
 use carried::Sheet;
 use catalogue::Read;
-use encoder::Counters;
-use refusal::Refusal;
+use ending::Outcome;
 use state::Limits;
 use tables::Counts;
-ghost use mathlib.Core.Path.{_≡_};
-ghost use mathlib.Core.List.{[]};
 ghost use Prim.Native.Nat.{_<_, _≤_};
 ghost use lib.ListN.{length};
 ghost use Rattle.rules.specs.Catalogue.{emptyCatalogue};
@@ -14,136 +12,10 @@ ghost use Rattle.rules.specs.Job.{reading};
 ghost use Rattle.rules.proofs.Reached.{Given};
 ghost use Rattle.cache.specs.Areas.{catalogue};
 ghost use Rattle.catalogue.specs.Walking.{UpToSheet};
-ghost use Rattle.state.specs.Layout.{held, Fits};
+ghost use Rattle.state.specs.Layout.{Fits};
 ghost use Rattle.encoder.specs.Held.{LongEnough};
 ghost use Rattle.goals.specs.Goals.{Catalogued};
-ghost use Rattle.encoding.specs.Running.{Reaches};
-ghost use Rattle.text.specs.Text.{Addressable};
-ghost use Rattle.listing.specs.Listed.{Lists};
-ghost use Rattle.outcome.specs.Outcomes.{Prints, Finishes, RunsFrom};
-
-// What a job comes to.
-pub enum Outcome {
-    Accepted {
-        length: usize,
-        variables: usize,
-        clauses: usize,
-    },
-    Refused {
-        refusal: Refusal,
-        at: usize,
-    },
-}
-
-// ---- the end
-
-// How long the listing is, or one more than `room` if it is longer than that. Nothing is written.
-fn measure(
-    marks: &[u8],
-    unions: &[u8],
-    t: &[u8],
-    k: Counts,
-    s: &[u8],
-    clauses: &[u8],
-    w: &[u8],
-    l: Limits,
-    n: Counters,
-    out: &mut [u8],
-    room: usize,
-) -> usize
-    requires { ⌜ Catalogued k (now marks) (now unions) (now t) ⌝ }
-    requires { ⌜ Fits l (length (now s)) × Addressable room ⌝ }
-    requires { ⌜ LongEnough l (length (now clauses)) (length (now w)) ⌝ }
-    requires { ⌜ Reaches (catalogue k (now marks) (now unions) (now t)) l n (held l (now s)) (now clauses) (now w) ⌝ }
-    ensures { λ r. ⌜ Lists (catalogue k (now (marks .entry)) (now (unions .entry)) (now (t .entry))) l n (held l (now (s .entry))) (now (clauses .entry)) (now (w .entry)) room r [] [] ⌝ }
-    ensures { λ r. ⌜ now (out .exit) ≡ now (out .entry) ⌝ }
-{
-    listing::write(
-        marks,
-        unions,
-        t,
-        k,
-        s,
-        clauses,
-        w,
-        l,
-        n,
-        &mut out[..0],
-        room,
-    )
-}
-
-// The listing is written if it fits into the area, which has this much room.
-fn print(
-    marks: &[u8],
-    unions: &[u8],
-    t: &[u8],
-    k: Counts,
-    s: &[u8],
-    clauses: &[u8],
-    w: &[u8],
-    l: Limits,
-    n: Counters,
-    out: &mut [u8],
-    room: usize,
-) -> Outcome
-    requires { ⌜ Catalogued k (now marks) (now unions) (now t) ⌝ }
-    requires { ⌜ Fits l (length (now s)) × Addressable room × (room ≡ length (now out)) ⌝ }
-    requires { ⌜ LongEnough l (length (now clauses)) (length (now w)) ⌝ }
-    requires { ⌜ Reaches (catalogue k (now marks) (now unions) (now t)) l n (held l (now s)) (now clauses) (now w) ⌝ }
-    ensures { λ r. ⌜ Prints (catalogue k (now (marks .entry)) (now (unions .entry)) (now (t .entry))) l n (held l (now (s .entry))) (now (clauses .entry)) (now (w .entry)) r (now (out .entry)) (now (out .exit)) ⌝ }
-{
-    let length = measure(marks, unions, t, k, s, clauses, w, l, n, out, room);
-    if room < length {
-        return Outcome::Refused {
-            refusal: Refusal::ListingFull,
-            at: 0,
-        };
-    }
-    listing::write(marks, unions, t, k, s, clauses, w, l, n, out, room);
-    Outcome::Accepted {
-        length,
-        variables: n.variables,
-        clauses: n.clauses,
-    }
-}
-
-// The end of a job: nothing added or drawn may be left, and the listing must fit.
-fn finish(
-    marks: &[u8],
-    unions: &[u8],
-    t: &[u8],
-    k: Counts,
-    s: &[u8],
-    clauses: &[u8],
-    w: &[u8],
-    l: Limits,
-    n: Counters,
-    out: &mut [u8],
-) -> Outcome
-    requires { ⌜ Catalogued k (now marks) (now unions) (now t) ⌝ }
-    requires { ⌜ Fits l (length (now s)) ⌝ }
-    requires { ⌜ LongEnough l (length (now clauses)) (length (now w)) ⌝ }
-    requires { ⌜ Reaches (catalogue k (now marks) (now unions) (now t)) l n (held l (now s)) (now clauses) (now w) ⌝ }
-    ensures { λ r. ⌜ Finishes (catalogue k (now (marks .entry)) (now (unions .entry)) (now (t .entry))) l n (held l (now (s .entry))) (now (clauses .entry)) (now (w .entry)) r (now (out .entry)) (now (out .exit)) ⌝ }
-{
-    if n.added != 0 {
-        return Outcome::Refused {
-            refusal: Refusal::NotRun,
-            at: 0,
-        };
-    }
-    if n.drawn != 0 {
-        return Outcome::Refused {
-            refusal: Refusal::NotRun,
-            at: 0,
-        };
-    }
-    let room = out.len();
-    print(marks, unions, t, k, s, clauses, w, l, n, out, room)
-}
-
-// ---- a job
+ghost use Rattle.outcome.specs.Outcomes.{RunsFrom};
 
 // The sheet from its first record on, and the end.
 fn run_sheet(
@@ -171,7 +43,7 @@ fn run_sheet(
     words::clear(s);
     let n = carried::start(s, clauses, l);
     match carried::carry_sheet(job, from, marks, unions, t, k, s, clauses, w, l, n) {
-        Sheet::Carried(m) => finish(marks, unions, t, k, s, clauses, w, l, m, out),
+        Sheet::Carried(m) => ending::finish(marks, unions, t, k, s, clauses, w, l, m, out),
         Sheet::Refused { refusal, at } => Outcome::Refused { refusal, at },
     }
 }

@@ -21,7 +21,7 @@ use Rattle.unions.specs.Unions.{noRow, rows, rowOf, left, Next}
 use Rattle.unions.proofs.Laws.{Seen, seen-start, seen-step, seen-end}
 use Rattle.cache.specs.Areas.{catalogue}
 use Rattle.cache.proofs.Laws.{names-held, ranges-held, unions-held, range-name-held, union-held, union-ranges-held}
-use Rattle.catalogue.specs.Reading.{Kept}
+use Rattle.kept.specs.Kept.{Kept}
 use Rattle.state.specs.declared.Limits.{Limits}
 use Rattle.encoder.specs.declared.Counters.{Counters}
 use Rattle.encoder.specs.Did.{onOpening, StateDid, PlainDid}

@@ -26,7 +26,7 @@ use Rattle.tables.specs.declared.Constraint as code
 use Rattle.tables.specs.Tables.{tables, constraintFrom, constraintIs}
 use Rattle.cache.specs.Areas.{catalogue}
 use Rattle.cache.proofs.Laws.{parts-held, ranges-held, requirements-held, constraints-held, requirement-held, constraint-held}
-use Rattle.catalogue.specs.Reading.{Kept}
+use Rattle.kept.specs.Kept.{Kept}
 use Rattle.state.specs.declared.Limits.{Limits}
 use Rattle.marked.specs.Marked.{ownerBy, ownerOf}
 use Rattle.marked.proofs.Owners.{root-is, part-is, same-number}

@@ -23,7 +23,7 @@ use Rattle.tables.specs.declared.Counts.{Counts}
 use Rattle.tables.specs.Tables.{tables}
 use Rattle.cache.specs.Areas.{catalogue}
 use Rattle.cache.proofs.Laws.{parts-held, part-held}
-use Rattle.catalogue.specs.Reading.{Kept}
+use Rattle.kept.specs.Kept.{Kept}
 use Rattle.state.specs.declared.Limits.{Limits}
 use Rattle.variable_map.specs.Mapping.{inTables, variables, Mapped}
 use Rattle.marked.specs.Marked.{ownerOf}
@@ -35,7 +35,7 @@ use Rattle.encoder.specs.Did.{Widens, onOpening, Looked, StateDid, ClausesDid, 
 use Rattle.encoder.proofs.Did.{widens-then, did-as, did-then, did-stop}
 use Rattle.encoder.proofs.Widening.{addVariable-widens, addClause-widens}
 use Rattle.encoder.proofs.Steps.{forget-widens, nothing-kept}
-use Rattle.clauses.specs.Adding.{reasonFor, CanAdd, Adds}
+use Rattle.storing.specs.Adding.{reasonFor, CanAdd, Adds}
 use Rattle.owners.specs.Owners.{serving}
 
 -- ---- a known owner

@@ -18,7 +18,7 @@ ghost use Rattle.rules.specs.Variables.{chosen};
 ghost use Rattle.rules.proofs.WellFormed.{OwnerGiven, GoalGiven, WellFormed};
 ghost use Rattle.requirement.specs.Requirements.{goalOf};
 ghost use Rattle.cache.specs.Areas.{catalogue};
-ghost use Rattle.catalogue.specs.Reading.{Kept};
+ghost use Rattle.kept.specs.Kept.{Kept};
 ghost use Rattle.state.specs.Layout.{held, Fits};
 ghost use Rattle.variable_map.specs.Mapping.{originOf};
 ghost use Rattle.marked.specs.Marked.{ownerOf};
@@ -354,7 +354,7 @@ fn serve_unknown(
         return m;
     }
     let x = opening::variable_of(s, l, m, variable_map::part(p));
-    clauses::add_excluded(s, clauses, l, m, r, x, p, true)
+    reporting::add_excluded(s, clauses, l, m, r, x, p, true)
 }
 
 pub fn serve_owner(

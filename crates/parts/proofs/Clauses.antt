@@ -29,7 +29,7 @@ use Rattle.encoder.specs.Did.{Looked, ClausesDid}
 use Rattle.encoder.proofs.Did.{did-as}
 use Rattle.encoder.proofs.Widening.{addClause-widens, addClause-variables}
 use Rattle.encoder.proofs.Steps.{clauses-same, clauses-none, clauses-then, good-later, known-later}
-use Rattle.clauses.specs.Adding.{reasonFor, Adds}
+use Rattle.storing.specs.Adding.{reasonFor, Adds}
 use Rattle.parts.specs.declared.Parts.{Parts}
 use Rattle.parts.specs.declared.Adding.{Adding}
 use Rattle.parts.specs.declared.Adding.the-variants as Adding

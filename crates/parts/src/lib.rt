@@ -15,7 +15,7 @@ ghost use Rattle.rules.specs.Catalogue.{noPart};
 ghost use Rattle.rules.specs.Opening.{openReady};
 ghost use Rattle.tables.specs.Tables.{tables, Laid};
 ghost use Rattle.cache.specs.Areas.{catalogue};
-ghost use Rattle.catalogue.specs.Reading.{Kept};
+ghost use Rattle.kept.specs.Kept.{Kept};
 ghost use Rattle.state.specs.Layout.{held, Fits};
 ghost use Rattle.variable_map.specs.Mapping.{variables};
 ghost use Rattle.encoder.specs.Held.{runOf, LongEnough, Good, GoodAlone, KnownUnlessFull};
@@ -253,10 +253,10 @@ fn add_part(
 {
     let x = opening::variable_of(s, l, n, variable_map::part(p));
     match adding {
-        Adding::Lock => clauses::add_lock(s, clauses, l, n, r, x),
-        Adding::Excluded => clauses::add_excluded(s, clauses, l, n, r, x, p, false),
-        Adding::Constrains(owner) => clauses::add_constrains(s, clauses, l, n, r, owner, x),
-        Adding::AuxOut(violation) => clauses::add_aux_out(s, clauses, l, n, r, x, violation),
+        Adding::Lock => reporting::add_lock(s, clauses, l, n, r, x),
+        Adding::Excluded => reporting::add_excluded(s, clauses, l, n, r, x, p, false),
+        Adding::Constrains(owner) => reporting::add_constrains(s, clauses, l, n, r, owner, x),
+        Adding::AuxOut(violation) => setting::add_aux_out(s, clauses, l, n, r, x, violation),
     }
 }
 

@@ -21,7 +21,8 @@ use Rattle.encoder.specs.declared.Counters.{Counters}
 use Rattle.encoder.specs.Held.{LongEnough, Good}
 use Rattle.encoder.specs.Did.{limitsOf}
 use Rattle.serving.specs.Serving.{TaskGiven}
-use Rattle.serving.specs.Line.{readingOf, from, Point, Serves, Begun, LineServed}
+use Rattle.beginning.specs.Beginning.{readingOf}
+use Rattle.serving.specs.Line.{from, Point, Serves, Begun, LineServed}
 use Rattle.serving.proofs.Point.{point-given}
 use Rattle.serving.proofs.Passing.{good-from, pass-step, pass-over}
 

@@ -32,7 +32,8 @@ use Rattle.owners.specs.Owners.{serving}
 use Rattle.serving.specs.Serving.{servedAs}
 use Rattle.serving.specs.Line.{from, taken, Point, Serves}
 use Rattle.serving.proofs.Served.{served-is}
-use Rattle.serving.proofs.Points.{only-first, truth-at, step-room}
+use Rattle.beginning.proofs.Begin.{only-first}
+use Rattle.serving.proofs.Points.{truth-at, step-room}
 use Rattle.serving.proofs.Behind.{behindAll, serveTask-behind}
 use Rattle.serving.proofs.Point.{taken-is, serves-one, now-first}
 

@@ -1,6 +1,5 @@
 -- A point of a run: what is decided true there is what was when the run began, and the line has places for what its next task queues.
 use mathlib.Core.Path.{_≡_, refl, fun-ext}
-use mathlib.Core.Bool.{Bool, true, false, _||_, false≢true}
 use mathlib.Core.List.{List, _∷_}
 use Prim.Native.Nat.{ℕ, suc, _+_, _≤_}
 use native.Mathlib.Nat.{le-refl}
@@ -23,10 +22,6 @@ use Rattle.encoder.specs.Did.{limitsOf}
 within-at : {c : Catalogue} {r : Run} {ts₀ : List Task} {s₀ : State} {k : ℕ} {ts : List Task} {u : State} → After c r ts₀ s₀ k ts u → Within c r s₀ u
 within-at begins = Within.begins
 within-at {c} (serves {t = t} a) = Within.opens (serveTask-within c (within-at a) t) _
-
-pub only-first : (a b d : Bool) → (a || (b || d)) ≡ true → b ≡ false → d ≡ false → a ≡ true
-only-first true b d e f h = refl
-only-first false b d e f h = absurd (false≢true (rw (f, h) at e))
 
 module _ (l : Limits) {c : Catalogue} {s₀ : State} (g : Given c) (reached : Reached (limitsOf l) c s₀) (level : ℕ) where
   abbrev run : Run

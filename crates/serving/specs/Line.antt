@@ -19,11 +19,8 @@ use Rattle.entries.specs.Entries.{drawnIn}
 use Rattle.encoder.specs.declared.Counters.{Counters}
 use Rattle.encoder.specs.Held.{Reading, taskIn, stateOf, Good}
 use Rattle.encoder.specs.Did.{limitsOf, Did}
+use Rattle.beginning.specs.Beginning.{readingOf}
 use Rattle.serving.specs.Serving.{servedAs}
-
--- a run's tasks are read by what is decided true and drawn in the state in which it begins
-abbrev pub readingOf : State → Reading
-readingOf s = record { truth = decidedTrue s; drawn = s .opening .drawn }
 
 -- the tasks of the line from `first` on are left
 unfoldable pub from : ℕ → Counters → Counters

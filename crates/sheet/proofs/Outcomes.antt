@@ -35,7 +35,7 @@ use Rattle.commands.specs.Commands.{Draws, Outcomes, PlainOutcomes, PartOutcome
 use Rattle.commands.proofs.Outcomes.{part-outcome}
 use Rattle.commands.proofs.Drawing.{draw-carried, draw-missing}
 use Rattle.sheet.specs.Sheet.{Gives, CommandDid}
-use Rattle.sheet.proofs.Held.{anyReading}
+use Rattle.beginning.proofs.Held.{anyReading}
 
 -- ---- a result but for what is forgotten
 

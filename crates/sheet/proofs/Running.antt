@@ -27,7 +27,7 @@ use Rattle.encoder.proofs.Frames.{good-within}
 use Rattle.encoding.specs.Running.{Holds, RunDid}
 use Rattle.commands.specs.declared.Outcome.the-variants.{Carried, Refused}
 use Rattle.sheet.specs.Sheet.{Gives, CommandDid}
-use Rattle.sheet.proofs.Held.{anyReading, held-decisions, held-runs}
+use Rattle.beginning.proofs.Held.{anyReading, held-decisions, held-runs}
 use Rattle.sheet.proofs.Outcomes.{did-carried, did-refused}
 
 -- ---- runs are counted

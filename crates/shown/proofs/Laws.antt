@@ -16,9 +16,10 @@ use Rattle.rules.specs.Job as job
 use Rattle.rules.proofs.Digits.{by-ten, decimal-digit, decimal-digits}
 use Rattle.text.specs.Text.{Wrote}
 use Rattle.text.proofs.Written.{fields-one, fields-first, line-is, measured, written}
-use Rattle.kit.specs.declared.Answer.{Answer}
-use Rattle.kit.specs.Checking.{termsOf, numbersOf, answerBy, Gives, fourLimits}
-use Rattle.kit.specs.Checking as kit
+use Rattle.terms.specs.declared.Answer.{Answer}
+use Rattle.terms.specs.Terms.{termsOf, fourLimits}
+use Rattle.terms.specs.Answers.{numbersOf, answerBy, Gives}
+use Rattle.terms.specs.Answers as answers
 use Rattle.kit.specs.Running.{Runs, Ran}
 use Rattle.shown.specs.Shown.{Holds}
 
@@ -78,11 +79,11 @@ isAccepted (refuses n p) = false
 
 module _ {r : Answer} where
   accepted-zero : {a : job.Answer} → Gives r a → r .number ≡ 0 → isAccepted a ≡ true
-  unfolding kit.answerOf answerBy isAccepted
+  unfolding answers.answerOf answerBy isAccepted
   accepted-zero g z = ap isAccepted (sym (g .means)) ∙ rw (eq-eqb (r .number) 0 z)
 
   refused-other : {a : job.Answer} → Gives r a → (r .number ≡ 0 → ⊥) → isAccepted a ≡ false
-  unfolding kit.answerOf answerBy isAccepted
+  unfolding answers.answerOf answerBy isAccepted
   refused-other g z = ap isAccepted (sym (g .means)) ∙ rw (ne-eqb (r .number) 0 z)
 
   listing-by : (o : Outcome) (out out′ : List ℕ) → Gives r (answerOf o) → isAccepted (answerOf o) ≡ true

@@ -2,7 +2,7 @@
 use borrow.Author.Needs.{needs}
 use native.Mathlib.Omega.{arith}
 use Rattle.binary_encoding.proofs.Joins.{count-is, count-few, helpers-few, named-can, named-can-add, named-new, join-stop, join-done}
-use Rattle.binary_encoding.proofs.Steps.{of-some, of-any, some-named}
+use Rattle.tracking.proofs.Steps.{of-some, of-any, some-named}
 use Rattle.binary_encoding.proofs.join.Statement.{statement}
 use Rattle.binary_encoding.proofs.join.Tie as tie
 

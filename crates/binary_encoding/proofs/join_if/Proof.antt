@@ -1,7 +1,7 @@
 -- `binary_encoding::join_if` lets a part join if it is of this name and not tracked.
 use borrow.Author.Needs.{needs}
 use Rattle.binary_encoding.proofs.Joins.{join-other, join-again, join-new, name-is, name-below, not-tracked}
-use Rattle.binary_encoding.proofs.Steps.{of-some, some-tracked}
+use Rattle.tracking.proofs.Steps.{of-some, some-tracked}
 use Rattle.binary_encoding.proofs.join_if.Statement.{statement}
 use Rattle.binary_encoding.proofs.join_if.Tie as tie
 

@@ -1,7 +1,7 @@
 -- `binary_encoding::link_if` links a variable that is one-of-name.
 use borrow.Author.Needs.{needs}
 use native.Mathlib.Omega.{arith}
-use Rattle.binary_encoding.proofs.Steps.{some-mapped}
+use Rattle.tracking.proofs.Steps.{some-mapped}
 use Rattle.binary_encoding.proofs.Links.{link-one, link-none}
 use Rattle.binary_encoding.proofs.link_if.Statement.{statement}
 use Rattle.binary_encoding.proofs.link_if.Tie as tie

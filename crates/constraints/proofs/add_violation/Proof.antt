@@ -2,7 +2,7 @@
 use borrow.Author.Needs.{needs}
 use Rattle.state.proofs.Sizes.{fits-same}
 use Rattle.encoder.proofs.Steps.{long-same, good-later}
-use Rattle.clauses.proofs.Adding.{good-can-add}
+use Rattle.storing.proofs.Adding.{good-can-add}
 use Rattle.constraints.proofs.Steps.{looked-is, looked-below, non-matching-known, violation-new, violation-old}
 use Rattle.constraints.proofs.Owners.{owner-fits, violation-fits}
 use Rattle.constraints.proofs.add_violation.Statement.{statement}

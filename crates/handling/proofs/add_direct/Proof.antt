@@ -1,7 +1,7 @@
 -- `handling::add_direct` adds the requires clause of an unconditional requirement.
 use borrow.Author.Needs.{needs}
 use native.Mathlib.Omega.{arith}
-use Rattle.clauses.proofs.Adding.{good-can-add}
+use Rattle.storing.proofs.Adding.{good-can-add}
 use Rattle.handling.proofs.Owning.{by-form}
 use Rattle.handling.proofs.Adding.{direct-added}
 use Rattle.handling.proofs.add_direct.Statement.{statement}

@@ -3,8 +3,8 @@ use borrow.Author.Needs.{needs}
 use native.Mathlib.Omega.{arith}
 use Rattle.state.proofs.Sizes.{fits-same}
 use Rattle.encoder.proofs.Steps.{good-after}
-use Rattle.clauses.proofs.Adding.{good-can-add}
-use Rattle.handling.proofs.Pushing.{push-good, push-did}
+use Rattle.storing.proofs.Adding.{good-can-add}
+use Rattle.condition_literals.proofs.Pushing.{push-good, push-did}
 use Rattle.handling.proofs.Owning.{by-form}
 use Rattle.handling.proofs.Adding.{fired-named, fired-added, fired-over}
 use Rattle.handling.proofs.Steps.{hand-after}

@@ -1,7 +1,7 @@
 -- `handling::add_gate` adds the clause of a gate that is new.
 use borrow.Author.Needs.{needs}
 use native.Mathlib.Omega.{arith}
-use Rattle.clauses.proofs.Adding.{good-can-add}
+use Rattle.storing.proofs.Adding.{good-can-add}
 use Rattle.handling.proofs.Owning.{by-form}
 use Rattle.handling.proofs.Adding.{gate-old, gate-added}
 use Rattle.handling.proofs.add_gate.Statement.{statement}

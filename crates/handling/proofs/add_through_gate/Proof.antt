@@ -3,7 +3,7 @@ use borrow.Author.Needs.{needs}
 use Rattle.state.proofs.Sizes.{fits-same}
 use Rattle.variable_map.proofs.Places.{new-is}
 use Rattle.encoder.proofs.Steps.{long-same, good-after, good-later}
-use Rattle.clauses.proofs.Adding.{good-can-add}
+use Rattle.storing.proofs.Adding.{good-can-add}
 use Rattle.handling.proofs.Owning.{found, gate-origin, gate-in-tables}
 use Rattle.handling.proofs.Adding.{gate-known, through-full, through-added}
 use Rattle.handling.proofs.Steps.{hand-after, named-after}

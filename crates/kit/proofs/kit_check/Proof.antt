@@ -1,6 +1,6 @@
 -- `kit::kit_check` answers as `checkAnswer` says, and each of the six areas is zero afterwards.
 use borrow.Author.Needs.{needs}
-use Rattle.kit.proofs.Laws.{served}
+use Rattle.kit.proofs.Checking.{served}
 use Rattle.kit.proofs.kit_check.Statement.{statement}
 use Rattle.kit.proofs.kit_check.Tie as tie
 

@@ -1,6 +1,6 @@
 -- `kit::kit_run` answers and writes as the definitions say, and each of the six work areas is zero afterwards.
 use borrow.Author.Needs.{needs}
-use Rattle.kit.proofs.Laws.{still-zeroed}
+use Rattle.checking.proofs.Areas.{still-zeroed}
 use Rattle.kit.proofs.Running.{ran}
 use Rattle.kit.proofs.kit_run.Statement.{statement}
 use Rattle.kit.proofs.kit_run.Tie as tie

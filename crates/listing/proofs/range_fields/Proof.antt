@@ -1,6 +1,6 @@
 -- `listing::range_fields` prints the ranges of disjunct i of a condition.
 use borrow.Author.Needs.{needs}
-use Rattle.listing.proofs.Numbers.{range-fields}
+use Rattle.line_fields.proofs.Numbers.{range-fields}
 use Rattle.listing.proofs.range_fields.Statement.{statement}
 use Rattle.listing.proofs.range_fields.Tie as tie
 

@@ -3,8 +3,8 @@ use borrow.Author.Needs.{needs}
 use Prim.Native.Nat.{_-_}
 use Rattle.cache.specs.Areas.{catalogue}
 use Rattle.entries.specs.Entries.{waitingIn}
-use Rattle.listing.specs.Listed.{conditionText}
-use Rattle.listing.proofs.Printing.{Printing, printing-start, printing-step, printing-end}
+use Rattle.line_fields.specs.Listed.{conditionText}
+use Rattle.line_fields.proofs.Printing.{Printing, printing-start, printing-step, printing-end}
 use Rattle.listing.proofs.waiting_lines.Statement.{statement}
 use Rattle.listing.proofs.waiting_lines.Tie as tie
 

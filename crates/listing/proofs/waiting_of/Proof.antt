@@ -3,8 +3,8 @@ use borrow.Author.Needs.{needs}
 use Prim.Native.Nat.{_-_}
 use Rattle.cache.specs.Areas.{catalogue}
 use Rattle.entries.specs.Entries.{waitingIn}
-use Rattle.listing.specs.Listed.{entryText}
-use Rattle.listing.proofs.Printing.{Printing, printing-start, printing-step}
+use Rattle.line_fields.specs.Listed.{entryText}
+use Rattle.line_fields.proofs.Printing.{Printing, printing-start, printing-step}
 use Rattle.listing.proofs.Waiting.{waiting-end}
 use Rattle.listing.proofs.waiting_of.Statement.{statement}
 use Rattle.listing.proofs.waiting_of.Tie as tie

@@ -1,6 +1,6 @@
 -- `parts::add_part` adds the clause of a part that has a variable, by its kind.
 use borrow.Author.Needs.{needs}
-use Rattle.clauses.proofs.Adding.{good-can-add}
+use Rattle.storing.proofs.Adding.{good-can-add}
 use Rattle.parts.proofs.Clauses.{settable-out, lock-added, excluded-added, constrains-added, aux-out-added}
 use Rattle.parts.proofs.Names.{part-fits}
 use Rattle.parts.proofs.add_part.Statement.{statement}

@@ -1,6 +1,6 @@
 -- `sheet::carry_out` carries one of the five commands out, or refuses it.
 use borrow.Author.Needs.{needs}
-use Rattle.sheet.proofs.Held.{reaches-rising}
+use Rattle.beginning.proofs.Held.{reaches-rising}
 use Rattle.sheet.proofs.Outcomes.{as-add, as-draw, as-run, as-decide, as-undo}
 use Rattle.sheet.proofs.carry_out.Statement.{statement}
 use Rattle.sheet.proofs.carry_out.Tie as tie

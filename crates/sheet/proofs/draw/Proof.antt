@@ -1,6 +1,6 @@
 -- `sheet::draw` draws the entries of a condition that is given, and refuses another.
 use borrow.Author.Needs.{needs}
-use Rattle.sheet.proofs.Held.{reaches-given}
+use Rattle.beginning.proofs.Held.{reaches-given}
 use Rattle.sheet.proofs.Outcomes.{draw-did, draw-refused}
 use Rattle.sheet.proofs.draw.Statement.{statement}
 use Rattle.sheet.proofs.draw.Tie as tie

@@ -1,0 +1,4 @@
+pub mod Held
+pub mod Added
+pub mod Drawn
+pub mod Begin

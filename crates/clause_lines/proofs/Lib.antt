@@ -1,0 +1,4 @@
+pub mod Clauses
+pub mod Parts
+pub mod Walks
+pub mod Asserting

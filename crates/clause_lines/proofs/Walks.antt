@@ -1,0 +1,112 @@
+-- The literals of a union's candidates, range by range; and of a goal, by its form.
+use mathlib.Core.Path.{_≡_, refl, sym, _∙_}
+use mathlib.Core.Bool.{Bool, true}
+use mathlib.Core.List.{List, _++_, append-nil}
+use Prim.Native.Nat.{ℕ, _+_, _<_, _≤_}
+use native.Mathlib.Decide.{decLt}
+use native.Mathlib.Omega.{arith}
+use lib.Dec.{ltb}
+use lib.ListN.{length, getD}
+use borrow.Author.Tests.{ne-eqb}
+use Rattle.rules.specs.Lists.{concatMap}
+use Rattle.rules.specs.Catalogue.{Catalogue, union}
+use Rattle.rules.specs.Candidates.{sorted, goalRanges, candidates}
+use Rattle.rules.specs.Items.{goalOf}
+use Rattle.rules.specs.Variables.{Origin}
+use Rattle.rules.proofs.Each.{each-left, each-right}
+use Rattle.text.specs.Text.{Wrote, WroteBut}
+use Rattle.text.proofs.Written.{but-all, but-less, but-none, but-over, over-is}
+use Rattle.tables.specs.declared.Counts.{Counts}
+use Rattle.unions.specs.declared.Member.{Member}
+use Rattle.unions.specs.Unions.{Row, noRow, rows, rowOf, rangesOf, left, At, Next}
+use Rattle.unions.proofs.Laws.{walk-start}
+use Rattle.cache.specs.Areas.{catalogue}
+use Rattle.cache.proofs.Laws.{union-ranges-held, union-missing}
+use Rattle.kept.specs.Kept.{Kept}
+use Rattle.state.specs.declared.Limits.{Limits}
+use Rattle.variable_map.specs.Mapping.{AllKnown}
+use Rattle.encoder.specs.declared.Counters.{Counters}
+use Rattle.line_fields.specs.Listed.{partText, Ready}
+use Rattle.clause_lines.proofs.Parts.{parts-append, parts-none}
+
+-- ---- a union
+
+union-ranges : (k : Counts) (m u t : List ℕ) (x : ℕ) → Kept k m u t → goalRanges (catalogue k m u t) (union x) ≡ rangesOf x (rows (k .members) u)
+unfolding goalRanges
+union-ranges k m u t x f = elim (decLt x (k .unions)) [
+  | yes h ↦ union-ranges-held k m u t x h
+  | no h ↦ let g : k .unions ≤ x = omega arith in union-missing k m u t x g ∙ sym (f .given .none-yet x g)
+]
+
+union-candidates : (k : Counts) (m u t : List ℕ) (x : ℕ) → Kept k m u t → candidates (catalogue k m u t) (goalOf 1 x) ≡ concatMap (sorted (catalogue k m u t)) (rangesOf x (rows (k .members) u))
+unfolding candidates goalOf
+union-candidates k m u t x f = rw (union-ranges k m u t x f)
+
+-- before the union's row at place i; A is what the walk leans on
+pub record Walking (A : Type 0) (c : Catalogue) (vs : List Origin) (n : ℕ) (rs : List Row) (u at a i room : ℕ) (o o1 : List ℕ) : Type 0 where
+  pub ready : A
+  pub same : length o1 ≡ length o
+  pub place : At n rs u i
+  pub known : AllKnown vs (concatMap (sorted c) (left u i rs))
+  pub so-far : WroteBut at a (partText vs (concatMap (sorted c) (left u i rs))) (partText vs (candidates c (goalOf 1 u))) room o o1
+
+pub walking-start : {k : Counts} {m us t : List ℕ} {vs : List Origin} {l : Limits} {n : Counters} {b : List ℕ} {u at r room : ℕ} {o : List ℕ} → Ready k m us t l n b room
+    → AllKnown vs (candidates (catalogue k m us t) (goalOf 1 u)) → Next (k .members) (rows (k .members) us) u 0 r
+    → Walking (Ready k m us t l n b room) (catalogue k m us t) vs (k .members) (rows (k .members) us) u at at r room o o
+walking-start {k} {m} {us} {t} {u = u} {r = r} f a x =
+    let e : candidates (catalogue k m us t) (goalOf 1 u) ≡ concatMap (sorted (catalogue k m us t)) (left u r (rows (k .members) us)) =
+    union-candidates k m us t u (f .kept) ∙ rw (walk-start x) in
+    record { ready = f; same = refl; place = x .at; known = rw e at a; so-far = rw (← e) but-all }
+
+module _ {A : Type 0} {c : Catalogue} {vs : List Origin} {n : ℕ} {rs : List Row} {u at a i room : ℕ} {o o1 : List ℕ} (f : Walking A c vs n rs u at a i room o o1) where
+  module _ (m : Member) (h : i < n) (e : rowOf m ≡ getD rs i noRow) where
+    opened : concatMap (sorted c) (left u i rs) ≡ sorted c (m .range) ++ concatMap (sorted c) (left u (i + 1) rs)
+    unfolding concatMap rowOf
+    opened = rw (f .place .here h, ← e)
+
+    pub walking-known : AllKnown vs (sorted c (m .range))
+    walking-known = record { known = each-left (sorted c (m .range)) (concatMap (sorted c) (left u (i + 1) rs)) (rw opened at (f .known .known)) }
+
+    pub walking-step : {r b : ℕ} {o2 : List ℕ} → Wrote a b (partText vs (sorted c (m .range))) room o1 o2 → Next n rs u (i + 1) r → length o2 ≡ length o1
+        → Walking A c vs n rs u at b r room o o2
+    walking-step {r} w x l =
+        let q : concatMap (sorted c) (left u i rs) ≡ sorted c (m .range) ++ concatMap (sorted c) (left u r rs) = opened ∙ rw (x .same) in
+        record {
+          ready = f .ready;
+          same = l ∙ f .same;
+          place = x .at;
+          known = record { known = each-right (sorted c (m .range)) (rw q at (f .known .known)) };
+          so-far = but-less (partText vs (concatMap (sorted c) (left u i rs))) (partText vs (sorted c (m .range))) (partText vs (concatMap (sorted c) (left u r rs)))
+              (f .so-far) (rw (q, parts-append vs (sorted c (m .range)) (concatMap (sorted c) (left u r rs)))) w;
+        }
+
+  pub walking-end : n ≤ i → Wrote at a (partText vs (candidates c (goalOf 1 u))) room o o1
+  unfolding concatMap
+  walking-end h = but-none (rw (f .place .none-left h, concatMap, parts-none vs) at (f .so-far))
+
+  pub walking-over : {b : Bool} → b ≡ ltb room a → b ≡ true → Wrote at a (partText vs (candidates c (goalOf 1 u))) room o o1
+  walking-over e d = but-over (f .so-far) (over-is room a e d)
+
+-- ---- a goal
+
+module _ (c : Catalogue) (vs : List Origin) (form number : ℕ) where
+  range-candidates : form ≡ 0 → candidates c (goalOf form number) ≡ sorted c number
+  unfolding candidates goalRanges goalOf concatMap
+  range-candidates e = rw (e, append-nil)
+
+  as-union : (form ≡ 0 → ⊥) → goalOf form number ≡ goalOf 1 number
+  unfolding goalOf
+  as-union e = rw (ne-eqb form 0 e)
+
+  pub known-range : AllKnown vs (candidates c (goalOf form number)) → form ≡ 0 → AllKnown vs (sorted c number)
+  known-range a e = rw (range-candidates e) at a
+
+  pub known-union : AllKnown vs (candidates c (goalOf form number)) → (form ≡ 0 → ⊥) → AllKnown vs (candidates c (goalOf 1 number))
+  known-union a e = rw (as-union e) at a
+
+  module _ {at r room : ℕ} {o o1 : List ℕ} where
+    pub range-text : form ≡ 0 → Wrote at r (partText vs (sorted c number)) room o o1 → Wrote at r (partText vs (candidates c (goalOf form number))) room o o1
+    range-text e w = rw (range-candidates e) w
+
+    pub union-text : (form ≡ 0 → ⊥) → Wrote at r (partText vs (candidates c (goalOf 1 number))) room o o1 → Wrote at r (partText vs (candidates c (goalOf form number))) room o o1
+    union-text e w = rw (as-union e) w

@@ -1,0 +1,34 @@
+-- `clause_lines::candidate_literals` prints the literals of a goal's candidates, by its form.
+use borrow.Author.Needs.{needs}
+use Rattle.clause_lines.proofs.Walks.{known-range, known-union, range-text, union-text}
+use Rattle.clause_lines.proofs.candidate_literals.Statement.{statement}
+use Rattle.clause_lines.proofs.candidate_literals.Tie as tie
+
+range-literals-requires : tie.Need-range-literals-requires
+range-literals-requires c κs = (search needs, search (needs, known-range))
+
+same-length : tie.Need-same-length
+same-length c = search needs
+
+returns : tie.Need-returns
+returns c = search (needs, range-text)
+
+union-literals-requires : tie.Need-union-literals-requires
+union-literals-requires c κs = (search needs, search (needs, known-union))
+
+same-length-2 : tie.Need-same-length-2
+same-length-2 c = search needs
+
+returns-2 : tie.Need-returns-2
+returns-2 c = search (needs, union-text)
+
+pub candidate-literals-spec : {M : Type 1} → statement M
+candidate-literals-spec =
+    tie.close
+    (tie.spec
+    range-literals-requires
+    same-length
+    returns
+    union-literals-requires
+    same-length-2
+    returns-2)

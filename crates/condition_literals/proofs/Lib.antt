@@ -1,0 +1,4 @@
+pub mod Pushing
+pub mod Known
+pub mod Literals
+pub mod Falsified

@@ -1,0 +1,3 @@
+pub mod Items
+pub mod Conditions
+pub mod Tests

@@ -1,0 +1,4 @@
+pub mod Steps
+pub mod Helpers
+pub mod Parts
+pub mod Clauses
