@@ -1,4 +1,5 @@
 // Waiting and drawn entries in a lent area of their own. Callers see two lists, and not how they lie in the area.
+mod deferred;
 use state::Limits;
 ghost use mathlib.Core.Path.{_≡_};
 ghost use Prim.Native.Nat.{_+_, _*_, _<_, _≤_};
