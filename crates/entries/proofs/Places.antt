@@ -67,6 +67,25 @@ pub picked-both : {A B : Type 0} (held : List ℕ) (g : ℕ → A) (h : ℕ → 
 unfolding picked isHeld
 picked-both held g h n = simp length-map (length-filters (isFree held) (upTo 0 n) ∙ length-upTo 0 n)
 
+-- where none is held all are free
+module _ {A : Type 0} (held : List ℕ) (g : ℕ → A) where
+  one-more : (n : ℕ) (t : Bool) → isFree held n ≡ t → (length (picked (isHeld held) g n) ≡ 0 → picked (isFree held) g n ≡ map g (upTo 0 n))
+      → length (picked (isHeld held) g (n + 1)) ≡ 0 → picked (isFree held) g (n + 1) ≡ map g (upTo 0 (n + 1))
+  unfolding isHeld snoc
+  one-more n true t q h = picked-pass (isFree held) g n t ∙ rw (q (rw (picked-stop (isHeld held) g n (ap not t)) at h)) (sym (rows-more g n))
+  one-more n false t q h =
+      let e : length (picked (isHeld held) g n) + 1 ≡ 0 = sym (length-append (picked (isHeld held) g n) (g n ∷ [])) ∙ rw (picked-pass (isHeld held) g n (ap not t)) at h in
+      let no : ⊥ = omega arith in
+      absurd no
+
+  none-more : picked (isFree held) g 0 ≡ map g (upTo 0 0)
+  unfolding upTo
+  none-more = picked-none (isFree held) g
+
+  pub picked-all : (n : ℕ) → length (picked (isHeld held) g n) ≡ 0 → picked (isFree held) g n ≡ map g (upTo 0 n)
+  picked-all zero h = none-more
+  picked-all (suc n) h = rw (← add-one) (one-more n (isFree held n) refl (picked-all n) (rw (← add-one) at h))
+
 -- ---- one flag
 
 module _ (held : List ℕ) (i to more : ℕ) where
