@@ -1,19 +1,21 @@
 -- A draw: the entries that are held are drawn, and those that are free are left, both in order.
 use mathlib.Core.Path.{_≡_, refl, sym, _∙_, ap}
-use mathlib.Core.Bool.{Bool, true, false, not, cond}
+use mathlib.Core.Bool.{Bool, true, false, not, cond, Bool·not-not}
 use mathlib.Core.List.{List, [], _∷_, _++_, map, map-map, map-append, append-assoc, append-nil}
-use Prim.Native.Nat.{ℕ, zero, suc, _+_, _<_, _≤_, zero-le}
+use Prim.Native.Nat.{ℕ, _+_, _<_, _≤_, zero-le}
 use native.Mathlib.Numerals.{add-one}
 use native.Mathlib.Omega.{arith}
-use lib.ListN.{length, getD, take, length-append}
-use lib.Seq.{take-suc, take-all}
+use lib.Dec.{eqb}
+use lib.ListN.{length, getD, set, take, length-append}
+use lib.Seq.{take-suc, take-all, getD-set-same, getD-set-other}
+use borrow.Author.Tests.{eqb-true, eqb-false}
 use Rattle.rules.specs.Lists.{filter, snoc, upTo}
 use Rattle.state.specs.declared.Limits.{Limits}
-use Rattle.state.proofs.Rows.{length-rows, row-at, rows-more, rows-same}
+use Rattle.state.proofs.Rows.{length-rows, row-at, rows-same}
 use Rattle.entries.specs.declared.Entry.{Entry}
 use Rattle.entries.specs.Entries.{noEntry, entryOf, Long, rowAt, waitingIn, drawnIn, PushedWaiting, PushedDrawn}
-use Rattle.entries.specs.Deferred.{picked, isFree, isHeld, recordOf, freeRows, freeOf, heldOf, DrawnAt, DrawnAll, Stored, Drawn}
-use Rattle.entries.proofs.Places.{picked-none, picked-pass, picked-stop, picked-same, picked-both, picked-all, is-free, is-held}
+use Rattle.entries.specs.Deferred.{picked, isFree, isHeld, flagOf, Flags, recordOf, freeRows, freeOf, heldOf, DrawnAt, DrawnAll, Stored, Drawn}
+use Rattle.entries.proofs.Places.{picked-none, picked-pass, picked-stop, picked-same, picked-filter, picked-both, picked-all, is-free, is-held}
 
 pub length-waiting : (l : Limits) (n : ℕ) (b : List ℕ) → length (waitingIn l n b) ≡ n
 unfolding waitingIn
@@ -61,9 +63,6 @@ drawing-start {l} {held} {n} {d} {b} a h =
     }
 
 module _ {l : Limits} {held : List ℕ} {n d₀ i d : ℕ} {b₀ b : List ℕ} (r : Drawing l held n d₀ b₀ i d b) where
-  elem : ℕ → ℕ × ℕ
-  elem j = getD (waitingIn l n b₀) j noEntry
-
   drawn-by : (t : Bool) → isFree held i ≡ t
       → cond t (drawnIn l d b) (snoc (drawnIn l d b) (getD (waitingIn l n b) i noEntry)) ≡ drawnIn l d₀ b₀ ++ heldOf held (i + 1) (waitingIn l n b₀)
   unfolding heldOf isHeld
@@ -168,3 +167,59 @@ module _ {l : Limits} {held : List ℕ} {n d d′ : ℕ} {b b₁ : List ℕ} (r 
       let left : waitingIn l k b₂ ≡ freeOf held n (waitingIn l n b) = s .waiting ∙ (ap (map entryOf) f ∙ (free-rows l held n b₁ ∙ rw (r .waiting))) in
       let count : k ≡ length (freeOf held n (waitingIn l n b)) = sym (length-waiting l k b₂) ∙ ap length left in
       record { total = omega (arith, more, count, both l held n b); waiting = left; drawn = s .drawn d′ ∙ r .drawn }
+
+-- ---- for callers: a draw by a test
+
+pub flags-start : {f : ℕ × ℕ → Bool} {xs : List (ℕ × ℕ)} {held : List ℕ} → Flags f 0 xs held
+flags-start = record { is = λ i h. let no : ⊥ = omega arith in absurd no }
+
+-- the flag of one entry more
+module _ {f : ℕ × ℕ → Bool} {n : ℕ} {xs : List (ℕ × ℕ)} {held : List ℕ} (r : Flags f n xs held) where
+  flag-is : (b : Bool) (x : ℕ) → x ≡ flagOf b → not (eqb x 0) ≡ b
+  unfolding flagOf
+  flag-is true x e = rw e
+  flag-is false x e = rw e
+
+  pub flags-step : {b : Bool} {x : ℕ} → n < length held → b ≡ f (getD xs n noEntry) → x ≡ flagOf b → Flags f (n + 1) xs (set held n x)
+  unfolding isHeld isFree
+  flags-step {b} {x} h t e = record { is = λ i m. by-place i (eqb i n) refl m }
+    where
+      by-place : (i : ℕ) (z : Bool) → eqb i n ≡ z → i < n + 1 → not (eqb (getD (set held n x) i 0) 0) ≡ f (getD xs i noEntry)
+      by-place i true q m = rw (eqb-true i n q, getD-set-same held n x 0 h) (flag-is b x e ∙ t)
+      by-place i false q m = rw (getD-set-other held n i x 0 (eqb-false i n q)) (r .is i (omega (arith, eqb-false i n q)))
+
+-- 01, "Draw removes exactly the entries that then hold, in order"
+pub record Drained (l : Limits) (f : ℕ × ℕ → Bool) (n d₀ : ℕ) (b₀ : List ℕ) (k d : ℕ) (b : List ℕ) : Type 0 where
+  pub total : d + k ≡ d₀ + n
+  pub waiting : waitingIn l k b ≡ filter (λ e. not (f e)) (waitingIn l n b₀)
+  pub drawn : drawnIn l d b ≡ drawnIn l d₀ b₀ ++ filter f (waitingIn l n b₀)
+
+-- the entries that are held are those that pass the test
+module _ {f : ℕ × ℕ → Bool} {n : ℕ} {xs : List (ℕ × ℕ)} {held : List ℕ} (r : Flags f n xs held) (many : length xs ≡ n) where
+  abbrev elem : ℕ → ℕ × ℕ
+  elem i = getD xs i noEntry
+
+  by-test : (g : ℕ → Bool) (h : ℕ × ℕ → Bool) → ((i : ℕ) → i < n → g i ≡ h (elem i)) → picked g elem n ≡ filter h xs
+  by-test g h e =
+      picked-same g (λ i. h (elem i)) elem elem n e (λ i m. refl)
+      ∙ (picked-filter h noEntry xs n (omega arith) ∙ ap (filter h) (take-all n xs (omega arith)))
+
+  held-by : heldOf held n xs ≡ filter f xs
+  unfolding heldOf
+  held-by = by-test (isHeld held) f (r .is)
+
+  free-at : (i : ℕ) → i < n → isFree held i ≡ not (f (elem i))
+  unfolding isHeld
+  free-at i h = sym (Bool·not-not (isFree held i)) ∙ ap not (r .is i h)
+
+  free-by : freeOf held n xs ≡ filter (λ e. not (f e)) xs
+  unfolding freeOf
+  free-by = by-test (isFree held) (λ e. not (f e)) free-at
+
+pub drained : {l : Limits} {f : ℕ × ℕ → Bool} {held : List ℕ} {n d k d′ : ℕ} {b₀ b : List ℕ} → Drawn l held n d b₀ k d′ b → Flags f n (waitingIn l n b₀) held → Drained l f n d b₀ k d′ b
+drained {l} {n = n} {b₀ = b₀} s r =
+    record {
+      total = s .total;
+      waiting = s .waiting ∙ free-by r (length-waiting l n b₀);
+      drawn = s .drawn ∙ rw (held-by r (length-waiting l n b₀));
+    }

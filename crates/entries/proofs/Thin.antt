@@ -4,7 +4,7 @@
 --     rows, nexts       the same of a covered callee that is passed bytes: the value returned
 -- A local array is `cells` by `Cells.antt`'s `made`; a `&mut [Entry]` that is held is opened (`Denote/Index.antt`'s `opens-slice`, `whole-in`), and closed once at the end.
 -- Assumes `Given`, and the callee's theorem.
-use mathlib.Core.Path.{_≡_, refl, sym, _∙_, ap, subst}
+use mathlib.Core.Path.{_≡_, refl, _∙_, ap, subst}
 use Prim.Native.Nat.{ℕ, _+_, _*_, _<_, _≤_, _^_}
 use mathlib.Core.List.{List, [], _∷_}
 use lib.ListN.{length, set, take}
@@ -37,7 +37,7 @@ use denote.Triple.Clauses.{ensured, lasts}
 use Rattle.entries.specs.declared.Entry.{Entry}
 use Rattle.entries.specs.Entries.{entryOf, rowAt}
 use Rattle.entries.specs.Deferred.{recordAt, recordOf, behind, listed, freeRecords}
-use Rattle.entries.proofs.Cells.{lent-at, lent-call, shared-call, Leaves, lent-beside, passed, Again, passed-call}
+use Rattle.entries.proofs.Cells.{lent-call, shared-call, lent-beside, passed-call}
 use Rattle.entries.proofs.Entry as T
 use Rattle.entries.proofs.Entry.Laws as T′
 use Rattle.entries.proofs.row_at as row-at

@@ -2,7 +2,7 @@
 use mathlib.Core.Path.{_≡_}
 use mathlib.Core.Bool.{Bool, not, cond}
 use mathlib.Core.List.{List, _++_, map}
-use Prim.Native.Nat.{ℕ, _+_, _≤_}
+use Prim.Native.Nat.{ℕ, _+_, _<_, _≤_}
 use lib.Dec.{eqb}
 use lib.ListN.{getD, take}
 use Rattle.rules.specs.Lists.{filter, snoc, upTo}
@@ -24,6 +24,14 @@ isHeld held i = not (isFree held i)
 -- the place behind an entry that is kept, and the same place again after one that is held
 unfoldable pub behind : List ℕ → ℕ → ℕ → ℕ → ℕ
 behind held i to more = cond (isFree held i) more to
+
+-- the flag of an entry, by whether it is held
+unfoldable pub flagOf : Bool → ℕ
+flagOf b = cond b 1 0
+
+-- of the first n entries those are held that pass a test
+pub record Flags (f : ℕ × ℕ → Bool) (n : ℕ) (xs : List (ℕ × ℕ)) (held : List ℕ) : Type 0 where
+  pub is : (i : ℕ) → i < n → isHeld held i ≡ f (getD xs i noEntry)
 
 -- ---- records
 

@@ -1,9 +1,16 @@
-// The entries that wait as a list of records, which is lent: thin functions put one behind the others, and drain the held ones.
+// Deferred entries as a lent list of records: one is pushed behind the others, and the held ones are drained, in order.
+// A function that has the list as a parameter, or makes it, is proved by a walk of its code.
 use crate::Entry;
 ghost use mathlib.Core.Path.{_≡_};
 ghost use Prim.Native.Nat.{_+_, _*_, _<_, _≤_};
 ghost use lib.ListN.{length, set, take};
 ghost use Rattle.entries.specs.Deferred.{recordAt, behind, listed, freeRecords, freeRows};
+
+// The records of a list, of which the first n count.
+pub struct Listed {
+    pub records: [Entry; 2048],
+    pub n: usize,
+}
 
 // The record at place i.
 pub fn get(es: &[Entry], i: usize) -> Entry
@@ -45,7 +52,7 @@ pub fn next(held: &[u8], i: usize, to: usize, more: usize) -> usize
     to
 }
 
-// Of the first n, removes those that are held, and says how many are left. Their order is kept.
+// Of the first n, removes those that are held, and says how many are left. The others keep their order.
 pub fn drain(es: &mut [Entry], held: &[u8], n: usize) -> usize
     requires { ⌜ (n ≤ length (now es)) × (n ≤ length (now held)) ⌝ }
     ensures { λ r. ⌜ (r ≤ n) × (take r (now (es .exit)) ≡ freeRecords (now (held .entry)) n (now (es .entry))) ⌝ }
@@ -61,13 +68,7 @@ pub fn drain(es: &mut [Entry], held: &[u8], n: usize) -> usize
     to
 }
 
-// The records of a list, of which the first n count.
-pub struct Listed {
-    pub records: [Entry; 2048],
-    pub n: usize,
-}
-
-// The first n rows of the area without those that are held.
+// The first n rows of the area but those that are held, in order. The list is made here, and lent.
 pub fn remaining(w: &[u8], held: &[u8], n: usize) -> Listed
     requires { ⌜ (n ≤ 2048) × ((4 * n ≤ length (now w)) × (n ≤ length (now held))) ⌝ }
     ensures { λ r. ⌜ (r .n ≤ n) × (take (r .n) (r .records) ≡ freeRows (now (held .entry)) n (now (w .entry))) ⌝ }

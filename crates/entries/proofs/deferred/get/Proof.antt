@@ -1,5 +1,5 @@
 -- `entries::deferred::get` meets its contract: a walk of its MIR, by hand. The slice is looked into, one record is taken out of the row, read whole, and put back.
-use mathlib.Core.Path.{_≡_, refl, sym}
+use mathlib.Core.Path.{refl, sym}
 use Prim.Native.Nat.{ℕ, _<_, _*_, _^_}
 use mathlib.Core.List.{List, [], _∷_}
 use native.Mathlib.Omega.{arith}

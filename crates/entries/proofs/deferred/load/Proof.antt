@@ -1,5 +1,5 @@
 -- `entries::deferred::load` pushes the rows of the area: a walk of its MIR, by hand, with a loop. The list that is held is opened before the loop and closed after it; in each turn the calls are `Thin.antt`'s `rows` and `pushes`. What is known of the list is `Places.antt`'s `Loading`.
-use mathlib.Core.Path.{_≡_, refl, sym, _∙_, ap, subst}
+use mathlib.Core.Path.{_≡_, refl, sym, ap, subst}
 use mathlib.Core.Bool.{Bool, true, false}
 use mathlib.Core.WellFounded.{WellFounded, InvImage·wf}
 use Prim.Native.Nat.{ℕ, _<_, _≤_, _+_, _*_, _-_, _^_, zero-le}
