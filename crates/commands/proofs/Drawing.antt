@@ -3,10 +3,10 @@ use mathlib.Core.Path.{_≡_, refl, sym, _∙_, ap}
 use mathlib.Core.Bool.{Bool, true, false, cond, true≢false}
 use mathlib.Core.List.{List, []}
 use mathlib.Core.Option.{none, some}
-use Prim.Native.Nat.{ℕ, _+_, _<_, _≤_}
+use Prim.Native.Nat.{ℕ, _+_, _<_, _≤_, zero-le}
 use native.Mathlib.Omega.{arith}
 use lib.Dec.{eqb}
-use lib.ListN.{length, getD}
+use lib.ListN.{length, getD, set, length-set}
 use borrow.Author.Tests.{eq-eqb, ne-eqb, le-leb, lt-leb}
 use Rattle.rules.specs.Lists.{any}
 use Rattle.rules.specs.Catalogue as rules
@@ -35,8 +35,9 @@ use Rattle.state.proofs.Changed.{changed-none}
 use Rattle.variable_map.specs.Mapping.{variables}
 use Rattle.decision_tracker.specs.Tracking.{decisions}
 use Rattle.entries.specs.declared.Entry as entries
-use Rattle.entries.specs.Entries.{noEntry, entryOf, waitingIn, Long, Sifted}
-use Rattle.entries.proofs.Drain.{length-waiting, Draining, same-entry, draining-start, draining-step, draining-end}
+use Rattle.entries.specs.Entries.{noEntry, entryOf, waitingIn, Long}
+use Rattle.entries.specs.Deferred.{flagOf, Flags, Drawn}
+use Rattle.entries.proofs.Drain.{length-waiting, flags-start, flags-step, Drained, drained}
 use Rattle.encoder.specs.declared.Counters.{Counters}
 use Rattle.encoder.specs.Held.{Reading, openingOf, stateOf, Good}
 use Rattle.encoder.specs.Did.{limitsOf, onOpening}
@@ -95,21 +96,43 @@ module _ (k : Counts) (m u t : List ℕ) (c : ℕ) (e : ℕ × ℕ) (x : entries
     unfolding isDrawn entryHolds disjunctAt entryOf
     entry-drawn f b p = rw (condition-there, eq-eqb c c refl, disjuncts-there, ← ex) p
 
--- ---- the loop
+-- ---- a flag for each entry
 
-pub draw-start : {l : Limits} {f : ℕ × ℕ → Bool} {n d : ℕ} {b : List ℕ} → Long l (length b) → n + d ≤ l .waiting → Draining l f n d b 0 0 d b
-draw-start {l} {f} {n} {d} {b} a h = draining-start l f n d b a (omega arith)
+pub flag-held : (b : Bool) → b ≡ true → 1 ≡ flagOf b
+unfolding flagOf
+flag-held b e = rw e
 
-module _ {l : Limits} {f : ℕ × ℕ → Bool} {n d₀ i j d : ℕ} {b₀ b : List ℕ} (r : Draining l f n d₀ b₀ i j d b) (h : i < n) where
-  pub entry-given : {c : Catalogue} → AllGiven c (waitingIn l n b₀) → Entry c (getD (waitingIn l n b) i noEntry)
-  entry-given a = rw (same-entry r h) (each-at (a .given) i noEntry (omega (arith, length-waiting l n b₀)))
+pub flag-free : (b : Bool) → b ≡ false → 0 ≡ flagOf b
+unfolding flagOf
+flag-free b e = rw e
 
-  pub draw-step : {t : Bool} {j′ d′ : ℕ} {b′ : List ℕ} → t ≡ f (getD (waitingIn l n b) i noEntry) → Sifted l n i t j d b j′ d′ b′ → length b′ ≡ length b
-      → Draining l f n d₀ b₀ (i + 1) j′ d′ b′
-  unfolding entryOf
-  draw-step q s e =
-      let x : ℕ × ℕ = getD (waitingIn l n b) i noEntry in
-      draining-step r h (record { requirement = x .0; disjunct = x .1 }) _ _ _ _ refl q s e
+-- those of the first i entries
+pub record Flagging (f : ℕ × ℕ → Bool) (n : ℕ) (xs : List (ℕ × ℕ)) (i : ℕ) (held : List ℕ) : Type 0 where
+  pub count : length held ≡ 2048
+  pub passed : i ≤ n
+  pub small : n ≤ 2048
+  pub flags : Flags f i xs held
+
+pub flagging-start : {f : ℕ × ℕ → Bool} {n : ℕ} {xs : List (ℕ × ℕ)} {held : List ℕ} {l : Limits} {bytes : ℕ} → length held ≡ 2048 → Long l bytes → n ≤ l .waiting → Flagging f n xs 0 held
+flagging-start e a h = record { count = e; passed = zero-le; small = omega (arith, a .waiting); flags = flags-start }
+
+module _ {f : ℕ × ℕ → Bool} {n i : ℕ} {xs : List (ℕ × ℕ)} {held : List ℕ} (r : Flagging f n xs i held) where
+  pub flagging-step : {b : Bool} {x : ℕ} → i < n → b ≡ f (getD xs i noEntry) → x ≡ flagOf b → Flagging f n xs (i + 1) (set held i x)
+  flagging-step {b} {x} h t e =
+      record {
+        count = length-set held i x ∙ r .count;
+        passed = omega arith;
+        small = r .small;
+        flags = flags-step (r .flags) (omega (arith, r .count, r .small)) t e;
+      }
+
+  pub flagging-end : n ≤ i → Flags f n xs held
+  flagging-end h =
+      let e : i ≡ n = omega (arith, r .passed) in
+      rw e at (r .flags)
+
+pub entry-given : {c : Catalogue} (l : Limits) (n i : ℕ) (b : List ℕ) → AllGiven c (waitingIn l n b) → i < n → Entry c (getD (waitingIn l n b) i noEntry)
+entry-given l n i b a h = each-at (a .given) i noEntry (omega (arith, length-waiting l n b))
 
 -- ---- the end
 
@@ -135,16 +158,19 @@ drawing x y n =
       full = n .full;
     }
 
-pub draw-end : {c : Catalogue} {l : Limits} {k : ℕ} {n : Counters} {st : ℕ → List ℕ} {i j d : ℕ} {wt wt′ : List ℕ}
-    → Draining l (isDrawn c (trueOf (variables (n .variables) st) (decisions (n .decisions) st)) k) (n .waiting) (n .drawn) wt i j d wt′ → n .waiting ≤ i
-    → Draws c l k n st wt (drawing j d n) wt′
-draw-end {c} {l} {k} {n} {st} {i} {j} {d} {wt} {wt′} r h = record { good = good; full = refl; runs = refl; is = state }
+pub draw-end : {c : Catalogue} {l : Limits} {k : ℕ} {n : Counters} {st : ℕ → List ℕ} {held : List ℕ} {j d : ℕ} {wt wt′ : List ℕ}
+    → Flags (isDrawn c (trueOf (variables (n .variables) st) (decisions (n .decisions) st)) k) (n .waiting) (waitingIn l (n .waiting) wt) held
+    → Drawn l held (n .waiting) (n .drawn) wt j d wt′ → Draws c l k n st wt (drawing j d n) wt′
+draw-end {c} {l} {k} {n} {st} {held} {j} {d} {wt} {wt′} f s = record { good = good; full = refl; runs = refl; is = state }
   where
+    r : Drained l (isDrawn c (trueOf (variables (n .variables) st) (decisions (n .decisions) st)) k) (n .waiting) (n .drawn) wt j d wt′
+    r = drained s f
+
     good : (cl : List ℕ) → Good c l n st cl wt → Good c l (drawing j d n) st cl wt′
-    good cl g = unfold any in good-kept (changed-none [] st) g (search) refl refl refl refl refl (omega (arith, draining-end r h .total, g .entries))
+    good cl g = unfold any in good-kept (changed-none [] st) g (search) refl refl refl refl refl (omega (arith, r .total, g .entries))
 
     state : (cl : List ℕ) (v : Reading) → stateOf c l v (drawing j d n) st cl wt′ ≡ onOpening (draw c (decidedTrue (stateOf c l v n st cl wt)) k) (stateOf c l v n st cl wt)
-    state cl v = unfold stateOf openingOf onOpening draw decidedTrue trueOf in rw (draining-end r h .waiting, draining-end r h .drawn)
+    state cl v = unfold stateOf openingOf onOpening draw decidedTrue trueOf in rw (r .waiting, r .drawn)
 
 -- ---- for callers
 

@@ -26,6 +26,7 @@ ghost use Rattle.variable_map.specs.Mapping.{variables, Mapped};
 ghost use Rattle.decision_tracker.specs.Tracking.{decisions, Kept};
 ghost use Rattle.marked.specs.Marked.{ownerOf, Marked};
 ghost use Rattle.entries.specs.Entries.{noEntry, waitingIn, Long};
+ghost use Rattle.entries.specs.Deferred.{flagOf, Flags};
 ghost use Rattle.encoder.specs.Did.{onOpening};
 ghost use Rattle.goals.specs.Goals.{Catalogued, trueOf, AllGiven};
 ghost use Rattle.commands.specs.Commands.{Changes, Draws, DecidesLiteral, PlainOutcomes, PartOutcomes};
@@ -108,6 +109,45 @@ fn is_drawn(
     )
 }
 
+// The flag of an entry: 1, it is to be drawn, or else 0.
+fn flag(drawn: bool) -> u8
+    ensures { λ r. ⌜ r ≡ flagOf drawn ⌝ }
+{
+    if drawn {
+        return 1;
+    }
+    0
+}
+
+// Which entries are of condition c and hold: a flag for each.
+fn held_flags(
+    marks: &[u8],
+    unions: &[u8],
+    t: &[u8],
+    k: Counts,
+    s: &[u8],
+    w: &[u8],
+    l: Limits,
+    n: Counters,
+    c: u16,
+) -> [u8; 2048]
+    requires { ⌜ Catalogued k (now marks) (now unions) (now t) ⌝ }
+    requires { ⌜ Fits l (length (now s)) ⌝ }
+    requires { ⌜ Mapped l (n .variables) (held l (now s)) × Kept l (n .decisions) (held l (now s)) ⌝ }
+    requires { ⌜ Long l (length (now w)) × (n .waiting ≤ l .waiting) ⌝ }
+    requires { ⌜ AllGiven (catalogue k (now marks) (now unions) (now t)) (waitingIn l (n .waiting) (now w)) ⌝ }
+    ensures { λ r. ⌜ Flags (isDrawn (catalogue k (now (marks .entry)) (now (unions .entry)) (now (t .entry))) (trueOf (variables (n .variables) (held l (now (s .entry)))) (decisions (n .decisions) (held l (now (s .entry))))) c) (n .waiting) (waitingIn l (n .waiting) (now (w .entry))) r ⌝ }
+{
+    let mut flags = [0u8; 2048];
+    let mut i = 0;
+    while i < n.waiting {
+        let drawn = is_drawn(marks, unions, t, k, s, w, l, n, c, i);
+        flags[i] = flag(drawn);
+        i += 1;
+    }
+    flags
+}
+
 // The entries of condition c that hold are drawn, in order.
 pub fn draw(
     marks: &[u8],
@@ -127,16 +167,8 @@ pub fn draw(
     requires { ⌜ AllGiven (catalogue k (now marks) (now unions) (now t)) (waitingIn l (n .waiting) (now w)) ⌝ }
     ensures { λ m. ⌜ Draws (catalogue k (now (marks .entry)) (now (unions .entry)) (now (t .entry))) l c n (held l (now (s .entry))) (now (w .entry)) m (now (w .exit)) ⌝ }
 {
-    let mut counts = entries::Counts {
-        kept: 0,
-        drawn: n.drawn,
-    };
-    let mut i = 0;
-    while i < n.waiting {
-        let taken = is_drawn(marks, unions, t, k, s, w, l, n, c, i);
-        counts = entries::sift(w, l, n.waiting, i, counts, taken);
-        i += 1;
-    }
+    let flags = held_flags(marks, unions, t, k, s, w, l, n, c);
+    let counts = entries::draw(w, &flags, l, n.waiting, n.drawn);
     let mut m = n;
     m.waiting = counts.kept;
     m.drawn = counts.drawn;

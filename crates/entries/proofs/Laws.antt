@@ -1,6 +1,5 @@
--- Entries against their code: a row of two numbers, one entry more at the end of either list, and one entry taken or kept.
-use mathlib.Core.Path.{_≡_, refl, sym, _∙_, ap}
-use mathlib.Core.Bool.{Bool, true, false}
+-- Entries against their code: a row of two numbers, and one entry more at the end of either list.
+use mathlib.Core.Path.{_≡_, refl, sym, _∙_}
 use mathlib.Core.List.{List, map}
 use Prim.Native.Nat.{ℕ, zero, suc, _+_, _*_, _<_, _≤_}
 use native.Mathlib.Omega.{arith}
@@ -11,7 +10,7 @@ use Rattle.words.specs.Words.{words, words-in}
 use Rattle.state.specs.declared.Limits.{Limits}
 use Rattle.state.proofs.Rows.{row-at, rows-more, rows-same}
 use Rattle.entries.specs.declared.Entry.{Entry}
-use Rattle.entries.specs.Entries.{noEntry, entryOf, rowAt, RowSet, waitingIn, drawnIn, PushedWaiting, PushedDrawn, Kept, Sifted}
+use Rattle.entries.specs.Entries.{noEntry, entryOf, rowAt, RowSet, waitingIn, drawnIn, PushedWaiting, PushedDrawn}
 
 -- ---- a row
 
@@ -90,23 +89,3 @@ module _ {n : ℕ} {x : ℕ × ℕ} {b b′ : List ℕ} (l : Limits) (h : n < l 
             ∙ rw (r .there, rows-same (λ i. rowAt b′ (l .waiting + i)) (λ i. rowAt b (l .waiting + i)) n (λ i m. r .others (l .waiting + i) (λ e. omega arith)));
         waiting = λ k m. rows-same (λ i. rowAt b′ i) (λ i. rowAt b i) k (λ i g. r .others i (λ e. omega arith));
       }
-
-pub keep-is : (l : Limits) (n i j r : ℕ) (e : Entry) (b b′ : List ℕ) → j ≤ i → entryOf e ≡ getD (waitingIn l n b) i noEntry
-    → PushedWaiting l j (entryOf e) b r b′ → Kept l n i j b r b′
-keep-is l n i j r e b b′ h d p =
-    record { count = p .count; waiting = p .waiting ∙ rw d; rest = p .rest (i + 1) n (omega arith); drawn = p .drawn }
-
-pub sift-taken : (l : Limits) (n i j d d′ : ℕ) (t : Bool) (e : Entry) (b b′ : List ℕ) → t ≡ true → n ≤ l .waiting → i < n → j ≤ i
-    → entryOf e ≡ getD (waitingIn l n b) i noEntry → PushedDrawn l d (entryOf e) b d′ b′ → Sifted l n i t j d b j d′ b′
-sift-taken l n i j d d′ t e b b′ q m h g x p =
-    record {
-      fewer = omega arith;
-      total = omega (arith, p .count);
-      waiting = rw q (p .waiting j (omega arith));
-      drawn = rw (q, ← x) (p .drawn);
-      rest = ap (drop (i + 1)) (p .waiting n m);
-    }
-
-pub sift-kept : (l : Limits) (n i j d j′ : ℕ) (t : Bool) (b b′ : List ℕ) → t ≡ false → Kept l n i j b j′ b′ → Sifted l n i t j d b j′ d b′
-sift-kept l n i j d j′ t b b′ q k =
-    record { fewer = omega (arith, k .count); total = omega (arith, k .count); waiting = rw q (k .waiting); drawn = rw q (k .drawn d); rest = k .rest }

@@ -1,6 +1,5 @@
 -- The waiting area: the entries that wait and those that were drawn, each a requirement and the index of one of its disjuncts, in order.
 use mathlib.Core.Path.{_≡_}
-use mathlib.Core.Bool.{Bool, cond}
 use mathlib.Core.List.{List, map}
 use Prim.Native.Nat.{ℕ, _+_, _*_, _<_, _≤_}
 use lib.ListN.{getD, drop}
@@ -49,18 +48,3 @@ pub record PushedDrawn (l : Limits) (n : ℕ) (x : ℕ × ℕ) (b : List ℕ) (n
   pub count : n′ ≡ n + 1
   pub drawn : drawnIn l n′ b′ ≡ snoc (drawnIn l n b) x
   pub waiting : (k : ℕ) → k ≤ l .waiting → waitingIn l k b′ ≡ waitingIn l k b
-
--- of n entries, the one at place i becomes the last of the j that are kept; those behind it are as they were
-pub record Kept (l : Limits) (n i j : ℕ) (b : List ℕ) (j′ : ℕ) (b′ : List ℕ) : Type 0 where
-  pub count : j′ ≡ j + 1
-  pub waiting : waitingIn l j′ b′ ≡ snoc (waitingIn l j b) (getD (waitingIn l n b) i noEntry)
-  pub rest : drop (i + 1) (waitingIn l n b′) ≡ drop (i + 1) (waitingIn l n b)
-  pub drawn : (k : ℕ) → drawnIn l k b′ ≡ drawnIn l k b
-
--- of n entries, the one at place i is taken to the d drawn ones, or else it is kept behind the j that are kept
-pub record Sifted (l : Limits) (n i : ℕ) (taken : Bool) (j d : ℕ) (b : List ℕ) (j′ d′ : ℕ) (b′ : List ℕ) : Type 0 where
-  pub fewer : j′ ≤ j + 1
-  pub total : d′ + j′ ≡ d + j + 1
-  pub waiting : waitingIn l j′ b′ ≡ cond taken (waitingIn l j b) (snoc (waitingIn l j b) (getD (waitingIn l n b) i noEntry))
-  pub drawn : drawnIn l d′ b′ ≡ cond taken (snoc (drawnIn l d b) (getD (waitingIn l n b) i noEntry)) (drawnIn l d b)
-  pub rest : drop (i + 1) (waitingIn l n b′) ≡ drop (i + 1) (waitingIn l n b)

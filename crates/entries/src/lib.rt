@@ -1,9 +1,12 @@
 // Waiting and drawn entries in a lent area of their own. Callers see two lists, and not how they lie in the area.
+mod deferred;
+
 use state::Limits;
 ghost use mathlib.Core.Path.{_≡_};
 ghost use Prim.Native.Nat.{_+_, _*_, _<_, _≤_};
 ghost use lib.ListN.{length, getD};
-ghost use Rattle.entries.specs.Entries.{noEntry, entryOf, Long, rowAt, RowSet, waitingIn, drawnIn, PushedWaiting, PushedDrawn, Kept, Sifted};
+ghost use Rattle.entries.specs.Entries.{noEntry, entryOf, Long, rowAt, RowSet, waitingIn, drawnIn, PushedWaiting, PushedDrawn};
+ghost use Rattle.entries.specs.Deferred.{DrawnAt, DrawnAll, Stored, Drawn};
 
 // A requirement and the index of one of its disjuncts.
 pub struct Entry {
@@ -11,7 +14,7 @@ pub struct Entry {
     pub disjunct: u16,
 }
 
-// How many entries are kept and drawn while all that wait are looked at.
+// How many entries wait and are drawn after a draw.
 pub struct Counts {
     pub kept: usize,
     pub drawn: usize,
@@ -71,31 +74,56 @@ pub fn push_drawn(w: &mut [u8], l: Limits, n: usize, e: Entry) -> usize
     n + 1
 }
 
-// Of n that wait, the one at place i moves down behind the j that are kept.
-pub fn keep(w: &mut [u8], l: Limits, n: usize, i: usize, j: usize) -> usize
-    requires { ⌜ Long l (length (now w)) × (n ≤ l .waiting) × (i < n) × (j ≤ i) ⌝ }
-    ensures { λ r. ⌜ Kept l n i j (now (w .entry)) r (now (w .exit)) ⌝ }
+// Of n that wait, the one at place i is drawn where it is held.
+fn draw_held(w: &mut [u8], held: &[u8], l: Limits, n: usize, drawn: usize, i: usize) -> usize
+    requires { ⌜ Long l (length (now w)) × (n ≤ l .waiting) × (i < n) × (drawn < l .waiting) × (i < length (now held)) ⌝ }
+    ensures { λ r. ⌜ DrawnAt l (now (held .entry)) n i drawn (now (w .entry)) r (now (w .exit)) ⌝ }
 {
+    if held[i] == 0 {
+        return drawn;
+    }
     let e = waiting_at(w, l, n, i);
-    push_waiting(w, l, j, e)
+    push_drawn(w, l, drawn, e)
 }
 
-// Of n that wait, the one at place i is taken to the drawn ones, or else kept. For i from 0 on this draws the entries that are taken, in order.
-pub fn sift(w: &mut [u8], l: Limits, n: usize, i: usize, k: Counts, taken: bool) -> Counts
-    requires { ⌜ Long l (length (now w)) × (n ≤ l .waiting) × (i < n) × (k .kept ≤ i) × (k .drawn < l .waiting) ⌝ }
-    ensures { λ r. ⌜ Sifted l n i taken (k .kept) (k .drawn) (now (w .entry)) (r .kept) (r .drawn) (now (w .exit)) ⌝ }
+// Of n that wait, those that are held are drawn, in order. They still wait.
+fn draw_all(w: &mut [u8], held: &[u8], l: Limits, n: usize, drawn: usize) -> usize
+    requires { ⌜ Long l (length (now w)) × (n + drawn ≤ l .waiting) × (n ≤ length (now held)) ⌝ }
+    ensures { λ r. ⌜ DrawnAll l (now (held .entry)) n drawn (now (w .entry)) r (now (w .exit)) ⌝ }
 {
-    if taken {
-        let e = waiting_at(w, l, n, i);
-        let drawn = push_drawn(w, l, k.drawn, e);
-        return Counts {
-            kept: k.kept,
-            drawn,
-        };
+    let mut r = drawn;
+    let mut i = 0;
+    while i < n {
+        r = draw_held(w, held, l, n, r, i);
+        i += 1;
     }
-    let kept = keep(w, l, n, i, k.kept);
-    Counts {
-        kept,
-        drawn: k.drawn,
+    r
+}
+
+// The first n records wait, and no others.
+fn store(w: &mut [u8], l: Limits, records: [Entry; 2048], n: usize)
+    requires { ⌜ Long l (length (now w)) × (n ≤ l .waiting) ⌝ }
+    ensures { λ _. ⌜ Stored l records n (now (w .entry)) (now (w .exit)) ⌝ }
+{
+    let mut i = 0;
+    while i < n {
+        let e = records[i];
+        i = push_waiting(w, l, i, e);
     }
+}
+
+// Of n that wait, those that are held are drawn, and the others are left, both in order.
+pub fn draw(w: &mut [u8], held: &[u8], l: Limits, n: usize, drawn: usize) -> Counts
+    requires { ⌜ Long l (length (now w)) × (n + drawn ≤ l .waiting) × (n ≤ length (now held)) ⌝ }
+    ensures { λ r. ⌜ Drawn l (now (held .entry)) n drawn (now (w .entry)) (r .kept) (r .drawn) (now (w .exit)) ⌝ }
+{
+    let more = draw_all(w, held, l, n, drawn);
+    if more == drawn {
+        return Counts { kept: n, drawn };
+    }
+    let left = deferred::remaining(w, held, n);
+    let records = left.records;
+    let kept = left.n;
+    store(w, l, records, kept);
+    Counts { kept, drawn: more }
 }

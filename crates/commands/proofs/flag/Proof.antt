@@ -1,0 +1,14 @@
+-- `commands::flag` gives 1 for an entry that is held, and 0 for one that is free.
+use borrow.Author.Needs.{needs}
+use Rattle.commands.proofs.Drawing.{flag-held, flag-free}
+use Rattle.commands.proofs.flag.Statement.{statement}
+use Rattle.commands.proofs.flag.Tie as tie
+
+returns : tie.Need-returns
+returns c = search (needs, flag-held)
+
+returns-2 : tie.Need-returns-2
+returns-2 c = search (needs, flag-free)
+
+pub flag-spec : {M : Type 1} → statement M
+flag-spec = tie.close (tie.spec returns returns-2)
