@@ -26,7 +26,7 @@ use Rattle.cache.specs.Areas.{catalogue}
 use Rattle.cache.specs.Lists.{chosen, choice}
 use Rattle.cache.proofs.Laws.{parts-held}
 use Rattle.cache.proofs.Lists.{sorted-is}
-use Rattle.kept.specs.Kept.{Kept}
+use Rattle.index.specs.Indexed.{Indexed}
 use Rattle.variable_map.specs.declared.Origin.{Origin}
 use Rattle.variable_map.specs.Mapping.{originOf, inTables, AllKnown}
 use Rattle.encoder.specs.Did.{Looked}
@@ -59,7 +59,7 @@ module _ (vs : List variables.Origin) where
       (λ e. rw (e, listIf, filter, filtered f ps) (sym (parts-append (p ∷ []) (filter f ps))))
       (λ e. rw (e, listIf, filter, filtered f ps, parts-none))
 
-pub in-tables : (k : Counts) (m u t : List ℕ) (p : ℕ) (x : Origin) → Kept k m u t → p < k .parts → originOf x ≡ partOrigin p → inTables (originOf x) ≡ true
+pub in-tables : (k : Counts) (m u t : List ℕ) (p : ℕ) (x : Origin) → Indexed k m u t → p < k .parts → originOf x ≡ partOrigin p → inTables (originOf x) ≡ true
 unfolding inTables
 in-tables k m u t p x f h e = rw e (lt-ltb p 1024 (omega arith))
 

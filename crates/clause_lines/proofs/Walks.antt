@@ -22,7 +22,7 @@ use Rattle.unions.specs.Unions.{Row, noRow, rows, rowOf, rangesOf, left, At, Ne
 use Rattle.unions.proofs.Laws.{walk-start}
 use Rattle.cache.specs.Areas.{catalogue}
 use Rattle.cache.proofs.Laws.{union-ranges-held, union-missing}
-use Rattle.kept.specs.Kept.{Kept}
+use Rattle.index.specs.Indexed.{Indexed}
 use Rattle.state.specs.declared.Limits.{Limits}
 use Rattle.variable_map.specs.Mapping.{AllKnown}
 use Rattle.encoder.specs.declared.Counters.{Counters}
@@ -31,14 +31,14 @@ use Rattle.clause_lines.proofs.Parts.{parts-append, parts-none}
 
 -- ---- a union
 
-union-ranges : (k : Counts) (m u t : List ℕ) (x : ℕ) → Kept k m u t → goalRanges (catalogue k m u t) (union x) ≡ rangesOf x (rows (k .members) u)
+union-ranges : (k : Counts) (m u t : List ℕ) (x : ℕ) → Indexed k m u t → goalRanges (catalogue k m u t) (union x) ≡ rangesOf x (rows (k .members) u)
 unfolding goalRanges
 union-ranges k m u t x f = elim (decLt x (k .unions)) [
   | yes h ↦ union-ranges-held k m u t x h
   | no h ↦ let g : k .unions ≤ x = omega arith in union-missing k m u t x g ∙ sym (f .given .none-yet x g)
 ]
 
-union-candidates : (k : Counts) (m u t : List ℕ) (x : ℕ) → Kept k m u t → candidates (catalogue k m u t) (goalOf 1 x) ≡ concatMap (sorted (catalogue k m u t)) (rangesOf x (rows (k .members) u))
+union-candidates : (k : Counts) (m u t : List ℕ) (x : ℕ) → Indexed k m u t → candidates (catalogue k m u t) (goalOf 1 x) ≡ concatMap (sorted (catalogue k m u t)) (rangesOf x (rows (k .members) u))
 unfolding candidates goalOf
 union-candidates k m u t x f = rw (union-ranges k m u t x f)
 

@@ -22,7 +22,7 @@ ghost use Rattle.text.specs.Text.{Addressable, Wrote, fields, literalOf};
 ghost use Rattle.requirement.specs.Requirements as requirement;
 ghost use Rattle.cache.specs.Areas.{catalogue};
 ghost use Rattle.cache.specs.Lists.{choice};
-ghost use Rattle.kept.specs.Kept.{Kept};
+ghost use Rattle.index.specs.Indexed.{Indexed};
 ghost use Rattle.state.specs.Layout.{held, Fits};
 ghost use Rattle.variable_map.specs.Mapping.{variables, AllKnown};
 ghost use Rattle.solver.specs.Rows.{rowOf};
@@ -526,7 +526,7 @@ pub fn clause_lines(
 
 // Has the goal no candidate?
 fn no_candidate(marks: &[u8], unions: &[u8], t: &[u8], k: Counts, goal: Requirement) -> bool
-    requires { ⌜ Kept k (now marks) (now unions) (now t) ⌝ }
+    requires { ⌜ Indexed k (now marks) (now unions) (now t) ⌝ }
     requires { ⌜ WellFormed (catalogue k (now marks) (now unions) (now t)) ⌝ }
     ensures { λ b. ⌜ b ≡ eqb (length (candidates (catalogue k (now (marks .entry)) (now (unions .entry)) (now (t .entry))) (requirement.goalOf goal))) 0 ⌝ }
 {
@@ -535,7 +535,7 @@ fn no_candidate(marks: &[u8], unions: &[u8], t: &[u8], k: Counts, goal: Requirem
 
 // Does the row assert its first variable false?
 fn asserts(marks: &[u8], unions: &[u8], t: &[u8], k: Counts, row: Stored) -> bool
-    requires { ⌜ Kept k (now marks) (now unions) (now t) ⌝ }
+    requires { ⌜ Indexed k (now marks) (now unions) (now t) ⌝ }
     requires { ⌜ WellFormed (catalogue k (now marks) (now unions) (now t)) ⌝ }
     ensures { λ b. ⌜ b ≡ assertsIn (catalogue k (now (marks .entry)) (now (unions .entry)) (now (t .entry))) (rowOf row) ⌝ }
 {

@@ -16,7 +16,7 @@ use Rattle.tables.specs.declared.Constraint as code
 use Rattle.tables.specs.Tables.{tables, constraintFrom, constraintIs}
 use Rattle.cache.specs.Areas.{catalogue}
 use Rattle.cache.proofs.Laws.{parts-held, constraints-held, constraint-held}
-use Rattle.kept.specs.Kept.{Kept}
+use Rattle.index.specs.Indexed.{Indexed}
 use Rattle.variable_map.specs.declared.Origin as variable_map
 use Rattle.variable_map.specs.Mapping.{originOf, inTables}
 use Rattle.marked.specs.Marked.{ownerBy, ownerOf}
@@ -63,7 +63,7 @@ module _ (k : Counts) (m u t : List ℕ) (i : ℕ) (it : code.Constraint) (e : c
     unfolding ownerIs constraintIs constraintFrom
     owner-at = ap (λ (x : rules.Constraint). x .owner) constraint-is ∙ sym f
 
-    pub owner-low : WellFormed (catalogue k m u t) → Kept k m u t → i < k .constraints → o < 1025
+    pub owner-low : WellFormed (catalogue k m u t) → Indexed k m u t → i < k .constraints → o < 1025
     owner-low w h b =
         let given : i < length (catalogue k m u t .constraints) = rw constraints-held b in
         let g : OwnerGiven (catalogue k m u t) (ownerOf o) = subst (λ (x : Owner). OwnerGiven (catalogue k m u t) x) owner-at (w .constraints i given .owner) in

@@ -20,7 +20,7 @@ use Rattle.unions.proofs.Laws.{walk-start}
 use Rattle.cache.specs.Areas.{catalogue}
 use Rattle.cache.specs.Lists.{Counted}
 use Rattle.cache.proofs.Laws.{union-missing, union-ranges-held}
-use Rattle.kept.specs.Kept.{Kept}
+use Rattle.index.specs.Indexed.{Indexed}
 use Rattle.goals.specs.Goals.{Catalogued}
 
 -- the favoured first, and as many
@@ -49,7 +49,7 @@ module _ {c : Catalogue} {n : ℕ} {rs : List Row} {u most total i : ℕ} (x : T
   total-step g y = record { at = y .at; few = omega arith; is = rw (← y .same) total-more }
 
 -- a union that is not given has no rows
-pub union-ranges : (k : Counts) (ms us t : List ℕ) (u : ℕ) → Kept k ms us t → goalRanges (catalogue k ms us t) (union u) ≡ rangesOf u (rows (k .members) us)
+pub union-ranges : (k : Counts) (ms us t : List ℕ) (u : ℕ) → Indexed k ms us t → goalRanges (catalogue k ms us t) (union u) ≡ rangesOf u (rows (k .members) us)
 unfolding goalRanges
 union-ranges k ms us t u f = elim (decLt u (k .unions)) [
   | yes h ↦ union-ranges-held k ms us t u h

@@ -12,13 +12,13 @@ use Rattle.rules.proofs.WellFormed.{WellFormed}
 use Rattle.rules.proofs.Valid.{Entry}
 use Rattle.tables.specs.declared.Counts.{Counts}
 use Rattle.cache.specs.Areas.{catalogue}
-use Rattle.kept.specs.Kept.{Kept}
+use Rattle.index.specs.Indexed.{Indexed}
 use Rattle.state.specs.Changed.{Changed}
 use Rattle.marked.specs.Marked.{listed, Marked}
 
 -- the areas hold a catalogue in which every number names something given
 pub record Catalogued (k : Counts) (m u t : List ℕ) : Type 0 where
-  pub kept : Kept k m u t
+  pub kept : Indexed k m u t
   pub formed : WellFormed (catalogue k m u t)
 
 -- one number more, unless it is there: a step of `distinct`

@@ -20,7 +20,7 @@ use Rattle.tables.specs.declared.Counts.{Counts}
 use Rattle.cache.specs.declared.Choice.{Choice}
 use Rattle.cache.specs.Areas.{catalogue}
 use Rattle.cache.specs.Lists as cache
-use Rattle.kept.specs.Kept.{Kept}
+use Rattle.index.specs.Indexed.{Indexed}
 use Rattle.state.specs.declared.Limits.{Limits}
 use Rattle.state.specs.Layout.{held, Fits}
 use Rattle.variable_map.specs.Mapping.{variables, Mapped}
@@ -123,7 +123,7 @@ secondHalf c conditions l n st cl wt = clauseNotes c n st cl ++ stateNotes c con
 
 -- the areas of a catalogue and of a state, and room for bytes
 pub record Ready (k : Counts) (m u t : List ℕ) (l : Limits) (n : Counters) (b : List ℕ) (room : ℕ) : Type 0 where
-  pub kept : Kept k m u t
+  pub kept : Indexed k m u t
   pub formed : WellFormed (catalogue k m u t)
   pub fits : Fits l (length b)
   pub mapped : Mapped l (n .variables) (held l b)

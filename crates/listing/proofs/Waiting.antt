@@ -25,7 +25,7 @@ use Rattle.tables.specs.declared.Counts.{Counts}
 use Rattle.tables.specs.Tables.{tables}
 use Rattle.cache.specs.Areas.{catalogue}
 use Rattle.cache.proofs.Laws.{conditions-same, requirement-held}
-use Rattle.kept.specs.Kept.{Kept}
+use Rattle.index.specs.Indexed.{Indexed}
 use Rattle.state.specs.declared.Limits.{Limits}
 use Rattle.entries.specs.declared.Entry as entries
 use Rattle.entries.specs.Entries.{noEntry, entryOf, waitingIn}
@@ -90,10 +90,10 @@ module _ (k : Counts) (m u t : List ℕ) (c : ℕ) (x : entries.Entry) (q : Cond
   unfolding requirementIs
   condition-named = ap (λ (r : Requirement). r .condition) named
 
-  condition-here : Kept k m u t → c < k .conditions → q .condition ≡ c → conditionAt (catalogue k m u t) (x .requirement) ≡ some c
+  condition-here : Indexed k m u t → c < k .conditions → q .condition ≡ c → conditionAt (catalogue k m u t) (x .requirement) ≡ some c
   condition-here f h z = condition-named ∙ this-condition (q .condition) c z (omega arith)
 
-  pub under-yes : {room at r : ℕ} {o o1 : List ℕ} → Kept k m u t → c < k .conditions → q .condition ≡ c
+  pub under-yes : {room at r : ℕ} {o o1 : List ℕ} → Indexed k m u t → c < k .conditions → q .condition ≡ c
       → Wrote at r (line (ascii "w" ∷ decimal c ∷ entryFields (requirementIs q) (getD (disjuncts (tables k t .conditions) c) (x .disjunct) []))) room o o1
       → Wrote at r (waitingLines (catalogue k m u t) (entryOf x ∷ []) c) room o o1
   unfolding entryOf
@@ -106,7 +106,7 @@ module _ (k : Counts) (m u t : List ℕ) (c : ℕ) (x : entries.Entry) (q : Cond
       let other : isCondition c (conditionAt (catalogue k m u t) (x .requirement)) ≡ false = ap (isCondition c) condition-named ∙ other-condition (q .condition) c z in
       rw (no-entry (catalogue k m u t) c (x .requirement) (x .disjunct) other) (nothing room at o)
 
-  pub entry-disjunct : AllGiven (catalogue k m u t) (entryOf x ∷ []) → Kept k m u t → c < k .conditions → q .condition ≡ c
+  pub entry-disjunct : AllGiven (catalogue k m u t) (entryOf x ∷ []) → Indexed k m u t → c < k .conditions → q .condition ≡ c
       → x .disjunct < length (disjuncts (tables k t .conditions) c)
   unfolding entryOf
   entry-disjunct a f h z =

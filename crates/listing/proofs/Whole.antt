@@ -17,7 +17,7 @@ use Rattle.text.proofs.Written.{then}
 use Rattle.tables.specs.declared.Counts.{Counts}
 use Rattle.cache.specs.Areas.{catalogue}
 use Rattle.cache.proofs.Laws.{conditions-held}
-use Rattle.kept.specs.Kept.{Kept}
+use Rattle.index.specs.Indexed.{Indexed}
 use Rattle.state.specs.declared.Limits.{Limits}
 use Rattle.state.specs.Layout.{held, Fits}
 use Rattle.variable_map.specs.Mapping.{variables}
@@ -152,7 +152,7 @@ pub waiting-long : {l : Limits} {x y : ℕ} → LongEnough l x y → Long l y
 waiting-long e = record { waiting = e .waiting; long = e .entries }
 
 module _ (k : Counts) (m u t : List ℕ) (l : Limits) (n : Counters) (b cl wt : List ℕ) where
-  pub made-ready : {room : ℕ} → Kept k m u t → WellFormed (catalogue k m u t) → Fits l (length b) → Addressable room → Good (catalogue k m u t) l n (held l b) cl wt → Ready k m u t l n b room
+  pub made-ready : {room : ℕ} → Indexed k m u t → WellFormed (catalogue k m u t) → Fits l (length b) → Addressable room → Good (catalogue k m u t) l n (held l b) cl wt → Ready k m u t l n b room
   made-ready f e g h i = record { kept = f; formed = e; fits = g; mapped = i .state .mapped; addressable = h }
 
   pub good-rows : LongEnough l (length cl) (length wt) → Good (catalogue k m u t) l n (held l b) cl wt → GoodRows (catalogue k m u t) l n (held l b) cl

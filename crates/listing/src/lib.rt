@@ -16,7 +16,7 @@ ghost use Rattle.requirement.specs.Requirements.{requirementIs};
 ghost use Rattle.tables.specs.Tables.{tables, Laid};
 ghost use Rattle.conditions.specs.Sizes.{Sized};
 ghost use Rattle.cache.specs.Areas.{catalogue};
-ghost use Rattle.kept.specs.Kept.{Kept};
+ghost use Rattle.index.specs.Indexed.{Indexed};
 ghost use Rattle.state.specs.Layout.{held, Fits};
 ghost use Rattle.entries.specs.Entries.{entryOf, waitingIn, Long};
 ghost use Rattle.encoder.specs.Held.{LongEnough, Good};
@@ -104,7 +104,7 @@ fn entry_under(
     e: Entry,
     c: usize,
 ) -> usize
-    requires { ⌜ Kept k (now marks) (now unions) (now t) ⌝ }
+    requires { ⌜ Indexed k (now marks) (now unions) (now t) ⌝ }
     requires { ⌜ Addressable room ⌝ }
     requires { ⌜ AllGiven (catalogue k (now marks) (now unions) (now t)) (entryOf e ∷ []) ⌝ }
     requires { ⌜ c < k .conditions ⌝ }
@@ -132,7 +132,7 @@ fn waiting_line(
     c: usize,
     i: usize,
 ) -> usize
-    requires { ⌜ Kept k (now marks) (now unions) (now t) ⌝ }
+    requires { ⌜ Indexed k (now marks) (now unions) (now t) ⌝ }
     requires { ⌜ Addressable room ⌝ }
     requires { ⌜ Long l (length (now w)) × (n .waiting ≤ l .waiting) ⌝ }
     requires { ⌜ AllGiven (catalogue k (now marks) (now unions) (now t)) (waitingIn l (n .waiting) (now w)) ⌝ }
@@ -156,7 +156,7 @@ fn waiting_of(
     at: usize,
     c: usize,
 ) -> usize
-    requires { ⌜ Kept k (now marks) (now unions) (now t) ⌝ }
+    requires { ⌜ Indexed k (now marks) (now unions) (now t) ⌝ }
     requires { ⌜ Addressable room ⌝ }
     requires { ⌜ Long l (length (now w)) × (n .waiting ≤ l .waiting) ⌝ }
     requires { ⌜ AllGiven (catalogue k (now marks) (now unions) (now t)) (waitingIn l (n .waiting) (now w)) ⌝ }
@@ -184,7 +184,7 @@ fn waiting_lines(
     room: usize,
     at: usize,
 ) -> usize
-    requires { ⌜ Kept k (now marks) (now unions) (now t) ⌝ }
+    requires { ⌜ Indexed k (now marks) (now unions) (now t) ⌝ }
     requires { ⌜ Addressable room ⌝ }
     requires { ⌜ Long l (length (now w)) × (n .waiting ≤ l .waiting) ⌝ }
     requires { ⌜ AllGiven (catalogue k (now marks) (now unions) (now t)) (waitingIn l (n .waiting) (now w)) ⌝ }
@@ -309,7 +309,7 @@ pub fn write(
     out: &mut [u8],
     room: usize,
 ) -> usize
-    requires { ⌜ Kept k (now marks) (now unions) (now t) ⌝ }
+    requires { ⌜ Indexed k (now marks) (now unions) (now t) ⌝ }
     requires { ⌜ WellFormed (catalogue k (now marks) (now unions) (now t)) ⌝ }
     requires { ⌜ Fits l (length (now s)) ⌝ }
     requires { ⌜ Addressable room ⌝ }

@@ -5,7 +5,7 @@ use mathlib.Core.List.{List, [], _∷_, _++_}
 use Prim.Native.Nat.{ℕ, _+_, _*_, _-_, _/_, _%_, _^_, _<_, _≤_, zero-le}
 use native.Mathlib.Omega.{arith}
 use native.Mathlib.Decide.{decLt}
-use lib.Dec.{eqb}
+use lib.Dec.{eqb, ltb}
 use lib.ListN.{length, getD, set, take, drop, replicate, length-drop, length-replicate, getD-replicate, List·getD-append}
 use lib.Seq.{getD-set-same, getD-set-other, getD-take, getD-drop, getD-append-add, length-take-le}
 use lib.Pow.{pow-pos}
@@ -14,7 +14,7 @@ use Rattle.rules.specs.AtMostOne.{bit}
 use Rattle.rules.specs.Lists.{all, upTo}
 use Rattle.rules.proofs.Bools.{and-left, and-right, and-both, same-test}
 use Rattle.rules.proofs.Member.{all-out, upTo-in}
-use Rattle.marks.specs.Marks.{isMarked, WithBit, Marked, Cleared}
+use Rattle.marks.specs.Marks.{isMarked, WithBit, Marked, Cleared, NextMember, EndOfMembers}
 use Rattle.marks.proofs.Bits.{bit-is, bit-none, bit-more, bit-room}
 
 -- ---- a byte
@@ -186,3 +186,71 @@ module _ {m m′ : List ℕ} {r : ℕ} (x : Cleared m m′ r) where
 
   pub cleared-other : (s : ℕ) → (s ≡ r → ⊥) → isMarked m′ s ≡ isMarked m s
   cleared-other s h = fun-ext (λ q. x .is s q ∙ rw (ne-eqb s r h))
+
+-- ---- the next member
+
+-- none from `from` on below p
+pub record Passed (m : List ℕ) (r from p : ℕ) : Type 0 where
+  pub onward : from ≤ p
+  pub none : (q : ℕ) → from ≤ q → q < p → isMarked m r q ≡ false
+
+pub passed-start : (m : List ℕ) (r from : ℕ) → Passed m r from from
+passed-start m r from = record { onward = omega arith; none = λ q a b. (let none : ⊥ = omega arith in absurd none) }
+
+unmarked : (m : List ℕ) (r q : ℕ) → bit (q % 8) (getD m (r * 128 + q / 8) 0) ≡ false → isMarked m r q ≡ false
+unfolding isMarked
+unmarked m r q e = rw e (and-none (ltb q 1024))
+  where
+    and-none : (b : Bool) → (b && false) ≡ false
+    and-none true = refl
+    and-none false = refl
+
+module _ {m : List ℕ} {r from p : ℕ} (h : Passed m r from p) where
+  pub byte-passed : (x : ℕ) → x ≡ getD m (r * 128 + p / 8) 0 → x ≡ 0 → Passed m r from (p + 8 - p % 8)
+  byte-passed x e z =
+      record { onward = let o = h .onward in omega arith; none = λ q a b. elim (decLt q p) [ yes l ↦ h .none q a l | no l ↦ within q (omega arith) b ] }
+    where
+      within : (q : ℕ) → p ≤ q → q < p + 8 - p % 8 → isMarked m r q ≡ false
+      within q a b =
+          let same : q / 8 ≡ p / 8 = omega arith in
+          let byte : getD m (r * 128 + q / 8) 0 ≡ 0 = rw same (sym e ∙ z) in
+          unmarked m r q (rw byte (bit-none (q % 8)))
+
+  pub bit-passed : (x : ℕ) (b : Bool) → x ≡ getD m (r * 128 + p / 8) 0 → b ≡ bit (p % 8) x → b ≡ false → Passed m r from (p + 1)
+  bit-passed x b e f z =
+      record { onward = let o = h .onward in omega arith; none = λ q a l. elim (decLt q p) [ yes g ↦ h .none q a g | no g ↦ here q (omega arith) ] }
+    where
+      here : (q : ℕ) → q ≡ p → isMarked m r q ≡ false
+      here q d = rw d (unmarked m r p (rw (← e, ← f) z))
+
+  pub member-found : {to : ℕ} → p < to → NextMember m r from to p
+  member-found l = record { onward = h .onward; inside = omega arith; none = h .none }
+
+  pub none-found : {to : ℕ} → from ≤ to → to ≤ p → NextMember m r from to to
+  none-found {to} a l = record { onward = a; inside = omega arith; none = λ q b c. h .none q b (omega arith) }
+
+-- ---- the end of the members
+
+pub ended-start : (m : List ℕ) (r to : ℕ) → EndOfMembers m r to to
+ended-start m r to = record { inside = omega arith; none = λ q a b. (let none : ⊥ = omega arith in absurd none) }
+
+module _ {m : List ℕ} {r to p : ℕ} (h : EndOfMembers m r to p) where
+  pub byte-before : (q x : ℕ) → q ≡ p - 1 → 0 < p → x ≡ getD m (r * 128 + q / 8) 0 → x ≡ 0 → EndOfMembers m r to (q - q % 8)
+  byte-before q x d l e z =
+      record { inside = let o = h .inside in omega arith; none = λ i a b. elim (decLt i p) [ yes g ↦ within i a g | no g ↦ h .none i (omega arith) b ] }
+    where
+      within : (i : ℕ) → q - q % 8 ≤ i → i < p → isMarked m r i ≡ false
+      within i a b =
+          let same : i / 8 ≡ q / 8 = omega arith in
+          let byte : getD m (r * 128 + i / 8) 0 ≡ 0 = rw same (sym e ∙ z) in
+          unmarked m r i (rw byte (bit-none (i % 8)))
+
+  pub bit-before : (q x : ℕ) (b : Bool) → q ≡ p - 1 → 0 < p → x ≡ getD m (r * 128 + q / 8) 0 → b ≡ bit (q % 8) x → b ≡ false → EndOfMembers m r to q
+  bit-before q x b d l e f z =
+      record { inside = let o = h .inside in omega arith; none = λ i a g. elim (decLt i p) [ yes j ↦ here i (omega arith) | no j ↦ h .none i (omega arith) g ] }
+    where
+      here : (i : ℕ) → i ≡ q → isMarked m r i ≡ false
+      here i j = rw j (unmarked m r q (rw (← e, ← f) z))
+
+  pub all-before : p ≤ 0 → EndOfMembers m r to 0
+  all-before l = let e : p ≡ 0 = omega arith in rw e at h

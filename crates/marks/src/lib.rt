@@ -3,7 +3,7 @@ ghost use mathlib.Core.Path.{_≡_};
 ghost use Prim.Native.Nat.{_+_, _*_, _^_, _<_, _≤_};
 ghost use lib.ListN.{length};
 ghost use Rattle.rules.specs.AtMostOne.{bit};
-ghost use Rattle.marks.specs.Marks.{isMarked, WithBit, Marked, Cleared};
+ghost use Rattle.marks.specs.Marks.{NextMember, EndOfMembers, isMarked, WithBit, Marked, Cleared};
 
 const POWERS: [u8; 8] = [1, 2, 4, 8, 16, 32, 64, 128];
 
@@ -44,6 +44,47 @@ pub fn marked(m: &[u8], r: usize, p: usize) -> bool
     } else {
         false
     }
+}
+
+// The first member of range r from `from` on, of the parts below `to`; or `to`. Eight parts without a member are passed at once.
+pub fn next(m: &[u8], r: usize, from: usize, to: usize) -> usize
+    requires { ⌜ (r < 512) × (65536 ≤ length (now m)) × (from ≤ to) × (to ≤ 1024) ⌝ }
+    ensures { λ x. ⌜ NextMember (now (m .entry)) r from to x ⌝ }
+{
+    let mut p = from;
+    while p < to {
+        let x = m[r * 128 + p / 8];
+        if x == 0 {
+            p = p + 8 - p % 8;
+        } else {
+            if has(x, p % 8) {
+                return p;
+            }
+            p += 1;
+        }
+    }
+    to
+}
+
+// One behind the last member of range r, of the parts below `to`; or 0.
+pub fn end(m: &[u8], r: usize, to: usize) -> usize
+    requires { ⌜ (r < 512) × (65536 ≤ length (now m)) × (to ≤ 1024) ⌝ }
+    ensures { λ x. ⌜ EndOfMembers (now (m .entry)) r to x ⌝ }
+{
+    let mut p = to;
+    while 0 < p {
+        let q = p - 1;
+        let x = m[r * 128 + q / 8];
+        if x == 0 {
+            p = q - q % 8;
+        } else {
+            if has(x, q % 8) {
+                return p;
+            }
+            p = q;
+        }
+    }
+    0
 }
 
 // Part p becomes a member of range r.

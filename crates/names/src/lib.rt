@@ -16,7 +16,7 @@ ghost use Rattle.rules.specs.Opening.{serveName};
 ghost use Rattle.rules.specs.Opening as rules;
 ghost use Rattle.rules.proofs.WellFormed.{WellFormed};
 ghost use Rattle.cache.specs.Areas.{catalogue};
-ghost use Rattle.kept.specs.Kept.{Kept};
+ghost use Rattle.index.specs.Indexed.{Indexed};
 ghost use Rattle.state.specs.Layout.{held, Fits};
 ghost use Rattle.variable_map.specs.Mapping.{variables};
 ghost use Rattle.encoder.specs.Held.{runOf, LongEnough, Good, GoodAlone, KnownUnlessFull};
@@ -29,7 +29,7 @@ ghost use Rattle.names.specs.Names.{firstOf, NamesParts, addClauses};
 
 // The locked part of a name, or the number of parts if it has none.
 fn locked_part(marks: &[u8], unions: &[u8], t: &[u8], k: Counts, name: u16) -> usize
-    requires { ⌜ Kept k (now marks) (now unions) (now t) ⌝ }
+    requires { ⌜ Indexed k (now marks) (now unions) (now t) ⌝ }
     ensures { λ r. ⌜ r ≡ firstOf (length ((catalogue k (now (marks .entry)) (now (unions .entry)) (now (t .entry))) .parts)) (lockedPart (catalogue k (now (marks .entry)) (now (unions .entry)) (now (t .entry))) name) ⌝ }
 {
     let mut p = 0;
@@ -52,7 +52,7 @@ fn serve_several(
     n: Counters,
     name: u16,
 ) -> Counters
-    requires { ⌜ Kept k (now marks) (now unions) (now t) ⌝ }
+    requires { ⌜ Indexed k (now marks) (now unions) (now t) ⌝ }
     requires { ⌜ Fits l (length (now s)) ⌝ }
     requires { ⌜ GoodAlone (catalogue k (now marks) (now unions) (now t)) l n (held l (now s)) ⌝ }
     ensures { λ m. ⌜ StateDid (catalogue k (now (marks .entry)) (now (unions .entry)) (now (t .entry))) l (λ v. onOpening (serveName (catalogue k (now (marks .entry)) (now (unions .entry)) (now (t .entry))) name)) n (held l (now (s .entry))) m (held l (now (s .exit))) ⌝ }
@@ -75,7 +75,7 @@ fn name_locked(
     name: u16,
     locked: usize,
 ) -> Counters
-    requires { ⌜ Kept k (now marks) (now unions) (now t) ⌝ }
+    requires { ⌜ Indexed k (now marks) (now unions) (now t) ⌝ }
     requires { ⌜ Fits l (length (now s)) ⌝ }
     requires { ⌜ GoodAlone (catalogue k (now marks) (now unions) (now t)) l n (held l (now s)) ⌝ }
     requires { ⌜ locked ≡ firstOf (length ((catalogue k (now marks) (now unions) (now t)) .parts)) (lockedPart (catalogue k (now marks) (now unions) (now t)) name) ⌝ }
@@ -120,7 +120,7 @@ fn name_parts(
     name: u16,
     locked: usize,
 ) -> Counters
-    requires { ⌜ Kept k (now marks) (now unions) (now t) ⌝ }
+    requires { ⌜ Indexed k (now marks) (now unions) (now t) ⌝ }
     requires { ⌜ Fits l (length (now s)) ⌝ }
     requires { ⌜ GoodAlone (catalogue k (now marks) (now unions) (now t)) l n (held l (now s)) ⌝ }
     requires { ⌜ locked ≡ firstOf (length ((catalogue k (now marks) (now unions) (now t)) .parts)) (lockedPart (catalogue k (now marks) (now unions) (now t)) name) ⌝ }
@@ -155,7 +155,7 @@ fn lock_others(
     name: u16,
     locked: usize,
 ) -> Counters
-    requires { ⌜ Kept k (now marks) (now unions) (now t) ⌝ }
+    requires { ⌜ Indexed k (now marks) (now unions) (now t) ⌝ }
     requires { ⌜ Fits l (length (now s)) ⌝ }
     requires { ⌜ Good (catalogue k (now marks) (now unions) (now t)) l n (held l (now s)) (now clauses) [] ⌝ }
     requires { ⌜ LongEnough l (length (now clauses)) 16384 ⌝ }
@@ -196,7 +196,7 @@ fn add_clauses(
     name: u16,
     locked: usize,
 ) -> Counters
-    requires { ⌜ Kept k (now marks) (now unions) (now t) ⌝ }
+    requires { ⌜ Indexed k (now marks) (now unions) (now t) ⌝ }
     requires { ⌜ Fits l (length (now s)) ⌝ }
     requires { ⌜ Good (catalogue k (now marks) (now unions) (now t)) l n (held l (now s)) (now clauses) [] ⌝ }
     requires { ⌜ LongEnough l (length (now clauses)) 16384 ⌝ }
@@ -234,7 +234,7 @@ pub fn serve_name(
     r: Run,
     name: u16,
 ) -> Counters
-    requires { ⌜ Kept k (now marks) (now unions) (now t) ⌝ }
+    requires { ⌜ Indexed k (now marks) (now unions) (now t) ⌝ }
     requires { ⌜ WellFormed (catalogue k (now marks) (now unions) (now t)) ⌝ }
     requires { ⌜ Fits l (length (now s)) ⌝ }
     requires { ⌜ Good (catalogue k (now marks) (now unions) (now t)) l n (held l (now s)) (now clauses) [] ⌝ }

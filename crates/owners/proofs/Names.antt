@@ -21,7 +21,7 @@ use Rattle.unions.specs.Unions.{noRow, rows, rowOf, left, Next}
 use Rattle.unions.proofs.Laws.{Seen, seen-start, seen-step, seen-end}
 use Rattle.cache.specs.Areas.{catalogue}
 use Rattle.cache.proofs.Laws.{names-held, ranges-held, unions-held, range-name-held, union-held, union-ranges-held}
-use Rattle.kept.specs.Kept.{Kept}
+use Rattle.index.specs.Indexed.{Indexed}
 use Rattle.state.specs.declared.Limits.{Limits}
 use Rattle.encoder.specs.declared.Counters.{Counters}
 use Rattle.encoder.specs.Did.{onOpening, StateDid, PlainDid}
@@ -31,7 +31,7 @@ use Rattle.encoder.proofs.Steps.{state-same, state-none, state-then, alone-afte
 -- ---- a range
 
 module _ (k : Counts) (m us t : List ℕ) where
-  pub range-low : {r x : ℕ} → WellFormed (catalogue k m us t) → Kept k m us t → r < k .ranges → x ≡ getD (tables k t .ranges) r 0 → x < 64
+  pub range-low : {r x : ℕ} → WellFormed (catalogue k m us t) → Indexed k m us t → r < k .ranges → x ≡ getD (tables k t .ranges) r 0 → x < 64
   range-low {r} {x} w h b e =
       let given : r < length (catalogue k m us t .ranges) = rw ranges-held b in
       let low = w .ranges r given .name in

@@ -26,7 +26,7 @@ use Rattle.tables.specs.declared.Constraint as code
 use Rattle.tables.specs.Tables.{tables, constraintFrom, constraintIs}
 use Rattle.cache.specs.Areas.{catalogue}
 use Rattle.cache.proofs.Laws.{parts-held, ranges-held, requirements-held, constraints-held, requirement-held, constraint-held}
-use Rattle.kept.specs.Kept.{Kept}
+use Rattle.index.specs.Indexed.{Indexed}
 use Rattle.state.specs.declared.Limits.{Limits}
 use Rattle.marked.specs.Marked.{ownerBy, ownerOf}
 use Rattle.marked.proofs.Owners.{root-is, part-is, same-number}
@@ -113,7 +113,7 @@ module _ (k : Counts) (m us t : List ℕ) (q : ℕ) (it : ConditionalRequirement
   unfolding unconditional items.conditionOf requirementIs
   unconditional-is = ap (λ (x : rules.Requirement). isNone (x .condition)) requirement-is ∙ tested (eqb (it .condition) 65535) (it .condition)
 
-  pub required-owner : WellFormed (catalogue k m us t) → Kept k m us t → q < k .requirements → OwnerNumber (it .owner)
+  pub required-owner : WellFormed (catalogue k m us t) → Indexed k m us t → q < k .requirements → OwnerNumber (it .owner)
   required-owner w h b =
       let given : q < length (catalogue k m us t .requirements) = rw requirements-held b in
       let o = subst (λ (x : Owner). OwnerGiven (catalogue k m us t) x) owner-at (w .requirements q given .owner) in
@@ -156,14 +156,14 @@ module _ (k : Counts) (m us t : List ℕ) (q : ℕ) (it : ConditionalRequirement
           → StateDid (catalogue k m us t) l (λ v. onOpening (ruleOf (catalogue k m us t) v OpenRequirement (ownerOf o) q)) n st n′ st′
       open-own u d = state-same d (open-is h u)
 
-      pub queue-direct : Kept k m us t → q < k .requirements → it .condition ≡ 65535 → PlainDid l (λ c v. onOpening (queue (taskIn c v (2113 + q)))) n st n′ st′
+      pub queue-direct : Indexed k m us t → q < k .requirements → it .condition ≡ 65535 → PlainDid l (λ c v. onOpening (queue (taskIn c v (2113 + q)))) n st n′ st′
           → StateDid (catalogue k m us t) l (λ v. onOpening (ruleOf (catalogue k m us t) v QueueRequirement (ownerOf o) q)) n st n′ st′
       queue-direct a b u d =
           let low : q < 1024 = omega (arith, a .held .laid .requirements) in
           let direct : unconditional (catalogue k m us t) q ≡ true = unconditional-is ∙ eq-eqb (it .condition) 65535 u in
           state-same (d .is (catalogue k m us t)) (λ v s. rw (requirement-task (catalogue k m us t) v q low direct) (queue-is h true direct v s))
 
-      pub queue-conditional : Kept k m us t → q < k .requirements → (it .condition ≡ 65535 → ⊥) → PlainDid l (λ c v. onOpening (queue (taskIn c v (1089 + q)))) n st n′ st′
+      pub queue-conditional : Indexed k m us t → q < k .requirements → (it .condition ≡ 65535 → ⊥) → PlainDid l (λ c v. onOpening (queue (taskIn c v (1089 + q)))) n st n′ st′
           → StateDid (catalogue k m us t) l (λ v. onOpening (ruleOf (catalogue k m us t) v QueueRequirement (ownerOf o) q)) n st n′ st′
       queue-conditional a b u d =
           let low : q < 1024 = omega (arith, a .held .laid .requirements) in
@@ -184,7 +184,7 @@ module _ (k : Counts) (m us t : List ℕ) (i : ℕ) (it : code.Constraint) (e : 
   unfolding constraintIs constraintFrom
   range-at = ap (λ (x : rules.Constraint). x .range) constraint-is
 
-  pub constrained-owner : WellFormed (catalogue k m us t) → Kept k m us t → i < k .constraints → OwnerNumber (it .owner)
+  pub constrained-owner : WellFormed (catalogue k m us t) → Indexed k m us t → i < k .constraints → OwnerNumber (it .owner)
   constrained-owner w h b =
       let given : i < length (catalogue k m us t .constraints) = rw constraints-held b in
       let o = subst (λ (x : Owner). OwnerGiven (catalogue k m us t) x) constrained-at (w .constraints i given .owner) in
@@ -211,7 +211,7 @@ module _ (k : Counts) (m us t : List ℕ) (i : ℕ) (it : code.Constraint) (e : 
           → StateDid (catalogue k m us t) l (λ v. onOpening (ruleOf (catalogue k m us t) v OpenConstraint (ownerOf o) i)) n st n′ st′
       open-here d = state-same d (λ v z. rw (← range-at) (sym (unfold onOpening ruleOf when in rw (same-constrained, eq-eqb o x (sym h)))))
 
-      pub queue-here : Kept k m us t → i < k .constraints → PlainDid l (λ c v. onOpening (queue (taskIn c v (3137 + i)))) n st n′ st′
+      pub queue-here : Indexed k m us t → i < k .constraints → PlainDid l (λ c v. onOpening (queue (taskIn c v (3137 + i)))) n st n′ st′
           → StateDid (catalogue k m us t) l (λ v. onOpening (ruleOf (catalogue k m us t) v QueueConstraint (ownerOf o) i)) n st n′ st′
       queue-here a b d =
           let low : i < 512 = omega (arith, a .held .laid .constraints) in

@@ -23,7 +23,7 @@ use Rattle.tables.specs.declared.Counts.{Counts}
 use Rattle.tables.specs.Tables.{tables}
 use Rattle.cache.specs.Areas.{catalogue}
 use Rattle.cache.proofs.Laws.{parts-held, part-held}
-use Rattle.kept.specs.Kept.{Kept}
+use Rattle.index.specs.Indexed.{Indexed}
 use Rattle.state.specs.declared.Limits.{Limits}
 use Rattle.variable_map.specs.Mapping.{inTables, variables, Mapped}
 use Rattle.marked.specs.Marked.{ownerOf}
@@ -109,7 +109,7 @@ module _ (c : Catalogue) (r : Run) (p : ℕ) (e : unknownOwner c (part p) ≡ tr
   unknown-is : (s : State) → forget s ≡ s → serving c r (owner (part p)) s ≡ excludeUnknown r p (addVariable (partOrigin p) s)
   unknown-is s f = serving-unknown s ∙ (sym (emit-forgets c r (served (owner (part p))) s) ∙ (ap (emit c r (served (owner (part p)))) f ∙ one-emitted s))
 
-pub part-in-tables : (k : Counts) (m us t : List ℕ) {o : Origin} {p : ℕ} → Kept k m us t → p < k .parts → o ≡ partOrigin p → inTables o ≡ true
+pub part-in-tables : (k : Counts) (m us t : List ℕ) {o : Origin} {p : ℕ} → Indexed k m us t → p < k .parts → o ≡ partOrigin p → inTables o ≡ true
 unfolding inTables
 part-in-tables k m us t {p = p} h b e = rw e (lt-ltb p 1024 (omega (arith, h .held .laid .parts)))
 

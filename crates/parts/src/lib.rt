@@ -15,7 +15,7 @@ ghost use Rattle.rules.specs.Catalogue.{noPart};
 ghost use Rattle.rules.specs.Opening.{openReady};
 ghost use Rattle.tables.specs.Tables.{tables, Laid};
 ghost use Rattle.cache.specs.Areas.{catalogue};
-ghost use Rattle.kept.specs.Kept.{Kept};
+ghost use Rattle.index.specs.Indexed.{Indexed};
 ghost use Rattle.state.specs.Layout.{held, Fits};
 ghost use Rattle.variable_map.specs.Mapping.{variables};
 ghost use Rattle.encoder.specs.Held.{runOf, LongEnough, Good, GoodAlone, KnownUnlessFull};
@@ -78,7 +78,7 @@ fn is_excluded(t: &[u8], k: Counts, name: u16, p: usize) -> bool
 
 // Is part p one of these?
 pub fn selected(marks: &[u8], unions: &[u8], t: &[u8], k: Counts, which: Parts, p: usize) -> bool
-    requires { ⌜ Kept k (now marks) (now unions) (now t) ⌝ }
+    requires { ⌜ Indexed k (now marks) (now unions) (now t) ⌝ }
     ensures { λ b. ⌜ b ≡ selectedOf (catalogue k (now (marks .entry)) (now (unions .entry)) (now (t .entry))) which p ⌝ }
 {
     match which {
@@ -101,7 +101,7 @@ fn open_ready(
     n: Counters,
     p: u16,
 ) -> Counters
-    requires { ⌜ Kept k (now marks) (now unions) (now t) ⌝ }
+    requires { ⌜ Indexed k (now marks) (now unions) (now t) ⌝ }
     requires { ⌜ Fits l (length (now s)) ⌝ }
     requires { ⌜ GoodAlone (catalogue k (now marks) (now unions) (now t)) l n (held l (now s)) ⌝ }
     requires { ⌜ p < 1024 ⌝ }
@@ -123,7 +123,7 @@ fn name_tracked(
     n: Counters,
     p: u16,
 ) -> Counters
-    requires { ⌜ Kept k (now marks) (now unions) (now t) ⌝ }
+    requires { ⌜ Indexed k (now marks) (now unions) (now t) ⌝ }
     requires { ⌜ Fits l (length (now s)) ⌝ }
     requires { ⌜ GoodAlone (catalogue k (now marks) (now unions) (now t)) l n (held l (now s)) ⌝ }
     requires { ⌜ p < 1024 ⌝ }
@@ -143,7 +143,7 @@ fn name_candidate(
     n: Counters,
     p: u16,
 ) -> Counters
-    requires { ⌜ Kept k (now marks) (now unions) (now t) ⌝ }
+    requires { ⌜ Indexed k (now marks) (now unions) (now t) ⌝ }
     requires { ⌜ Fits l (length (now s)) ⌝ }
     requires { ⌜ GoodAlone (catalogue k (now marks) (now unions) (now t)) l n (held l (now s)) ⌝ }
     requires { ⌜ p < 1024 ⌝ }
@@ -164,7 +164,7 @@ fn name_part(
     naming: Naming,
     p: u16,
 ) -> Counters
-    requires { ⌜ Kept k (now marks) (now unions) (now t) ⌝ }
+    requires { ⌜ Indexed k (now marks) (now unions) (now t) ⌝ }
     requires { ⌜ Fits l (length (now s)) ⌝ }
     requires { ⌜ GoodAlone (catalogue k (now marks) (now unions) (now t)) l n (held l (now s)) ⌝ }
     requires { ⌜ p < 1024 ⌝ }
@@ -189,7 +189,7 @@ fn name_if(
     naming: Naming,
     p: usize,
 ) -> Counters
-    requires { ⌜ Kept k (now marks) (now unions) (now t) ⌝ }
+    requires { ⌜ Indexed k (now marks) (now unions) (now t) ⌝ }
     requires { ⌜ Fits l (length (now s)) ⌝ }
     requires { ⌜ GoodAlone (catalogue k (now marks) (now unions) (now t)) l n (held l (now s)) ⌝ }
     requires { ⌜ p < 1024 ⌝ }
@@ -213,7 +213,7 @@ pub fn name_each(
     which: Parts,
     naming: Naming,
 ) -> Counters
-    requires { ⌜ Kept k (now marks) (now unions) (now t) ⌝ }
+    requires { ⌜ Indexed k (now marks) (now unions) (now t) ⌝ }
     requires { ⌜ Fits l (length (now s)) ⌝ }
     requires { ⌜ GoodAlone (catalogue k (now marks) (now unions) (now t)) l n (held l (now s)) ⌝ }
     ensures { λ m. ⌜ StateDid (catalogue k (now (marks .entry)) (now (unions .entry)) (now (t .entry))) l (λ v. fold (namingOf (catalogue k (now (marks .entry)) (now (unions .entry)) (now (t .entry))) naming) (partsFor (catalogue k (now (marks .entry)) (now (unions .entry)) (now (t .entry))) which)) n (held l (now (s .entry))) m (held l (now (s .exit))) ⌝ }
@@ -242,7 +242,7 @@ fn add_part(
     adding: Adding,
     p: u16,
 ) -> Counters
-    requires { ⌜ Kept k (now marks) (now unions) (now t) ⌝ }
+    requires { ⌜ Indexed k (now marks) (now unions) (now t) ⌝ }
     requires { ⌜ Fits l (length (now s)) ⌝ }
     requires { ⌜ Good (catalogue k (now marks) (now unions) (now t)) l n (held l (now s)) (now clauses) [] ⌝ }
     requires { ⌜ LongEnough l (length (now clauses)) 16384 ⌝ }
@@ -274,7 +274,7 @@ fn add_if(
     adding: Adding,
     p: usize,
 ) -> Counters
-    requires { ⌜ Kept k (now marks) (now unions) (now t) ⌝ }
+    requires { ⌜ Indexed k (now marks) (now unions) (now t) ⌝ }
     requires { ⌜ Fits l (length (now s)) ⌝ }
     requires { ⌜ Good (catalogue k (now marks) (now unions) (now t)) l n (held l (now s)) (now clauses) [] ⌝ }
     requires { ⌜ LongEnough l (length (now clauses)) 16384 ⌝ }
@@ -303,7 +303,7 @@ pub fn add_each(
     which: Parts,
     adding: Adding,
 ) -> Counters
-    requires { ⌜ Kept k (now marks) (now unions) (now t) ⌝ }
+    requires { ⌜ Indexed k (now marks) (now unions) (now t) ⌝ }
     requires { ⌜ Fits l (length (now s)) ⌝ }
     requires { ⌜ Good (catalogue k (now marks) (now unions) (now t)) l n (held l (now s)) (now clauses) [] ⌝ }
     requires { ⌜ LongEnough l (length (now clauses)) 16384 ⌝ }

@@ -1,0 +1,5 @@
+pub mod Chaining
+pub mod Places
+pub mod Laws
+pub mod Selecting
+pub mod Owners

@@ -1,0 +1,58 @@
+-- `index::next_constraint` leads to the next constraint of the key.
+use borrow.Author.Needs.{needs}
+use Rattle.index.proofs.Laws.{constraints-next, first-behind}
+use Rattle.index.proofs.next_constraint.Statement.{statement}
+use Rattle.index.proofs.next_constraint.Tie as tie
+
+mul-get : tie.Need-mul-get
+mul-get c = search needs
+
+add-get : tie.Need-add-get
+add-get c = search needs
+
+get-requires : tie.Need-get-requires
+get-requires c κs = search needs
+
+owner-row-requires : tie.Need-owner-row-requires
+owner-row-requires c κs = search needs
+
+mul-get-2 : tie.Need-mul-get-2
+mul-get-2 c = search needs
+
+add-get-2 : tie.Need-add-get-2
+add-get-2 c = search needs
+
+add-get-3 : tie.Need-add-get-3
+add-get-3 c = search needs
+
+get-requires-2 : tie.Need-get-requires-2
+get-requires-2 c κs = search needs
+
+cast-result : tie.Need-cast-result
+cast-result c = search needs
+
+add-result : tie.Need-add-result
+add-result c = search needs
+
+returns : tie.Need-returns
+returns c = search (needs, constraints-next)
+
+returns-2 : tie.Need-returns-2
+returns-2 c = search (needs, first-behind)
+
+pub next-constraint-spec : {M : Type 1} → statement M
+next-constraint-spec =
+    tie.close
+    (tie.spec
+    mul-get
+    add-get
+    get-requires
+    owner-row-requires
+    mul-get-2
+    add-get-2
+    add-get-3
+    get-requires-2
+    cast-result
+    add-result
+    returns
+    returns-2)

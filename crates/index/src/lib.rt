@@ -1,0 +1,367 @@
+// Chains through the catalogue's tables, made once when the catalogue is read: the parts of a name, the requirements and the constraints of an owner.
+// A walk along a chain meets the rows of one key, in file order, and no others.
+use cache::Choice;
+use tables::Counts;
+ghost use mathlib.Core.Path.{_≡_};
+ghost use Prim.Native.Nat.{_+_, _*_, _<_, _≤_};
+ghost use lib.ListN.{length, getD, set};
+ghost use Rattle.words.specs.Words.{words};
+ghost use Rattle.marks.specs.Marks.{NextMember, EndOfMembers};
+ghost use Rattle.cache.specs.Areas.{catalogue, Held};
+ghost use Rattle.cache.specs.Lists.{chosen};
+ghost use Rattle.tables.specs.Tables.{Laid};
+ghost use Rattle.index.specs.Chains.{
+  First,
+  ownerRow,
+  partsByName,
+  requirementsByOwner,
+  constraintsByOwner,
+  keyOf,
+  Key,
+  Keyed,
+  Linked,
+  Heading,
+  Linking,
+  Keys,
+  BoundSet,
+  Bounding,
+  Chains,
+  Built,
+  Skips,
+};
+
+// ---- making the chains
+
+// The row of an owner's heads.
+fn owner_row(o: u16) -> usize
+    ensures { λ r. ⌜ r ≡ ownerRow o ⌝ }
+{
+    if o == 65535 { 0 } else { o as usize + 1 }
+}
+
+// Row i goes before those that the head leads to.
+fn link(t: &mut [u8], at: usize, head: usize, i: usize)
+    requires { ⌜ (at * 2 + 1 < length (now t)) × (head * 2 + 1 < length (now t)) × (i < 65536) ⌝ }
+    ensures { λ _. ⌜ words (now (t .exit)) ≡ set (set (words (now (t .entry))) at (getD (words (now (t .entry))) head 0)) head i ⌝ }
+{
+    let next = words::get(t, head);
+    words::put(t, at, next);
+    words::put(t, head, i as u16);
+}
+
+// No name has a part yet.
+fn start_names(t: &mut [u8], k: Counts)
+    requires { ⌜ Laid k (length (now t)) ⌝ }
+    ensures { λ _. ⌜ Heading partsByName k (k .parts) (k .names) (k .names) (now (t .entry)) (now (t .exit)) ⌝ }
+{
+    let mut x = 0;
+    while x < k.names {
+        words::put(t, 6 * x + 3, k.parts as u16);
+        x += 1;
+    }
+}
+
+// No owner has a requirement yet.
+fn start_requirements(t: &mut [u8], k: Counts)
+    requires { ⌜ Laid k (length (now t)) ⌝ }
+    ensures { λ _. ⌜ Heading requirementsByOwner k (k .requirements) (k .parts + 1) (k .parts + 1) (now (t .entry)) (now (t .exit)) ⌝ }
+{
+    let mut x = 0;
+    while x < k.parts + 1 {
+        words::put(t, 5504 + 4 * x, k.requirements as u16);
+        x += 1;
+    }
+}
+
+// No owner has a constraint yet.
+fn start_constraints(t: &mut [u8], k: Counts)
+    requires { ⌜ Laid k (length (now t)) ⌝ }
+    ensures { λ _. ⌜ Heading constraintsByOwner k (k .constraints) (k .parts + 1) (k .parts + 1) (now (t .entry)) (now (t .exit)) ⌝ }
+{
+    let mut x = 0;
+    while x < k.parts + 1 {
+        words::put(t, 5504 + 4 * x + 2, k.constraints as u16);
+        x += 1;
+    }
+}
+
+// The key of part i.
+fn part_key(t: &[u8], k: Counts, i: usize) -> usize
+    requires { ⌜ Laid k (length (now t)) × Keyed partsByName (k .parts) (k .names) (words (now t)) × (i < k .parts) ⌝ }
+    ensures { λ x. ⌜ Key partsByName (k .names) (words (now (t .entry))) i x ⌝ }
+{
+    words::get(t, 384 + 5 * i) as usize
+}
+
+// Part i, the parts behind it being linked.
+fn link_part(t: &mut [u8], k: Counts, i: usize)
+    requires { ⌜ Laid k (length (now t)) ⌝ }
+    requires { ⌜ Keyed partsByName (k .parts) (k .names) (words (now t)) ⌝ }
+    requires { ⌜ Linked partsByName (k .parts) (k .names) (i + 1) (words (now t)) × (i < k .parts) ⌝ }
+    ensures { λ _. ⌜ Linking partsByName k (k .parts) (k .names) i (now (t .entry)) (now (t .exit)) ⌝ }
+{
+    let name = part_key(t, k, i);
+    link(t, 384 + 5 * i + 4, 6 * name + 3, i);
+}
+
+// The key of requirement i.
+fn requirement_key(t: &[u8], k: Counts, i: usize) -> usize
+    requires { ⌜ Laid k (length (now t)) × Keyed requirementsByOwner (k .requirements) (k .parts + 1) (words (now t)) × (i < k .requirements) ⌝ }
+    ensures { λ x. ⌜ Key requirementsByOwner (k .parts + 1) (words (now (t .entry))) i x ⌝ }
+{
+    owner_row(words::get(t, 13572 + 6 * i))
+}
+
+// Requirement i, those behind it being linked.
+fn link_requirement(t: &mut [u8], k: Counts, i: usize)
+    requires { ⌜ Laid k (length (now t)) ⌝ }
+    requires { ⌜ Keyed requirementsByOwner (k .requirements) (k .parts + 1) (words (now t)) ⌝ }
+    requires { ⌜ Linked requirementsByOwner (k .requirements) (k .parts + 1) (i + 1) (words (now t)) × (i < k .requirements) ⌝ }
+    ensures { λ _. ⌜ Linking requirementsByOwner k (k .requirements) (k .parts + 1) i (now (t .entry)) (now (t .exit)) ⌝ }
+{
+    let owner = requirement_key(t, k, i);
+    link(t, 13572 + 6 * i + 4, 5504 + 4 * owner, i);
+}
+
+// The key of constraint i.
+fn constraint_key(t: &[u8], k: Counts, i: usize) -> usize
+    requires { ⌜ Laid k (length (now t)) × Keyed constraintsByOwner (k .constraints) (k .parts + 1) (words (now t)) × (i < k .constraints) ⌝ }
+    ensures { λ x. ⌜ Key constraintsByOwner (k .parts + 1) (words (now (t .entry))) i x ⌝ }
+{
+    owner_row(words::get(t, 19716 + 3 * i))
+}
+
+// Constraint i, those behind it being linked.
+fn link_constraint(t: &mut [u8], k: Counts, i: usize)
+    requires { ⌜ Laid k (length (now t)) ⌝ }
+    requires { ⌜ Keyed constraintsByOwner (k .constraints) (k .parts + 1) (words (now t)) ⌝ }
+    requires { ⌜ Linked constraintsByOwner (k .constraints) (k .parts + 1) (i + 1) (words (now t)) × (i < k .constraints) ⌝ }
+    ensures { λ _. ⌜ Linking constraintsByOwner k (k .constraints) (k .parts + 1) i (now (t .entry)) (now (t .exit)) ⌝ }
+{
+    let owner = constraint_key(t, k, i);
+    link(t, 19716 + 3 * i + 2, 5504 + 4 * owner + 2, i);
+}
+
+// All of them: the parts by name.
+fn link_parts(t: &mut [u8], k: Counts)
+    requires { ⌜ Laid k (length (now t)) ⌝ }
+    requires { ⌜ Keyed partsByName (k .parts) (k .names) (words (now t)) ⌝ }
+    ensures { λ _. ⌜ Linking partsByName k (k .parts) (k .names) 0 (now (t .entry)) (now (t .exit)) ⌝ }
+{
+    start_names(t, k);
+    let mut i = k.parts;
+    while 0 < i {
+        i -= 1;
+        link_part(t, k, i);
+    }
+}
+
+// All of them: the requirements by owner.
+fn link_requirements(t: &mut [u8], k: Counts)
+    requires { ⌜ Laid k (length (now t)) ⌝ }
+    requires { ⌜ Keyed requirementsByOwner (k .requirements) (k .parts + 1) (words (now t)) ⌝ }
+    ensures { λ _. ⌜ Linking requirementsByOwner k (k .requirements) (k .parts + 1) 0 (now (t .entry)) (now (t .exit)) ⌝ }
+{
+    start_requirements(t, k);
+    let mut i = k.requirements;
+    while 0 < i {
+        i -= 1;
+        link_requirement(t, k, i);
+    }
+}
+
+// All of them: the constraints by owner.
+fn link_constraints(t: &mut [u8], k: Counts)
+    requires { ⌜ Laid k (length (now t)) ⌝ }
+    requires { ⌜ Keyed constraintsByOwner (k .constraints) (k .parts + 1) (words (now t)) ⌝ }
+    ensures { λ _. ⌜ Linking constraintsByOwner k (k .constraints) (k .parts + 1) 0 (now (t .entry)) (now (t .exit)) ⌝ }
+{
+    start_constraints(t, k);
+    let mut i = k.constraints;
+    while 0 < i {
+        i -= 1;
+        link_constraint(t, k, i);
+    }
+}
+
+// The first member of range r and the end of its members.
+fn bound_range(marks: &[u8], t: &mut [u8], k: Counts, r: usize)
+    requires { ⌜ Laid k (length (now t)) × (65536 ≤ length (now marks)) × (r < k .ranges) ⌝ }
+    ensures { λ _. ⌜ BoundSet k (now (marks .entry)) r (words (now (t .entry))) (words (now (t .exit))) ⌝ }
+{
+    let first = marks::next(marks, r, 0, k.parts);
+    let end = marks::end(marks, r, k.parts);
+    words::put(t, 9604 + 4 * r + 2, first as u16);
+    words::put(t, 9604 + 4 * r + 3, end as u16);
+}
+
+// Those of all ranges.
+fn bound_ranges(marks: &[u8], t: &mut [u8], k: Counts)
+    requires { ⌜ Laid k (length (now t)) × (65536 ≤ length (now marks)) ⌝ }
+    ensures { λ _. ⌜ Bounding k (now (marks .entry)) (k .ranges) (now (t .entry)) (now (t .exit)) ⌝ }
+{
+    let mut r = 0;
+    while r < k.ranges {
+        bound_range(marks, t, k, r);
+        r += 1;
+    }
+}
+
+// The chains of a catalogue that was read.
+pub fn build(marks: &[u8], t: &mut [u8], k: Counts)
+    requires { ⌜ Laid k (length (now t)) × (65536 ≤ length (now marks)) ⌝ }
+    requires { ⌜ Keys k (now t) ⌝ }
+    ensures { λ _. ⌜ Built k (now (marks .entry)) (now (t .entry)) (now (t .exit)) ⌝ }
+{
+    link_parts(t, k);
+    link_requirements(t, k);
+    link_constraints(t, k);
+    bound_ranges(marks, t, k);
+}
+
+// ---- walking along them
+
+// The first part of a name, or how many parts there are.
+pub fn first_part(marks: &[u8], t: &[u8], k: Counts, name: u16) -> usize
+    requires { ⌜ Laid k (length (now t)) × Chains k (now marks) (now t) ⌝ }
+    ensures { λ r. ⌜ First (k .parts) (keyOf partsByName (words (now (t .entry)))) name 0 r ⌝ }
+{
+    if (name as usize) < k.names {
+        words::get(t, 6 * name as usize + 3) as usize
+    } else {
+        0
+    }
+}
+
+// The next one behind part i, which need not be of a name.
+pub fn next_part(marks: &[u8], t: &[u8], k: Counts, name: u16, i: usize) -> usize
+    requires { ⌜ Laid k (length (now t)) × Chains k (now marks) (now t) × (i < k .parts) ⌝ }
+    ensures { λ r. ⌜ First (k .parts) (keyOf partsByName (words (now (t .entry)))) name (i + 1) r ⌝ }
+{
+    if words::get(t, 384 + 5 * i) == name {
+        words::get(t, 384 + 5 * i + 4) as usize
+    } else {
+        i + 1
+    }
+}
+
+// The first requirement of an owner, or how many requirements there are.
+pub fn first_requirement(marks: &[u8], t: &[u8], k: Counts, row: usize) -> usize
+    requires { ⌜ Laid k (length (now t)) × Chains k (now marks) (now t) ⌝ }
+    ensures { λ r. ⌜ First (k .requirements) (keyOf requirementsByOwner (words (now (t .entry)))) row 0 r ⌝ }
+{
+    if row < k.parts + 1 {
+        words::get(t, 5504 + 4 * row) as usize
+    } else {
+        0
+    }
+}
+
+// The next one behind requirement i, which need not be of an owner.
+pub fn next_requirement(marks: &[u8], t: &[u8], k: Counts, row: usize, i: usize) -> usize
+    requires { ⌜ Laid k (length (now t)) × Chains k (now marks) (now t) × (i < k .requirements) ⌝ }
+    ensures { λ r. ⌜ First (k .requirements) (keyOf requirementsByOwner (words (now (t .entry)))) row (i + 1) r ⌝ }
+{
+    if owner_row(words::get(t, 13572 + 6 * i)) == row {
+        words::get(t, 13572 + 6 * i + 4) as usize
+    } else {
+        i + 1
+    }
+}
+
+// The first constraint of an owner, or how many constraints there are.
+pub fn first_constraint(marks: &[u8], t: &[u8], k: Counts, row: usize) -> usize
+    requires { ⌜ Laid k (length (now t)) × Chains k (now marks) (now t) ⌝ }
+    ensures { λ r. ⌜ First (k .constraints) (keyOf constraintsByOwner (words (now (t .entry)))) row 0 r ⌝ }
+{
+    if row < k.parts + 1 {
+        words::get(t, 5504 + 4 * row + 2) as usize
+    } else {
+        0
+    }
+}
+
+// The next one behind constraint i, which need not be of an owner.
+pub fn next_constraint(marks: &[u8], t: &[u8], k: Counts, row: usize, i: usize) -> usize
+    requires { ⌜ Laid k (length (now t)) × Chains k (now marks) (now t) × (i < k .constraints) ⌝ }
+    ensures { λ r. ⌜ First (k .constraints) (keyOf constraintsByOwner (words (now (t .entry)))) row (i + 1) r ⌝ }
+{
+    if owner_row(words::get(t, 19716 + 3 * i)) == row {
+        words::get(t, 19716 + 3 * i + 2) as usize
+    } else {
+        i + 1
+    }
+}
+
+// The first member of range r, or the number of parts.
+fn first_member(marks: &[u8], t: &[u8], k: Counts, r: usize) -> usize
+    requires { ⌜ Laid k (length (now t)) × Chains k (now marks) (now t) × (r < k .ranges) ⌝ }
+    ensures { λ x. ⌜ NextMember (now (marks .entry)) r 0 (k .parts) x ⌝ }
+{
+    words::get(t, 9604 + 4 * r + 2) as usize
+}
+
+// The end of the members of range r.
+fn member_end(marks: &[u8], t: &[u8], k: Counts, r: usize) -> usize
+    requires { ⌜ Laid k (length (now t)) × Chains k (now marks) (now t) × (r < k .ranges) ⌝ }
+    ensures { λ x. ⌜ EndOfMembers (now (marks .entry)) r (k .parts) x ⌝ }
+{
+    words::get(t, 9604 + 4 * r + 3) as usize
+}
+
+// The next member behind part i.
+fn next_member(marks: &[u8], t: &[u8], k: Counts, r: usize, i: usize) -> usize
+    requires { ⌜ Laid k (length (now t)) × Chains k (now marks) (now t) × (65536 ≤ length (now marks)) × (r < k .ranges) × (i < k .parts) ⌝ }
+    ensures { λ x. ⌜ NextMember (now (marks .entry)) r (i + 1) (k .parts) x ⌝ }
+{
+    let end = member_end(marks, t, k, r);
+    if end <= i + 1 {
+        return k.parts;
+    }
+    let x = marks::next(marks, r, i + 1, end);
+    if x < end { x } else { k.parts }
+}
+
+// ---- the chosen parts of a range, one after another
+
+// The first of them, or a part before it.
+pub fn first_chosen(marks: &[u8], unions: &[u8], t: &[u8], k: Counts, r: usize, w: Choice) -> usize
+    requires { ⌜ Held k (length (now marks)) (length (now unions)) (length (now t)) × Chains k (now marks) (now t) ⌝ }
+    ensures { λ x. ⌜ Skips (k .parts) (chosen (catalogue k (now (marks .entry)) (now (unions .entry)) (now (t .entry))) r w) 0 x ⌝ }
+{
+    if r < k.ranges {
+        match w {
+            Choice::NonMatching => first_part(marks, t, k, tables::range_name(t, k, r)),
+            Choice::Matching => first_member(marks, t, k, r),
+            Choice::Favoured => first_member(marks, t, k, r),
+            Choice::Others => first_member(marks, t, k, r),
+        }
+    } else {
+        0
+    }
+}
+
+// The next one behind part i, or a part before it.
+pub fn next_chosen(
+    marks: &[u8],
+    unions: &[u8],
+    t: &[u8],
+    k: Counts,
+    r: usize,
+    w: Choice,
+    i: usize,
+) -> usize
+    requires { ⌜ Held k (length (now marks)) (length (now unions)) (length (now t)) × Chains k (now marks) (now t) × (i < k .parts) ⌝ }
+    ensures { λ x. ⌜ Skips (k .parts) (chosen (catalogue k (now (marks .entry)) (now (unions .entry)) (now (t .entry))) r w) (i + 1) x ⌝ }
+{
+    if r < k.ranges {
+        match w {
+            Choice::NonMatching => next_part(marks, t, k, tables::range_name(t, k, r), i),
+            Choice::Matching => next_member(marks, t, k, r, i),
+            Choice::Favoured => next_member(marks, t, k, r, i),
+            Choice::Others => next_member(marks, t, k, r, i),
+        }
+    } else {
+        i + 1
+    }
+}
