@@ -18,6 +18,10 @@ use Rattle.refusal.specs.declared.Refusal.{Refusal}
 use Rattle.refusal.specs.Refusing.{refusalOf}
 use Rattle.tables.specs.declared.Counts.{Counts}
 use Rattle.cache.specs.Areas.{catalogue}
+use Rattle.kept.specs.Kept.{Kept}
+use Rattle.tables.specs.Tables.{Laid}
+use Rattle.index.specs.Chains.{Chains, Keys, Built}
+use Rattle.index.proofs.Owners.{keys-given}
 use Rattle.catalogue.specs.declared.Read.{Read}
 use Rattle.catalogue.specs.declared.Read.the-variants as Read
 use Rattle.catalogue.specs.Walking.{placeOf, progressOf, UpToSheet, ReadUp}
@@ -32,7 +36,7 @@ use Rattle.beginning.specs.Beginning.{Reaches}
 use Rattle.ending.specs.declared.Outcome.{Outcome}
 use Rattle.ending.specs.declared.Outcome.the-variants.{Refused}
 use Rattle.ending.specs.Ending.{told, Comes, Finishes}
-use Rattle.outcome.specs.Outcomes.{RunsFrom}
+use Rattle.outcome.specs.Outcomes.{RunsFrom, ReadWhole}
 
 -- a refusal leaves the listing area
 refused-comes : (job out : List ℕ) (f : Refusal) (at : ℕ) → Comes job (refused (numberAndPlace (length job) at (refusalOf f))) (Refused f at) out out
@@ -63,14 +67,52 @@ module _ {job : List ℕ} {at : ℕ} {k : Counts} {m u t : List ℕ} {x : Read} 
       let z : Terms = record { limits = record { variables = 0; clauses = 0; conditionLiterals = 0; waiting = 0 }; lent = []; listing = 0 } in
       checked-given z job (read-up .same .check z) (check-end z)
 
+  -- what the chains ask for
+  pub keys-read : Keys k t
+  keys-read = keys-given k m u t (well-formed given-read)
+
+  pub laid-read : Laid k (length t)
+  laid-read = read-up .ended .kept .held .laid
+
+  -- with its chains made it is the same catalogue
+  module _ {t′ : List ℕ} (b : Built k m t t′) (z : length t′ ≡ length t) where
+    same-catalogue : catalogue k m u t′ ≡ catalogue k m u t
+    unfolding catalogue
+    same-catalogue = rw (b .same)
+
+    still-kept : Kept k m u t′
+    still-kept =
+        let a = read-up .ended .kept in
+        record { held = rw z (a .held); given = a .given; sized = rw (b .same) (a .sized) }
+
+    pub read-built : ReadWhole job (Read.Sheet at k) m u t′
+    unfolding placeOf progressOf
+    read-built =
+        let a = read-up in
+        record {
+          read = record {
+            same = rw same-catalogue (a .same);
+            ended = record { kept = still-kept; inside = a .ended .inside; starts = a .ended .starts };
+          };
+          chains = b .chains;
+        }
+
   -- what the sheet asks for, with the rest
-  pub sheet-asks : {A : Type 0} → A → Catalogued k m u t × (UpToSheet job at k m u t × (Given (catalogue k m u t) × A))
-  sheet-asks a = (record { kept = read-up .ended .kept; formed = well-formed given-read }, (read-up .ended, (given-read, a)))
+  pub sheet-asks : {A : Type 0} → Chains k m t → A → Catalogued k m u t × (UpToSheet job at k m u t × (Given (catalogue k m u t) × A))
+  sheet-asks d a =
+      let b = read-up .ended .kept in
+      (record { kept = record { held = b .held; given = b .given; sized = b .sized; chains = d }; formed = well-formed given-read }, (read-up .ended, (given-read, a)))
 
   -- what comes of the job is what comes of it from the sheet on
   pub from-sheet : {l : Limits} {r : Outcome} {out out′ : List ℕ} → RunsFrom l job at (reading (catalogue k m u t)) r out out′ → RunsFrom l job 0 (reading emptyCatalogue) r out out′
   unfolding endFrom placeOf progressOf
   from-sheet g = record { is = λ z e f. rw (read-up .same .run z) (g .is z e f) }
+
+pub chains-read : {job : List ℕ} {at : ℕ} {k : Counts} {m u t : List ℕ} {x : Read} → ReadWhole job x m u t → x ≡ Read.Sheet at k → Chains k m t
+chains-read h e = (rw e at h) .chains
+
+pub not-read : {job : List ℕ} {f : Refusal} {at : ℕ} {m u t : List ℕ} {x : Read} → ReadUp job x m u t → x ≡ Read.Refused f at → ReadWhole job (Read.Refused f at) m u t
+not-read h e = record { read = rw e at h; chains = tt }
 
 -- the catalogue is refused
 pub from-refused : {l : Limits} {job : List ℕ} {f : Refusal} {at : ℕ} {m u t : List ℕ} {x : Read} (out : List ℕ) → ReadUp job x m u t → x ≡ Read.Refused f at

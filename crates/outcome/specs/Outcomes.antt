@@ -5,6 +5,10 @@ use Prim.Native.Nat.{ℕ}
 use lib.ListN.{length}
 use Rattle.rules.specs.Limits.{Terms}
 use Rattle.rules.specs.Job.{Progress}
+use Rattle.catalogue.specs.declared.Read.{Read}
+use Rattle.catalogue.specs.declared.Read.the-variants as Read
+use Rattle.catalogue.specs.Walking.{ReadUp}
+use Rattle.index.specs.Chains.{Chains}
 use Rattle.state.specs.declared.Limits.{Limits}
 use Rattle.encoder.specs.Did.{limitsOf}
 use Rattle.carried.specs.Carrying.{endFrom}
@@ -14,3 +18,13 @@ use Rattle.ending.specs.Ending.{Comes}
 -- a job from byte `at` on, where the definitions' walk has come to p
 pub record RunsFrom (l : Limits) (job : List ℕ) (at : ℕ) (p : Progress) (r : Outcome) (out out′ : List ℕ) : Type 0 where
   pub is : (t : Terms) → t .limits ≡ limitsOf l → t .listing ≡ length out → Comes job (endFrom t job at p) r out out′
+
+-- the chains of a catalogue that was read whole
+abbrev pub ChainsOf : Read → (m t : List ℕ) → Type 0
+ChainsOf (Read.Sheet at k) m t = Chains k m t
+ChainsOf (Read.Refused f at) m t = Unit {0}
+
+-- the catalogue was read, and its chains are made
+pub record ReadWhole (job : List ℕ) (r : Read) (m u t : List ℕ) : Type 0 where
+  pub read : ReadUp job r m u t
+  pub chains : ChainsOf r m t

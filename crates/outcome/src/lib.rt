@@ -15,7 +15,7 @@ ghost use Rattle.catalogue.specs.Walking.{UpToSheet};
 ghost use Rattle.state.specs.Layout.{Fits};
 ghost use Rattle.encoder.specs.Held.{LongEnough};
 ghost use Rattle.goals.specs.Goals.{Catalogued};
-ghost use Rattle.outcome.specs.Outcomes.{RunsFrom};
+ghost use Rattle.outcome.specs.Outcomes.{ReadWhole, RunsFrom};
 
 // The sheet from its first record on, and the end.
 fn run_sheet(
@@ -48,6 +48,20 @@ fn run_sheet(
     }
 }
 
+// The catalogue is read, and its chains are made.
+fn read_whole(job: &[u8], marks: &mut [u8], unions: &mut [u8], t: &mut [u8]) -> Read
+    requires { ⌜ (65536 ≤ length (now marks)) × (52428 ≤ length (now unions)) × (50696 ≤ length (now t)) × (length (now job) ≤ 65536) ⌝ }
+    ensures { λ r. ⌜ ReadWhole (now (job .entry)) r (now (marks .exit)) (now (unions .exit)) (now (t .exit)) ⌝ }
+{
+    match catalogue::read_catalogue(job, marks, unions, t) {
+        Read::Sheet { at, counts } => {
+            index::build(marks, t, counts);
+            Read::Sheet { at, counts }
+        }
+        Read::Refused { refusal, at } => Read::Refused { refusal, at },
+    }
+}
+
 pub fn run(
     job: &[u8],
     marks: &mut [u8],
@@ -65,7 +79,7 @@ pub fn run(
     requires { ⌜ (0 < l .variables) × (0 < l .clauses) ⌝ }
     ensures { λ r. ⌜ RunsFrom l (now (job .entry)) 0 (reading emptyCatalogue) r (now (out .entry)) (now (out .exit)) ⌝ }
 {
-    match catalogue::read_catalogue(job, marks, unions, t) {
+    match read_whole(job, marks, unions, t) {
         Read::Sheet { at, counts } => run_sheet(
             job,
             at,

@@ -1,17 +1,17 @@
 -- `outcome::run`: the catalogue is read, and then the sheet.
 use borrow.Author.Needs.{needs}
-use Rattle.outcome.proofs.Walked.{sheet-asks, from-sheet, from-refused}
+use Rattle.outcome.proofs.Walked.{sheet-asks, chains-read, from-sheet, from-refused}
 use Rattle.outcome.proofs.run.Statement.{statement}
 use Rattle.outcome.proofs.run.Tie as tie
 
-read-catalogue-requires : tie.Need-read-catalogue-requires
-read-catalogue-requires c κs = search needs
+read-whole-requires : tie.Need-read-whole-requires
+read-whole-requires c κs = search needs
 
 enum-known-at : tie.Need-enum-known-at
 enum-known-at c = search needs
 
 run-sheet-requires : tie.Need-run-sheet-requires
-run-sheet-requires c κs = ((c .before .before .before .before .before .before .before .before .before .before .before .before .before .before .before .before .before .before .before .before .before .before .before .before .before .before .before .before .pre .0 .3), sheet-asks (c .before .before .before .before .before .before .before .before .before .before .before .before .before .before .before .before .read-catalogue .ensures) (search needs) ((c .before .before .before .before .before .before .before .before .before .before .before .before .before .before .before .before .before .before .before .before .before .before .before .before .before .before .before .before .pre .1 .0), ((c .before .before .before .before .before .before .before .before .before .before .before .before .before .before .before .before .before .before .before .before .before .before .before .before .before .before .before .before .pre .1 .1 .0), (c .before .before .before .before .before .before .before .before .before .before .before .before .before .before .before .before .before .before .before .before .before .before .before .before .before .before .before .before .pre .1 .1 .1))))
+run-sheet-requires c κs = ((c .before .before .before .before .before .before .before .before .before .before .before .before .before .before .before .before .before .before .before .before .before .before .before .before .before .before .before .before .pre .0 .3), sheet-asks (c .before .before .before .before .before .before .before .before .before .before .before .before .before .before .before .before .read-whole .ensures .read) (search needs) (chains-read (c .before .before .before .before .before .before .before .before .before .before .before .before .before .before .before .before .read-whole .ensures) (search needs)) ((c .before .before .before .before .before .before .before .before .before .before .before .before .before .before .before .before .before .before .before .before .before .before .before .before .before .before .before .before .pre .1 .0), ((c .before .before .before .before .before .before .before .before .before .before .before .before .before .before .before .before .before .before .before .before .before .before .before .before .before .before .before .before .pre .1 .1 .0), (c .before .before .before .before .before .before .before .before .before .before .before .before .before .before .before .before .before .before .before .before .before .before .before .before .before .before .before .before .pre .1 .1 .1))))
 
 enum-known-refusal : tie.Need-enum-known-refusal
 enum-known-refusal c = search needs
@@ -38,7 +38,7 @@ same-length-7 : tie.Need-same-length-7
 same-length-7 c = search needs
 
 returns : tie.Need-returns
-returns c = from-sheet (c .before .before .before .before .before .before .before .before .before .before .before .before .before .before .before .before .before .before .before .before .before .before .before .before .before .read-catalogue .ensures) (search needs) (c .before .before .before .before .before .before .before .before .run-sheet .ensures)
+returns c = from-sheet (c .before .before .before .before .before .before .before .before .before .before .before .before .before .before .before .before .before .before .before .before .before .before .before .before .before .read-whole .ensures .read) (search needs) (c .before .before .before .before .before .before .before .before .run-sheet .ensures)
 
 same-length-8 : tie.Need-same-length-8
 same-length-8 c = search needs
@@ -50,13 +50,13 @@ same-length-10 : tie.Need-same-length-10
 same-length-10 c = search needs
 
 returns-2 : tie.Need-returns-2
-returns-2 c = from-refused _ (c .before .before .before .before .before .before .before .before .before .read-catalogue .ensures) (search needs)
+returns-2 c = from-refused _ (c .before .before .before .before .before .before .before .before .before .read-whole .ensures .read) (search needs)
 
 pub run-spec : {M : Type 1} → statement M
 run-spec =
     tie.close
     (tie.spec
-    read-catalogue-requires
+    read-whole-requires
     enum-known-at
     run-sheet-requires
     enum-known-refusal
