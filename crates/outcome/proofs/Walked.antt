@@ -98,7 +98,7 @@ module _ {job : List ℕ} {at : ℕ} {k : Counts} {m u t : List ℕ} {x : Read} 
         }
 
   -- what the sheet asks for, with the rest
-  pub sheet-asks : {A : Type 0} → Chains k m t → A → Catalogued k m u t × (UpToSheet job at k m u t × (Given (catalogue k m u t) × A))
+  sheet-asks : {A : Type 0} → Chains k m t → A → Catalogued k m u t × (UpToSheet job at k m u t × (Given (catalogue k m u t) × A))
   sheet-asks d a =
       let b = read-up .ended .kept in
       (record { kept = record { held = b .held; given = b .given; sized = b .sized; chains = d }; formed = well-formed given-read }, (read-up .ended, (given-read, a)))
@@ -108,8 +108,10 @@ module _ {job : List ℕ} {at : ℕ} {k : Counts} {m u t : List ℕ} {x : Read} 
   unfolding endFrom placeOf progressOf
   from-sheet g = record { is = λ z e f. rw (read-up .same .run z) (g .is z e f) }
 
-pub chains-read : {job : List ℕ} {at : ℕ} {k : Counts} {m u t : List ℕ} {x : Read} → ReadWhole job x m u t → x ≡ Read.Sheet at k → Chains k m t
-chains-read h e = (rw e at h) .chains
+-- what the sheet asks for, of a catalogue with its chains
+pub whole-asks : {job : List ℕ} {at : ℕ} {k : Counts} {m u t : List ℕ} {x : Read} {A : Type 0} → ReadWhole job x m u t → x ≡ Read.Sheet at k → A
+    → Catalogued k m u t × (UpToSheet job at k m u t × (Given (catalogue k m u t) × A))
+whole-asks h e a = sheet-asks (h .read) e ((rw e at h) .chains) a
 
 pub not-read : {job : List ℕ} {f : Refusal} {at : ℕ} {m u t : List ℕ} {x : Read} → ReadUp job x m u t → x ≡ Read.Refused f at → ReadWhole job (Read.Refused f at) m u t
 not-read h e = record { read = rw e at h; chains = tt }

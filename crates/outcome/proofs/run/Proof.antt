@@ -1,6 +1,6 @@
 -- `outcome::run`: the catalogue is read, and then the sheet.
 use borrow.Author.Needs.{needs}
-use Rattle.outcome.proofs.Walked.{sheet-asks, chains-read, from-sheet, from-refused}
+use Rattle.outcome.proofs.Walked.{whole-asks, from-sheet, from-refused}
 use Rattle.outcome.proofs.run.Statement.{statement}
 use Rattle.outcome.proofs.run.Tie as tie
 
@@ -11,7 +11,7 @@ enum-known-at : tie.Need-enum-known-at
 enum-known-at c = search needs
 
 run-sheet-requires : tie.Need-run-sheet-requires
-run-sheet-requires c κs = ((c .before .before .before .before .before .before .before .before .before .before .before .before .before .before .before .before .before .before .before .before .before .before .before .before .before .before .before .before .pre .0 .3), sheet-asks (c .before .before .before .before .before .before .before .before .before .before .before .before .before .before .before .before .read-whole .ensures .read) (search needs) (chains-read (c .before .before .before .before .before .before .before .before .before .before .before .before .before .before .before .before .read-whole .ensures) (search needs)) ((c .before .before .before .before .before .before .before .before .before .before .before .before .before .before .before .before .before .before .before .before .before .before .before .before .before .before .before .before .pre .1 .0), ((c .before .before .before .before .before .before .before .before .before .before .before .before .before .before .before .before .before .before .before .before .before .before .before .before .before .before .before .before .pre .1 .1 .0), (c .before .before .before .before .before .before .before .before .before .before .before .before .before .before .before .before .before .before .before .before .before .before .before .before .before .before .before .before .pre .1 .1 .1))))
+run-sheet-requires c κs = ((c .before .before .before .before .before .before .before .before .before .before .before .before .before .before .before .before .before .before .before .before .before .before .before .before .before .before .before .before .pre .0 .3), whole-asks (c .before .before .before .before .before .before .before .before .before .before .before .before .before .before .before .before .read-whole .ensures) (search needs) ((c .before .before .before .before .before .before .before .before .before .before .before .before .before .before .before .before .before .before .before .before .before .before .before .before .before .before .before .before .pre .1 .0), ((c .before .before .before .before .before .before .before .before .before .before .before .before .before .before .before .before .before .before .before .before .before .before .before .before .before .before .before .before .pre .1 .1 .0), (c .before .before .before .before .before .before .before .before .before .before .before .before .before .before .before .before .before .before .before .before .before .before .before .before .before .before .before .before .pre .1 .1 .1))))
 
 enum-known-refusal : tie.Need-enum-known-refusal
 enum-known-refusal c = search needs
