@@ -1,5 +1,6 @@
 pub mod Names
 pub mod Records
 pub mod Rules
+pub mod Along
 pub mod Serving
 pub mod Origins

@@ -74,7 +74,7 @@ rule-taken o i e d = state-same d (λ v s. rw e)
 
 -- ---- one record after another
 
-fold-last : {S : Type 0} (f : ℕ → S → S) (i : ℕ) (s : S) → f i (fold f (upTo 0 i) s) ≡ fold f (upTo 0 (i + 1)) s
+pub fold-last : {S : Type 0} (f : ℕ → S → S) (i : ℕ) (s : S) → f i (fold f (upTo 0 i) s) ≡ fold f (upTo 0 (i + 1)) s
 fold-last f i s = rw (upTo-last i, fold-append f (upTo 0 i) (i ∷ []) s) (unfold fold in refl)
 
 fold-none : {S : Type 0} (f : ℕ → S → S) (s : S) → fold f (upTo 0 0) s ≡ s

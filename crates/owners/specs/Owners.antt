@@ -1,6 +1,6 @@
 -- An owner's records one after another, and a task that is served.
 use mathlib.Core.Path.{_≡_}
-use mathlib.Core.Bool.{_&&_}
+use mathlib.Core.Bool.{Bool, _&&_}
 use Prim.Native.Nat.{ℕ, _<_}
 use lib.ListN.{length}
 use Rattle.rules.specs.Lists.{when}
@@ -30,6 +30,13 @@ ruleOf c v OpenRequirement o q = when (sameOwner o (ownerAt c q) && unconditiona
 ruleOf c v OpenConstraint o k = when (sameOwner o ((constraintAt c k) .owner)) (openName (rangeName c ((constraintAt c k) .range)))
 ruleOf c v QueueRequirement o q = when (sameOwner o (ownerAt c q)) (queue (taskBy c (unconditional c q) q))
 ruleOf c v QueueConstraint o k = when (sameOwner o ((constraintAt c k) .owner)) (queue (constraint k))
+
+-- is record i this owner's?
+unfoldable pub isOf : Catalogue → Rule → Owner → ℕ → Bool
+isOf c OpenRequirement o q = sameOwner o (ownerAt c q)
+isOf c OpenConstraint o k = sameOwner o ((constraintAt c k) .owner)
+isOf c QueueRequirement o q = sameOwner o (ownerAt c q)
+isOf c QueueConstraint o k = sameOwner o ((constraintAt c k) .owner)
 
 unfoldable pub countOf : Catalogue → Rule → ℕ
 countOf c OpenRequirement = length (c .requirements)

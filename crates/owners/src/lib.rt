@@ -8,7 +8,7 @@ use variable_map::Origin;
 ghost use mathlib.Core.Path.{_≡_};
 ghost use mathlib.Core.Bool.{true, false};
 ghost use mathlib.Core.List.{[]};
-ghost use Prim.Native.Nat.{_<_};
+ghost use Prim.Native.Nat.{_+_, _<_};
 ghost use lib.ListN.{length};
 ghost use Rattle.rules.specs.Lists.{fold, upTo};
 ghost use Rattle.rules.specs.Catalogue.{union, part, rangeName, unknownOwner};
@@ -18,6 +18,7 @@ ghost use Rattle.rules.specs.Variables.{chosen};
 ghost use Rattle.rules.proofs.WellFormed.{OwnerGiven, GoalGiven, WellFormed};
 ghost use Rattle.requirement.specs.Requirements.{goalOf};
 ghost use Rattle.cache.specs.Areas.{catalogue};
+ghost use Rattle.index.specs.Chains.{rowOf, Skips};
 ghost use Rattle.index.specs.Indexed.{Indexed};
 ghost use Rattle.state.specs.Layout.{held, Fits};
 ghost use Rattle.variable_map.specs.Mapping.{originOf};
@@ -25,7 +26,7 @@ ghost use Rattle.marked.specs.Marked.{ownerOf};
 ghost use Rattle.encoder.specs.Held.{runOf, LongEnough, Good, GoodAlone};
 ghost use Rattle.encoder.specs.Did.{onOpening, StateDid, ClausesDid};
 ghost use Rattle.owners.specs.declared.Rule.the-variants.{OpenRequirement, OpenConstraint, QueueRequirement, QueueConstraint};
-ghost use Rattle.owners.specs.Owners.{OwnerNumber, ownerIs, ruleOf, countOf, cardinal, serving};
+ghost use Rattle.owners.specs.Owners.{isOf, OwnerNumber, ownerIs, ruleOf, countOf, cardinal, serving};
 
 // ---- names are opened
 
@@ -274,6 +275,50 @@ fn rules_of(k: Counts, what: Rule) -> usize
     }
 }
 
+// An owner by its row in the chains.
+fn row_of(o: u16) -> usize
+    requires { ⌜ o < 1025 ⌝ }
+    ensures { λ r. ⌜ r ≡ rowOf (ownerOf o) ⌝ }
+{
+    if o == 1024 { 0 } else { o as usize + 1 }
+}
+
+// The first record of owner o for a rule, or one before it.
+fn first_rule(marks: &[u8], unions: &[u8], t: &[u8], k: Counts, what: Rule, o: u16) -> usize
+    requires { ⌜ Indexed k (now marks) (now unions) (now t) × (o < 1025) ⌝ }
+    ensures { λ r. ⌜ Skips (cardinal k what) (isOf (catalogue k (now (marks .entry)) (now (unions .entry)) (now (t .entry))) what (ownerOf o)) 0 r ⌝ }
+{
+    let row = row_of(o);
+    match what {
+        Rule::OpenRequirement => index::first_requirement(marks, t, k, row),
+        Rule::OpenConstraint => index::first_constraint(marks, t, k, row),
+        Rule::QueueRequirement => index::first_requirement(marks, t, k, row),
+        Rule::QueueConstraint => index::first_constraint(marks, t, k, row),
+    }
+}
+
+// The next one behind record i, or one before it.
+fn next_rule(
+    marks: &[u8],
+    unions: &[u8],
+    t: &[u8],
+    k: Counts,
+    what: Rule,
+    o: u16,
+    i: usize,
+) -> usize
+    requires { ⌜ Indexed k (now marks) (now unions) (now t) × (o < 1025) × (i < cardinal k what) ⌝ }
+    ensures { λ r. ⌜ Skips (cardinal k what) (isOf (catalogue k (now (marks .entry)) (now (unions .entry)) (now (t .entry))) what (ownerOf o)) (i + 1) r ⌝ }
+{
+    let row = row_of(o);
+    match what {
+        Rule::OpenRequirement => index::next_requirement(marks, t, k, row, i),
+        Rule::OpenConstraint => index::next_constraint(marks, t, k, row, i),
+        Rule::QueueRequirement => index::next_requirement(marks, t, k, row, i),
+        Rule::QueueConstraint => index::next_constraint(marks, t, k, row, i),
+    }
+}
+
 fn each_rule(
     marks: &[u8],
     unions: &[u8],
@@ -294,10 +339,10 @@ fn each_rule(
 {
     let count = rules_of(k, what);
     let mut m = n;
-    let mut i = 0;
+    let mut i = first_rule(marks, unions, t, k, what, o);
     while i < count {
         m = take_rule(marks, unions, t, k, s, l, m, what, o, i);
-        i += 1;
+        i = next_rule(marks, unions, t, k, what, o, i);
     }
     m
 }

@@ -1,4 +1,4 @@
--- `owners::each_rule` takes a rule for one record after another. The invariant: it was taken for those passed.
+-- `owners::each_rule` takes a rule for each record of an owner, along its chain. The invariant: it was taken for those passed.
 use borrow.Author.Needs.{needs}
 use mathlib.Core.Path.{_≡_}
 use Prim.Native.Nat.{_-_}
@@ -8,6 +8,7 @@ use Rattle.state.specs.Layout.{held}
 use Rattle.state.proofs.Sizes.{fits-same}
 use Rattle.marked.specs.Marked.{ownerOf}
 use Rattle.owners.proofs.Rules.{record-counted, Ruled, ruled-start, ruled-step, ruled-end}
+use Rattle.owners.proofs.Along.{below-cardinal, ruled-along}
 use Rattle.owners.proofs.each_rule.Statement.{statement}
 use Rattle.owners.proofs.each_rule.Tie as tie
 
@@ -20,26 +21,29 @@ abbrev μ-loop : tie.MeasureT-loop
 rules-of-requires : tie.Need-rules-of-requires Inv-loop μ-loop
 rules-of-requires c κs = search needs
 
+first-rule-requires : tie.Need-first-rule-requires Inv-loop μ-loop
+first-rule-requires c κs = search needs
+
 loop-holds : tie.Need-loop-holds Inv-loop μ-loop
-loop-holds c = (search needs, ruled-start (c .before .before .before .before .before .pre .1 .1 .1 .0))
+loop-holds c = (search needs, search (needs, ruled-along, ruled-start))
 
 take-rule-requires : tie.Need-take-rule-requires Inv-loop μ-loop
-take-rule-requires c κs = ((c .before .before .before .before .before .before .before .before .pre .0), ((c .before .before .before .before .before .before .before .before .pre .1 .0), (fits-same (c .before .before .loop .inv .0) (c .before .before .before .before .before .before .before .before .pre .1 .1 .0), ((c .before .before .loop .inv .1 .good), (record-counted _ _ _ _ _ (c .before .before .before .rules-of .ensures) (c .before .loop-test .taken), (c .before .before .before .before .before .before .before .before .pre .1 .1 .1 .1))))))
+take-rule-requires c κs = (search needs, (search needs, (search (needs, fits-same), (search needs, (search (needs, record-counted), search needs)))))
 
-add-i : tie.Need-add-i Inv-loop μ-loop
-add-i c = search needs
+next-rule-requires : tie.Need-next-rule-requires Inv-loop μ-loop
+next-rule-requires c κs = ((c .before .before .before .before .before .before .before .before .before .before .before .before .pre .0), (c .before .before .before .before .before .before .before .before .before .before .before .before .pre .1 .1 .1 .1), below-cardinal _ _ (c .before .before .before .before .before .before .before .rules-of .ensures) (c .before .before .before .before .loop-test .taken))
 
 loop-less : tie.Need-loop-less Inv-loop μ-loop
 loop-less c = search needs
 
 loop-again : tie.Need-loop-again Inv-loop μ-loop
-loop-again c = (search needs, ruled-step (c .before .before .before .before .before .loop .inv .1) (c .before .before .before .before .loop-test .taken) (c .before .before .take-rule .ensures))
+loop-again c = (search needs, search (needs, ruled-along, ruled-step))
 
 same-length : tie.Need-same-length Inv-loop μ-loop
 same-length c = search needs
 
 returns : tie.Need-returns Inv-loop μ-loop
-returns c = ruled-end _ _ _ _ (c .before .loop .inv .1) (c .loop-test .left) (c .before .before .rules-of .ensures)
+returns c = ruled-end _ _ _ _ (c .before .loop .inv .1) (c .loop-test .left) (search needs)
 
 pub each-rule-spec : {M : Type 1} → statement M
 each-rule-spec =
@@ -48,9 +52,10 @@ each-rule-spec =
     Inv-loop
     μ-loop
     rules-of-requires
+    first-rule-requires
     loop-holds
     take-rule-requires
-    add-i
+    next-rule-requires
     loop-less
     loop-again
     same-length
