@@ -23,6 +23,8 @@ use Rattle.conditions.specs.Sizes.{rangesOf, Carries}
 use Rattle.cache.specs.declared.Choice.the-variants.{Matching}
 use Rattle.cache.specs.Areas.{catalogue}
 use Rattle.cache.specs.Lists.{chosen, Counted}
+use Rattle.index.specs.Chains.{Skips}
+use Rattle.index.proofs.Walking.{walk}
 use Rattle.variable_map.specs.declared.Origin as code
 use Rattle.variable_map.specs.Mapping.{originBy, originOf, inTables, place, AllKnown}
 use Rattle.variable_map.proofs.Places.{place-known, placed, unplaced}
@@ -68,11 +70,11 @@ pub record Seeking (c : Catalogue) (r : ℕ) (f : ℕ → Bool) (p : ℕ) : Type
   pub is : any f (onward c r p) ≡ any f (matching c r)
 
 module _ (k : Counts) (m u t : List ℕ) (r : ℕ) (f : ℕ → Bool) where
-  pub seek-start : Seeking (catalogue k m u t) r f 0
+  seek-start : Seeking (catalogue k m u t) r f 0
   seek-start = record { is = ap (any f) (onward-start k m u t r) }
 
   module _ (p : ℕ) (x : Seeking (catalogue k m u t) r f p) where
-    pub seek-past : (b : Bool) → p < k .parts → b ≡ chosen (catalogue k m u t) r Matching p → b ≡ false → Seeking (catalogue k m u t) r f (p + 1)
+    seek-past : (b : Bool) → p < k .parts → b ≡ chosen (catalogue k m u t) r Matching p → b ≡ false → Seeking (catalogue k m u t) r f (p + 1)
     seek-past b h e d = record { is = sym (ap (any f) (onward-past k m u t r p h (sym e ∙ d))) ∙ x .is }
 
     module _ (b a : Bool) (h : p < k .parts) (e : b ≡ chosen (catalogue k m u t) r Matching p) (d : b ≡ true) (g : a ≡ f p) where
@@ -80,7 +82,7 @@ module _ (k : Counts) (m u t : List ℕ) (r : ℕ) (f : ℕ → Bool) where
       unfolding any
       seen = sym (ap (any f) (onward-here k m u t r p h (sym e ∙ d))) ∙ x .is
 
-      pub seek-miss : a ≡ false → Seeking (catalogue k m u t) r f (p + 1)
+      seek-miss : a ≡ false → Seeking (catalogue k m u t) r f (p + 1)
       seek-miss q = record { is = rw (sym g ∙ q) at seen }
 
       pub seek-found : a ≡ true → true ≡ any f (matching (catalogue k m u t) r)
@@ -89,6 +91,20 @@ module _ (k : Counts) (m u t : List ℕ) (r : ℕ) (f : ℕ → Bool) where
     pub seek-none : k .parts ≤ p → false ≡ any f (matching (catalogue k m u t) r)
     unfolding any
     seek-none h = rw (onward-end k m u t r p h) at (x .is)
+
+  seek-on : {p x : ℕ} → Skips (k .parts) (chosen (catalogue k m u t) r Matching) p x → Seeking (catalogue k m u t) r f p → Seeking (catalogue k m u t) r f x
+  seek-on s y = walk (Seeking (catalogue k m u t) r f) (λ i h e z. seek-past i z (chosen (catalogue k m u t) r Matching i) h refl e) s y
+
+  pub seek-first : {x : ℕ} → Skips (k .parts) (chosen (catalogue k m u t) r Matching) 0 x → Seeking (catalogue k m u t) r f x
+  seek-first s = seek-on s seek-start
+
+  module _ {p x : ℕ} (y : Seeking (catalogue k m u t) r f p) (b : Bool) (h : p < k .parts) (e : b ≡ chosen (catalogue k m u t) r Matching p)
+      (s : Skips (k .parts) (chosen (catalogue k m u t) r Matching) (p + 1) x) where
+    pub seek-next : b ≡ false → Seeking (catalogue k m u t) r f x
+    seek-next d = seek-on s (seek-past p y b h e d)
+
+    pub seek-behind : (a : Bool) → b ≡ true → a ≡ f p → a ≡ false → Seeking (catalogue k m u t) r f x
+    seek-behind a d g q = seek-on s (seek-miss p y b a h e d g q)
 
 -- ---- each range of a disjunct has such a part
 
@@ -140,11 +156,11 @@ known-rest : {vs : List Origin} {p : ℕ} {ps : List ℕ} → AllKnown vs (p ∷
 known-rest {vs} {p} {ps} a = record { known = each-right (p ∷ []) (a .known) }
 
 module _ (k : Counts) (m u t : List ℕ) (r : ℕ) (vs : List Origin) (ds : List Decision) where
-  pub deny-start : AllKnown vs (matching (catalogue k m u t) r) → Denying (catalogue k m u t) r vs ds 0
+  deny-start : AllKnown vs (matching (catalogue k m u t) r) → Denying (catalogue k m u t) r vs ds 0
   deny-start a = record { known = rw (onward-start k m u t r) a; is = ap (all (falseOf vs ds)) (onward-start k m u t r) }
 
   module _ (p : ℕ) (x : Denying (catalogue k m u t) r vs ds p) where
-    pub deny-past : (b : Bool) → p < k .parts → b ≡ chosen (catalogue k m u t) r Matching p → b ≡ false → Denying (catalogue k m u t) r vs ds (p + 1)
+    deny-past : (b : Bool) → p < k .parts → b ≡ chosen (catalogue k m u t) r Matching p → b ≡ false → Denying (catalogue k m u t) r vs ds (p + 1)
     deny-past b h e d =
         let o = onward-past k m u t r p h (sym e ∙ d) in
         record { known = rw o at (x .known); is = rw o at (x .is) }
@@ -161,7 +177,7 @@ module _ (k : Counts) (m u t : List ℕ) (r : ℕ) (vs : List Origin) (ds : List
         unfolding all falseOf
         denied = rw g (sym (ap (all (falseOf vs ds)) here) ∙ x .is)
 
-        pub deny-step : not a ≡ false → Denying (catalogue k m u t) r vs ds (p + 1)
+        deny-step : not a ≡ false → Denying (catalogue k m u t) r vs ds (p + 1)
         deny-step q = record { known = known-rest (rw here at (x .known)); is = rw (not-false a q) at denied }
 
         pub deny-fails : not a ≡ true → false ≡ all (falseOf vs ds) (matching (catalogue k m u t) r)
@@ -170,6 +186,20 @@ module _ (k : Counts) (m u t : List ℕ) (r : ℕ) (vs : List Origin) (ds : List
     pub deny-end : k .parts ≤ p → true ≡ all (falseOf vs ds) (matching (catalogue k m u t) r)
     unfolding all
     deny-end h = rw (onward-end k m u t r p h) at (x .is)
+
+  deny-on : {p x : ℕ} → Skips (k .parts) (chosen (catalogue k m u t) r Matching) p x → Denying (catalogue k m u t) r vs ds p → Denying (catalogue k m u t) r vs ds x
+  deny-on s y = walk (Denying (catalogue k m u t) r vs ds) (λ i h e z. deny-past i z (chosen (catalogue k m u t) r Matching i) h refl e) s y
+
+  pub deny-first : {x : ℕ} → AllKnown vs (matching (catalogue k m u t) r) → Skips (k .parts) (chosen (catalogue k m u t) r Matching) 0 x → Denying (catalogue k m u t) r vs ds x
+  deny-first a s = deny-on s (deny-start a)
+
+  module _ {p x : ℕ} (y : Denying (catalogue k m u t) r vs ds p) (b : Bool) (h : p < k .parts) (e : b ≡ chosen (catalogue k m u t) r Matching p)
+      (s : Skips (k .parts) (chosen (catalogue k m u t) r Matching) (p + 1) x) where
+    pub deny-next : b ≡ false → Denying (catalogue k m u t) r vs ds x
+    deny-next d = deny-on s (deny-past p y b h e d)
+
+    pub deny-behind : (a : Bool) → b ≡ true → a ≡ isFalse ds (partVariable vs p) → not a ≡ false → Denying (catalogue k m u t) r vs ds x
+    deny-behind a d g q = deny-on s (deny-step p y b h e d a g q)
 
 -- ---- the ranges at hand
 

@@ -111,7 +111,7 @@ fn count_union(marks: &[u8], unions: &[u8], t: &[u8], k: Counts, u: u16, most: u
     let mut i = unions::next_of(unions, k.members, u, 0);
     while i < k.members {
         let member = unions::member_at(unions, k.members, i);
-        total += cache::matching_count(marks, unions, t, k, member.range as usize);
+        total += index::matching_count(marks, unions, t, k, member.range as usize);
         if total >= most {
             return most;
         }
@@ -135,7 +135,7 @@ pub fn count(
 {
     match goal {
         Requirement::Single(range) => {
-            let n = cache::matching_count(marks, unions, t, k, range as usize);
+            let n = index::matching_count(marks, unions, t, k, range as usize);
             if n < most { n } else { most }
         }
         Requirement::Union(union) => count_union(marks, unions, t, k, union, most),
@@ -185,14 +185,14 @@ fn range_holds(
     ensures { λ b. ⌜ b ≡ any (trueOf (variables (n .variables) (held l (now (s .entry)))) (decisions (n .decisions) (held l (now (s .entry)))))
         (matching (catalogue k (now (marks .entry)) (now (unions .entry)) (now (t .entry))) r) ⌝ }
 {
-    let mut p = 0;
+    let mut p = index::first_chosen(marks, unions, t, k, r, Choice::Matching);
     while p < k.parts {
         if cache::chosen(marks, unions, t, k, r, Choice::Matching, p) {
             if decided_true(s, l, n, p as u16) {
                 return true;
             }
         }
-        p += 1;
+        p = index::next_chosen(marks, unions, t, k, r, Choice::Matching, p);
     }
     false
 }
@@ -261,14 +261,14 @@ fn range_false(
     ensures { λ b. ⌜ b ≡ all (falseOf (variables (n .variables) (held l (now (s .entry)))) (decisions (n .decisions) (held l (now (s .entry)))))
         (matching (catalogue k (now (marks .entry)) (now (unions .entry)) (now (t .entry))) r) ⌝ }
 {
-    let mut p = 0;
+    let mut p = index::first_chosen(marks, unions, t, k, r, Choice::Matching);
     while p < k.parts {
         if cache::chosen(marks, unions, t, k, r, Choice::Matching, p) {
             if !decided_false(s, l, n, p as u16) {
                 return false;
             }
         }
-        p += 1;
+        p = index::next_chosen(marks, unions, t, k, r, Choice::Matching, p);
     }
     true
 }
@@ -322,7 +322,7 @@ pub fn some_candidate(
     let mut j = 0;
     while j < m {
         let r = marked::at(s, l, state::CANDIDATES, m, j);
-        if cache::matching_count(marks, unions, t, k, r as usize) > 0 {
+        if index::matching_count(marks, unions, t, k, r as usize) > 0 {
             return true;
         }
         j += 1;

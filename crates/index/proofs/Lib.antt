@@ -3,3 +3,4 @@ pub mod Places
 pub mod Laws
 pub mod Selecting
 pub mod Owners
+pub mod Walking

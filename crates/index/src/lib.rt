@@ -3,12 +3,15 @@
 use cache::Choice;
 use tables::Counts;
 ghost use mathlib.Core.Path.{_≡_};
+ghost use mathlib.Core.List.{[], _∷_};
 ghost use Prim.Native.Nat.{_+_, _*_, _<_, _≤_};
 ghost use lib.ListN.{length, getD, set};
+ghost use Rattle.rules.specs.Lists.{listIf};
+ghost use Rattle.rules.specs.Candidates.{matching, nonMatching};
 ghost use Rattle.words.specs.Words.{words};
 ghost use Rattle.marks.specs.Marks.{NextMember, EndOfMembers};
 ghost use Rattle.cache.specs.Areas.{catalogue, Held};
-ghost use Rattle.cache.specs.Lists.{chosen};
+ghost use Rattle.cache.specs.Lists.{chosen, choice, Counted};
 ghost use Rattle.tables.specs.Tables.{Laid};
 ghost use Rattle.index.specs.Chains.{
   First,
@@ -364,4 +367,57 @@ pub fn next_chosen(
     } else {
         i + 1
     }
+}
+
+// ---- how many there are
+
+// n, and one more if part p is chosen.
+fn count_chosen(
+    marks: &[u8],
+    unions: &[u8],
+    t: &[u8],
+    k: Counts,
+    r: usize,
+    w: Choice,
+    p: usize,
+    n: usize,
+) -> usize
+    requires { ⌜ Held k (length (now marks)) (length (now unions)) (length (now t)) ⌝ }
+    requires { ⌜ n ≤ 1024 ⌝ }
+    ensures { λ x. ⌜ x ≡ n + length (listIf (chosen (catalogue k (now (marks .entry)) (now (unions .entry)) (now (t .entry))) r w p) (p ∷ [])) ⌝ }
+{
+    if cache::chosen(marks, unions, t, k, r, w, p) {
+        return n + 1;
+    }
+    n
+}
+
+// How many are chosen.
+fn count(marks: &[u8], unions: &[u8], t: &[u8], k: Counts, r: usize, w: Choice) -> usize
+    requires { ⌜ Held k (length (now marks)) (length (now unions)) (length (now t)) × Chains k (now marks) (now t) ⌝ }
+    ensures { λ n. ⌜ Counted n (choice (catalogue k (now (marks .entry)) (now (unions .entry)) (now (t .entry))) r w) ⌝ }
+{
+    let mut n = 0;
+    let mut p = first_chosen(marks, unions, t, k, r, w);
+    while p < k.parts {
+        n = count_chosen(marks, unions, t, k, r, w, p, n);
+        p = next_chosen(marks, unions, t, k, r, w, p);
+    }
+    n
+}
+
+// How many matching parts range r has.
+pub fn matching_count(marks: &[u8], unions: &[u8], t: &[u8], k: Counts, r: usize) -> usize
+    requires { ⌜ Held k (length (now marks)) (length (now unions)) (length (now t)) × Chains k (now marks) (now t) ⌝ }
+    ensures { λ n. ⌜ Counted n (matching (catalogue k (now (marks .entry)) (now (unions .entry)) (now (t .entry))) r) ⌝ }
+{
+    count(marks, unions, t, k, r, Choice::Matching)
+}
+
+// How many non-matching parts.
+pub fn non_matching_count(marks: &[u8], unions: &[u8], t: &[u8], k: Counts, r: usize) -> usize
+    requires { ⌜ Held k (length (now marks)) (length (now unions)) (length (now t)) × Chains k (now marks) (now t) ⌝ }
+    ensures { λ n. ⌜ Counted n (nonMatching (catalogue k (now (marks .entry)) (now (unions .entry)) (now (t .entry))) r) ⌝ }
+{
+    count(marks, unions, t, k, r, Choice::NonMatching)
 }

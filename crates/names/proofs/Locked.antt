@@ -20,6 +20,8 @@ use Rattle.encoder.specs.declared.Counters.{Counters}
 use Rattle.encoder.specs.Did.{StateDid, ClausesDid}
 use Rattle.encoder.specs.Held.{KnownUnlessFull}
 use Rattle.encoder.proofs.Steps.{state-same, state-none, clauses-none, state-then}
+use Rattle.index.specs.Chains.{Skips}
+use Rattle.index.proofs.Walking.{walk}
 use Rattle.parts.specs.declared.Parts.the-variants.{Locked, Others}
 use Rattle.parts.specs.declared.Naming.the-variants.{Variable}
 use Rattle.parts.specs.declared.Adding.the-variants as Adding
@@ -38,7 +40,7 @@ module _ (k : Counts) (m u t : List ℕ) (n : ℕ) where
   abbrev c : Catalogue
   c = catalogue k m u t
 
-  pub locked-start : LockedFrom (catalogue k m u t) n (k .parts) 0
+  locked-start : LockedFrom (catalogue k m u t) n (k .parts) 0
   unfolding partsFor
   locked-start =
       let e : k .parts - 0 ≡ k .parts = omega arith in
@@ -58,7 +60,7 @@ module _ (k : Counts) (m u t : List ℕ) (n : ℕ) where
           let q : selectedOf c (Locked n) p ≡ true = sym e ∙ i in
           sym (sym (x .is) ∙ rw (next h, q, filter))
 
-      pub locked-more : b ≡ false → LockedFrom (catalogue k m u t) n (k .parts) (p + 1)
+      locked-more : b ≡ false → LockedFrom (catalogue k m u t) n (k .parts) (p + 1)
       unfolding filter
       locked-more i =
           let q : selectedOf c (Locked n) p ≡ false = sym e ∙ i in
@@ -69,6 +71,16 @@ module _ (k : Counts) (m u t : List ℕ) (n : ℕ) where
     locked-end h =
         let e : k .parts - p ≡ 0 = omega arith in
         rw (e, upTo, filter, firstOf) at (x .is)
+
+  locked-on : {p x : ℕ} → Skips (k .parts) (selectedOf (catalogue k m u t) (Locked n)) p x → LockedFrom (catalogue k m u t) n (k .parts) p → LockedFrom (catalogue k m u t) n (k .parts) x
+  locked-on s y = walk (LockedFrom (catalogue k m u t) n (k .parts)) (λ i h e z. locked-more i z h refl e) s y
+
+  pub locked-first : {x : ℕ} → Skips (k .parts) (selectedOf (catalogue k m u t) (Locked n)) 0 x → LockedFrom (catalogue k m u t) n (k .parts) x
+  locked-first s = locked-on s locked-start
+
+  pub locked-next : {p x : ℕ} {b : Bool} → LockedFrom (catalogue k m u t) n (k .parts) p → p < k .parts → b ≡ selectedOf (catalogue k m u t) (Locked n) p → b ≡ false
+      → Skips (k .parts) (selectedOf (catalogue k m u t) (Locked n)) (p + 1) x → LockedFrom (catalogue k m u t) n (k .parts) x
+  locked-next {p} y h e i s = locked-on s (locked-more p y h e i)
 
 -- ---- the others
 

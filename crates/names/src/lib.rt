@@ -32,12 +32,12 @@ fn locked_part(marks: &[u8], unions: &[u8], t: &[u8], k: Counts, name: u16) -> u
     requires { ⌜ Indexed k (now marks) (now unions) (now t) ⌝ }
     ensures { λ r. ⌜ r ≡ firstOf (length ((catalogue k (now (marks .entry)) (now (unions .entry)) (now (t .entry))) .parts)) (lockedPart (catalogue k (now (marks .entry)) (now (unions .entry)) (now (t .entry))) name) ⌝ }
 {
-    let mut p = 0;
+    let mut p = parts::first(marks, unions, t, k, Parts::Locked(name));
     while p < k.parts {
         if parts::selected(marks, unions, t, k, Parts::Locked(name), p) {
             return p;
         }
-        p += 1;
+        p = parts::next(marks, unions, t, k, Parts::Locked(name), p);
     }
     k.parts
 }

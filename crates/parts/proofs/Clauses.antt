@@ -30,6 +30,8 @@ use Rattle.encoder.proofs.Did.{did-as}
 use Rattle.encoder.proofs.Widening.{addClause-widens, addClause-variables}
 use Rattle.encoder.proofs.Steps.{clauses-same, clauses-none, clauses-then, good-later, known-later}
 use Rattle.storing.specs.Adding.{reasonFor, Adds}
+use Rattle.index.specs.Chains.{Skips}
+use Rattle.index.proofs.Walking.{walk}
 use Rattle.parts.specs.declared.Parts.{Parts}
 use Rattle.parts.specs.declared.Adding.{Adding}
 use Rattle.parts.specs.declared.Adding.the-variants as Adding
@@ -96,7 +98,7 @@ pub record AddedSoFar (c : Catalogue) (l : Limits) (r : rules.Run) (which : Part
   pub did : ClausesDid c l (λ v. fold (addingOf r a) (filter (selectedOf c which) (upTo 0 p))) n₀ (held l s₀) cl₀ n (held l s) cl
 
 module _ {c : Catalogue} {l : Limits} {r : rules.Run} {which : Parts} {a : Adding} {count : ℕ} {n₀ : Counters} {s₀ cl₀ : List ℕ} where
-  pub adding-start : Good c l n₀ (held l s₀) cl₀ [] → KnownUnlessFull (n₀ .full) (variables (n₀ .variables) (held l s₀)) (partsFor c which)
+  adding-start : Good c l n₀ (held l s₀) cl₀ [] → KnownUnlessFull (n₀ .full) (variables (n₀ .variables) (held l s₀)) (partsFor c which)
       → AddedSoFar c l r which a count n₀ s₀ cl₀ n₀ s₀ cl₀ 0
   adding-start g h =
       record {
@@ -108,7 +110,7 @@ module _ {c : Catalogue} {l : Limits} {r : rules.Run} {which : Parts} {a : Addin
         did = clauses-none (λ v s. fold-none (selectedOf c which) (addingOf r a) s);
       }
 
-  pub adding-step : {n n′ : Counters} {s s′ cl cl′ : List ℕ} {p : ℕ} → AddedSoFar c l r which a count n₀ s₀ cl₀ n s cl p → p < count → length s′ ≡ length s → length cl′ ≡ length cl
+  adding-step : {n n′ : Counters} {s s′ cl cl′ : List ℕ} {p : ℕ} → AddedSoFar c l r which a count n₀ s₀ cl₀ n s cl p → p < count → length s′ ≡ length s → length cl′ ≡ length cl
       → ClausesDid c l (λ v. when (selectedOf c which p) (addingOf r a p)) n (held l s) cl n′ (held l s′) cl′ → AddedSoFar c l r which a count n₀ s₀ cl₀ n′ s′ cl′ (p + 1)
   adding-step {p = p} x h i j d =
       record {
@@ -119,6 +121,18 @@ module _ {c : Catalogue} {l : Limits} {r : rules.Run} {which : Parts} {a : Addin
         known = known-later d (x .good) (x .known);
         did = clauses-same (clauses-then (x .did) d) (λ v s. fold-more (selectedOf c which) (addingOf r a) p s);
       }
+
+  adding-on : {n : Counters} {s cl : List ℕ} {p x : ℕ} → Skips count (selectedOf c which) p x → AddedSoFar c l r which a count n₀ s₀ cl₀ n s cl p → AddedSoFar c l r which a count n₀ s₀ cl₀ n s cl x
+  adding-on {n} {s} {cl} z y = walk (AddedSoFar c l r which a count n₀ s₀ cl₀ n s cl) (λ i h e y. adding-step y h refl refl (adding-other r which a i refl e)) z y
+
+  pub adding-first : {x : ℕ} → Good c l n₀ (held l s₀) cl₀ [] → KnownUnlessFull (n₀ .full) (variables (n₀ .variables) (held l s₀)) (partsFor c which)
+      → Skips count (selectedOf c which) 0 x → AddedSoFar c l r which a count n₀ s₀ cl₀ n₀ s₀ cl₀ x
+  adding-first g h z = adding-on z (adding-start g h)
+
+  pub adding-next : {n n′ : Counters} {s s′ cl cl′ : List ℕ} {p x : ℕ} → AddedSoFar c l r which a count n₀ s₀ cl₀ n s cl p → p < count → length s′ ≡ length s → length cl′ ≡ length cl
+      → ClausesDid c l (λ v. when (selectedOf c which p) (addingOf r a p)) n (held l s) cl n′ (held l s′) cl′ → Skips count (selectedOf c which) (p + 1) x
+      → AddedSoFar c l r which a count n₀ s₀ cl₀ n′ s′ cl′ x
+  adding-next y h i j d z = adding-on z (adding-step y h i j d)
 
 pub adding-end : (k : Counts) (m u t : List ℕ) {l : Limits} {r : rules.Run} {which : Parts} {a : Adding} {n₀ : Counters} {s₀ cl₀ : List ℕ} {n : Counters} {s cl : List ℕ} {p : ℕ}
     → AddedSoFar (catalogue k m u t) l r which a (k .parts) n₀ s₀ cl₀ n s cl p → k .parts ≤ p

@@ -30,6 +30,8 @@ use Rattle.encoder.specs.declared.Counters.{Counters}
 use Rattle.encoder.specs.Held.{Reading, stateOf, GoodAlone, KnownUnlessFull}
 use Rattle.encoder.specs.Did.{onOpening, StateDid, PlainDid}
 use Rattle.encoder.proofs.Steps.{state-same, state-none, state-then, alone-after, variables-after}
+use Rattle.index.specs.Chains.{Skips}
+use Rattle.index.proofs.Walking.{walk}
 use Rattle.parts.specs.declared.Parts.{Parts}
 use Rattle.parts.specs.declared.Naming.{Naming}
 use Rattle.parts.specs.declared.Naming.the-variants.{Variable, Tracked, Candidate}
@@ -98,11 +100,11 @@ pub record NamedSoFar (c : Catalogue) (l : Limits) (which : Parts) (naming : Nam
   pub did : StateDid c l (λ v. fold (namingOf c naming) (filter (selectedOf c which) (upTo 0 p))) n₀ (held l s₀) n (held l s)
 
 module _ {c : Catalogue} {l : Limits} {which : Parts} {naming : Naming} {count : ℕ} {n₀ : Counters} {s₀ : List ℕ} where
-  pub naming-start : GoodAlone c l n₀ (held l s₀) → NamedSoFar c l which naming count n₀ s₀ n₀ s₀ 0
+  naming-start : GoodAlone c l n₀ (held l s₀) → NamedSoFar c l which naming count n₀ s₀ n₀ s₀ 0
   naming-start g =
       record { within = omega arith; same = refl; alone = g; did = state-none (λ v s. fold-none (selectedOf c which) (namingOf c naming) s) }
 
-  pub naming-step : {n n′ : Counters} {s s′ : List ℕ} {p : ℕ} → NamedSoFar c l which naming count n₀ s₀ n s p → p < count → length s′ ≡ length s
+  naming-step : {n n′ : Counters} {s s′ : List ℕ} {p : ℕ} → NamedSoFar c l which naming count n₀ s₀ n s p → p < count → length s′ ≡ length s
       → StateDid c l (λ v. when (selectedOf c which p) (namingOf c naming p)) n (held l s) n′ (held l s′) → NamedSoFar c l which naming count n₀ s₀ n′ s′ (p + 1)
   naming-step {p = p} x h i d =
       record {
@@ -111,6 +113,17 @@ module _ {c : Catalogue} {l : Limits} {which : Parts} {naming : Naming} {count :
         alone = alone-after d (x .alone);
         did = state-same (state-then (x .did) d) (λ v s. fold-more (selectedOf c which) (namingOf c naming) p s);
       }
+
+  naming-on : {n : Counters} {s : List ℕ} {p x : ℕ} → Skips count (selectedOf c which) p x → NamedSoFar c l which naming count n₀ s₀ n s p → NamedSoFar c l which naming count n₀ s₀ n s x
+  naming-on {n} {s} z y = walk (NamedSoFar c l which naming count n₀ s₀ n s) (λ i h e y. naming-step y h refl (naming-other which naming i refl e)) z y
+
+  pub naming-first : {x : ℕ} → GoodAlone c l n₀ (held l s₀) → Skips count (selectedOf c which) 0 x → NamedSoFar c l which naming count n₀ s₀ n₀ s₀ x
+  naming-first g z = naming-on z (naming-start g)
+
+  pub naming-next : {n n′ : Counters} {s s′ : List ℕ} {p x : ℕ} → NamedSoFar c l which naming count n₀ s₀ n s p → p < count → length s′ ≡ length s
+      → StateDid c l (λ v. when (selectedOf c which p) (namingOf c naming p)) n (held l s) n′ (held l s′) → Skips count (selectedOf c which) (p + 1) x
+      → NamedSoFar c l which naming count n₀ s₀ n′ s′ x
+  naming-next y h i d z = naming-on z (naming-step y h i d)
 
 pub naming-end : (k : Counts) (m u t : List ℕ) {l : Limits} {which : Parts} {naming : Naming} {n₀ : Counters} {s₀ : List ℕ} {n : Counters} {s : List ℕ} {p : ℕ}
     → NamedSoFar (catalogue k m u t) l which naming (k .parts) n₀ s₀ n s p → k .parts ≤ p

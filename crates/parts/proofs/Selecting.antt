@@ -17,6 +17,9 @@ use Rattle.cache.specs.declared.Choice.the-variants.{NonMatching}
 use Rattle.cache.specs.Areas.{catalogue}
 use Rattle.cache.specs.Lists.{asked, chosen}
 use Rattle.cache.proofs.Laws.{part-held, part-name-held}
+use Rattle.words.specs.Words.{words}
+use Rattle.index.specs.Chains.{First, partsByName, keyOf, Skips}
+use Rattle.index.proofs.Selecting.{skips-name}
 use Rattle.parts.specs.declared.Parts.{Parts}
 use Rattle.parts.specs.declared.Parts.the-variants.{Chosen, Locked, Others, Excluded}
 use Rattle.parts.specs.Parts.{selectedOf, partsFor}
@@ -46,6 +49,25 @@ module _ (k : Counts) (m u t : List ℕ) {which : Parts} (p : ℕ) (b : Bool) wh
       → b ≡ selectedOf (catalogue k m u t) which p
   unfolding selectedOf excludedPart partAt
   selected-excluded e d = rw e (rw (← part-held k m u t p) at d)
+
+-- ---- the next one of these
+
+module _ (k : Counts) (m u t : List ℕ) {which : Parts} {from x : ℕ} where
+  pub skips-chosen : {r : ℕ} {w : Choice} → which ≡ Chosen r w → Skips (k .parts) (chosen (catalogue k m u t) r w) from x → Skips (k .parts) (selectedOf (catalogue k m u t) which) from x
+  unfolding selectedOf
+  skips-chosen e s = rw e s
+
+  pub skips-locked : {n : ℕ} → which ≡ Locked n → First (k .parts) (keyOf partsByName (words t)) n from x → Skips (k .parts) (selectedOf (catalogue k m u t) which) from x
+  unfolding selectedOf
+  skips-locked e f = rw e (skips-name k m u t (λ p. (partAt (catalogue k m u t) p) .locked) f)
+
+  pub skips-others : {n locked : ℕ} → which ≡ Others n locked → First (k .parts) (keyOf partsByName (words t)) n from x → Skips (k .parts) (selectedOf (catalogue k m u t) which) from x
+  unfolding selectedOf
+  skips-others {locked = locked} e f = rw e (skips-name k m u t (λ p. not (eqb p locked)) f)
+
+  pub skips-excluded : {n : ℕ} → which ≡ Excluded n → First (k .parts) (keyOf partsByName (words t)) n from x → Skips (k .parts) (selectedOf (catalogue k m u t) which) from x
+  unfolding selectedOf
+  skips-excluded e f = rw e (skips-name k m u t (excludedPart (catalogue k m u t)) f)
 
 -- ---- the definitions' lists
 

@@ -7,7 +7,7 @@ use tables::Counts;
 ghost use mathlib.Core.Path.{_≡_};
 ghost use mathlib.Core.Bool.{not, _&&_};
 ghost use mathlib.Core.List.{[], _∷_};
-ghost use Prim.Native.Nat.{_<_};
+ghost use Prim.Native.Nat.{_+_, _<_};
 ghost use lib.Dec.{eqb};
 ghost use lib.ListN.{length, getD};
 ghost use Rattle.rules.specs.Lists.{fold, when};
@@ -15,6 +15,7 @@ ghost use Rattle.rules.specs.Catalogue.{noPart};
 ghost use Rattle.rules.specs.Opening.{openReady};
 ghost use Rattle.tables.specs.Tables.{tables, Laid};
 ghost use Rattle.cache.specs.Areas.{catalogue};
+ghost use Rattle.index.specs.Chains.{Skips};
 ghost use Rattle.index.specs.Indexed.{Indexed};
 ghost use Rattle.state.specs.Layout.{held, Fits};
 ghost use Rattle.variable_map.specs.Mapping.{variables};
@@ -86,6 +87,41 @@ pub fn selected(marks: &[u8], unions: &[u8], t: &[u8], k: Counts, which: Parts, 
         Parts::Locked(name) => is_locked(t, k, name, p),
         Parts::Others { name, locked } => is_other(t, k, name, locked, p),
         Parts::Excluded(name) => is_excluded(t, k, name, p),
+    }
+}
+
+// The first of them, or a part before it.
+pub fn first(marks: &[u8], unions: &[u8], t: &[u8], k: Counts, which: Parts) -> usize
+    requires { ⌜ Indexed k (now marks) (now unions) (now t) ⌝ }
+    ensures { λ x. ⌜ Skips (k .parts) (selectedOf (catalogue k (now (marks .entry)) (now (unions .entry)) (now (t .entry))) which) 0 x ⌝ }
+{
+    match which {
+        Parts::Chosen { range, choice } => index::first_chosen(marks, unions, t, k, range, choice),
+        Parts::Locked(name) => index::first_part(marks, t, k, name),
+        Parts::Others { name, locked } => index::first_part(marks, t, k, name),
+        Parts::Excluded(name) => index::first_part(marks, t, k, name),
+    }
+}
+
+// The next one behind part p, or a part before it.
+pub fn next(marks: &[u8], unions: &[u8], t: &[u8], k: Counts, which: Parts, p: usize) -> usize
+    requires { ⌜ Indexed k (now marks) (now unions) (now t) ⌝ }
+    requires { ⌜ p < k .parts ⌝ }
+    ensures { λ x. ⌜ Skips (k .parts) (selectedOf (catalogue k (now (marks .entry)) (now (unions .entry)) (now (t .entry))) which) (p + 1) x ⌝ }
+{
+    match which {
+        Parts::Chosen { range, choice } => index::next_chosen(
+            marks,
+            unions,
+            t,
+            k,
+            range,
+            choice,
+            p,
+        ),
+        Parts::Locked(name) => index::next_part(marks, t, k, name, p),
+        Parts::Others { name, locked } => index::next_part(marks, t, k, name, p),
+        Parts::Excluded(name) => index::next_part(marks, t, k, name, p),
     }
 }
 
@@ -219,10 +255,10 @@ pub fn name_each(
     ensures { λ m. ⌜ StateDid (catalogue k (now (marks .entry)) (now (unions .entry)) (now (t .entry))) l (λ v. fold (namingOf (catalogue k (now (marks .entry)) (now (unions .entry)) (now (t .entry))) naming) (partsFor (catalogue k (now (marks .entry)) (now (unions .entry)) (now (t .entry))) which)) n (held l (now (s .entry))) m (held l (now (s .exit))) ⌝ }
 {
     let mut m = n;
-    let mut p = 0;
+    let mut p = first(marks, unions, t, k, which);
     while p < k.parts {
         m = name_if(marks, unions, t, k, s, l, m, which, naming, p);
-        p += 1;
+        p = next(marks, unions, t, k, which, p);
     }
     m
 }
@@ -312,10 +348,10 @@ pub fn add_each(
     ensures { λ m. ⌜ ClausesDid (catalogue k (now (marks .entry)) (now (unions .entry)) (now (t .entry))) l (λ v. fold (addingOf (runOf r) adding) (partsFor (catalogue k (now (marks .entry)) (now (unions .entry)) (now (t .entry))) which)) n (held l (now (s .entry))) (now (clauses .entry)) m (held l (now (s .exit))) (now (clauses .exit)) ⌝ }
 {
     let mut m = n;
-    let mut p = 0;
+    let mut p = first(marks, unions, t, k, which);
     while p < k.parts {
         m = add_if(marks, unions, t, k, s, clauses, l, m, r, which, adding, p);
-        p += 1;
+        p = next(marks, unions, t, k, which, p);
     }
     m
 }

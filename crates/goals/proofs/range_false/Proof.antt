@@ -6,7 +6,7 @@ use Rattle.cache.specs.Areas.{catalogue}
 use Rattle.state.specs.Layout.{held}
 use Rattle.variable_map.specs.Mapping.{variables}
 use Rattle.decision_tracker.specs.Tracking.{decisions}
-use Rattle.goals.proofs.Decided.{Denying, deny-start, deny-past, deny-known, deny-step, deny-fails, deny-end}
+use Rattle.goals.proofs.Decided.{Denying, deny-first, deny-next, deny-known, deny-behind, deny-fails, deny-end}
 use Rattle.goals.proofs.range_false.Statement.{statement}
 use Rattle.goals.proofs.range_false.Tie as tie
 
@@ -16,8 +16,11 @@ Inv-loop marks unions t k s l n r p₀ p = Denying (catalogue k marks unions t) 
 abbrev μ-loop : tie.MeasureT-loop
 μ-loop marks unions t k s l n r p₀ p = k .parts - p
 
+first-chosen-requires : tie.Need-first-chosen-requires Inv-loop μ-loop
+first-chosen-requires c κs = search needs
+
 loop-holds : tie.Need-loop-holds Inv-loop μ-loop
-loop-holds c = search (needs, deny-start)
+loop-holds c = search (needs, deny-first)
 
 chosen-requires : tie.Need-chosen-requires Inv-loop μ-loop
 chosen-requires c κs = search needs
@@ -31,14 +34,14 @@ decided-false-requires c κs = (search needs, ((search needs, search needs, sear
 returns : tie.Need-returns Inv-loop μ-loop
 returns c = search (needs, deny-fails)
 
-add-p : tie.Need-add-p Inv-loop μ-loop
-add-p c = search needs
+next-chosen-requires : tie.Need-next-chosen-requires Inv-loop μ-loop
+next-chosen-requires c κs = search needs
 
 loop-less : tie.Need-loop-less Inv-loop μ-loop
 loop-less c = search needs
 
 loop-again : tie.Need-loop-again Inv-loop μ-loop
-loop-again c = ⊎-elim (λ w. search (needs, deny-step)) (λ w. search (needs, deny-past)) (c .if2 .came)
+loop-again c = ⊎-elim (λ w. search (needs, deny-behind)) (λ w. search (needs, deny-next)) (c .before .if2 .came)
 
 returns-2 : tie.Need-returns-2 Inv-loop μ-loop
 returns-2 c = search (needs, deny-end)
@@ -49,12 +52,13 @@ range-false-spec =
     (tie.spec
     Inv-loop
     μ-loop
+    first-chosen-requires
     loop-holds
     chosen-requires
     cast-decided-false
     decided-false-requires
     returns
-    add-p
+    next-chosen-requires
     loop-less
     loop-again
     returns-2)

@@ -7,7 +7,7 @@ use Rattle.state.specs.Layout.{held}
 use Rattle.variable_map.specs.Mapping.{variables}
 use Rattle.decision_tracker.specs.Tracking.{decisions}
 use Rattle.goals.specs.Goals.{trueOf}
-use Rattle.goals.proofs.Decided.{Seeking, seek-start, seek-past, seek-miss, seek-found, seek-none}
+use Rattle.goals.proofs.Decided.{Seeking, seek-first, seek-next, seek-behind, seek-found, seek-none}
 use Rattle.goals.proofs.range_holds.Statement.{statement}
 use Rattle.goals.proofs.range_holds.Tie as tie
 
@@ -17,8 +17,11 @@ Inv-loop marks unions t k s l n r p₀ p = Seeking (catalogue k marks unions t) 
 abbrev μ-loop : tie.MeasureT-loop
 μ-loop marks unions t k s l n r p₀ p = k .parts - p
 
+first-chosen-requires : tie.Need-first-chosen-requires Inv-loop μ-loop
+first-chosen-requires c κs = search needs
+
 loop-holds : tie.Need-loop-holds Inv-loop μ-loop
-loop-holds c = search (needs, seek-start)
+loop-holds c = search (needs, seek-first)
 
 chosen-requires : tie.Need-chosen-requires Inv-loop μ-loop
 chosen-requires c κs = search needs
@@ -32,14 +35,14 @@ decided-true-requires c κs = (search needs, (search needs, search needs, search
 returns : tie.Need-returns Inv-loop μ-loop
 returns c = search (needs, seek-found)
 
-add-p : tie.Need-add-p Inv-loop μ-loop
-add-p c = search needs
+next-chosen-requires : tie.Need-next-chosen-requires Inv-loop μ-loop
+next-chosen-requires c κs = search needs
 
 loop-less : tie.Need-loop-less Inv-loop μ-loop
 loop-less c = search needs
 
 loop-again : tie.Need-loop-again Inv-loop μ-loop
-loop-again c = ⊎-elim (λ w. search (needs, seek-miss)) (λ w. search (needs, seek-past)) (c .if2 .came)
+loop-again c = ⊎-elim (λ w. search (needs, seek-behind)) (λ w. search (needs, seek-next)) (c .before .if2 .came)
 
 returns-2 : tie.Need-returns-2 Inv-loop μ-loop
 returns-2 c = search (needs, seek-none)
@@ -50,12 +53,13 @@ range-holds-spec =
     (tie.spec
     Inv-loop
     μ-loop
+    first-chosen-requires
     loop-holds
     chosen-requires
     cast-decided-true
     decided-true-requires
     returns
-    add-p
+    next-chosen-requires
     loop-less
     loop-again
     returns-2)

@@ -2,7 +2,7 @@
 use borrow.Author.Needs.{needs}
 use Prim.Native.Nat.{_-_}
 use Rattle.cache.specs.Areas.{catalogue}
-use Rattle.names.proofs.Locked.{LockedFrom, locked-start, locked-found, locked-more, locked-end}
+use Rattle.names.proofs.Locked.{LockedFrom, locked-first, locked-found, locked-next, locked-end}
 use Rattle.names.proofs.locked_part.Statement.{statement}
 use Rattle.names.proofs.locked_part.Tie as tie
 
@@ -12,8 +12,11 @@ Inv-loop marks unions t k name p₀ p = LockedFrom (catalogue k marks unions t) 
 abbrev μ-loop : tie.MeasureT-loop
 μ-loop marks unions t k name p₀ p = k .parts - p
 
+first-requires : tie.Need-first-requires Inv-loop μ-loop
+first-requires c κs = search needs
+
 loop-holds : tie.Need-loop-holds Inv-loop μ-loop
-loop-holds c = search (needs, locked-start)
+loop-holds c = search (needs, locked-first)
 
 selected-requires : tie.Need-selected-requires Inv-loop μ-loop
 selected-requires c κs = search needs
@@ -21,14 +24,14 @@ selected-requires c κs = search needs
 returns : tie.Need-returns Inv-loop μ-loop
 returns c = search (needs, locked-found)
 
-add-p : tie.Need-add-p Inv-loop μ-loop
-add-p c = search needs
+next-requires : tie.Need-next-requires Inv-loop μ-loop
+next-requires c κs = search needs
 
 loop-less : tie.Need-loop-less Inv-loop μ-loop
 loop-less c = search needs
 
 loop-again : tie.Need-loop-again Inv-loop μ-loop
-loop-again c = search (needs, locked-more)
+loop-again c = search (needs, locked-next)
 
 returns-2 : tie.Need-returns-2 Inv-loop μ-loop
 returns-2 c = search (needs, locked-end)
@@ -39,10 +42,11 @@ locked-part-spec =
     (tie.spec
     Inv-loop
     μ-loop
+    first-requires
     loop-holds
     selected-requires
     returns
-    add-p
+    next-requires
     loop-less
     loop-again
     returns-2)

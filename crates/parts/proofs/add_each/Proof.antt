@@ -3,7 +3,7 @@ use borrow.Author.Needs.{needs}
 use Prim.Native.Nat.{_-_}
 use Rattle.cache.specs.Areas.{catalogue}
 use Rattle.encoder.specs.Held.{runOf}
-use Rattle.parts.proofs.Clauses.{AddedSoFar, adding-start, adding-step, adding-end}
+use Rattle.parts.proofs.Clauses.{AddedSoFar, adding-first, adding-next, adding-end}
 use Rattle.parts.proofs.add_each.Statement.{statement}
 use Rattle.parts.proofs.add_each.Tie as tie
 
@@ -13,20 +13,23 @@ Inv-loop marks unions t k s₀ clauses₀ l r which adding m₀ p₀ s clauses m
 abbrev μ-loop : tie.MeasureT-loop
 μ-loop marks unions t k s₀ clauses₀ l r which adding m₀ p₀ s clauses m p = k .parts - p
 
+first-requires : tie.Need-first-requires Inv-loop μ-loop
+first-requires c κs = search needs
+
 loop-holds : tie.Need-loop-holds Inv-loop μ-loop
-loop-holds c = search (needs, adding-start)
+loop-holds c = search (needs, adding-first)
 
 add-if-requires : tie.Need-add-if-requires Inv-loop μ-loop
-add-if-requires c κs = (search needs, (search needs, ((c .before .before .before .before .loop .inv .good), (search needs, ((c .before .before .before .before .before .before .before .before .before .before .pre .1 .1 .1 .1 .0), (search needs, (c .before .before .before .before .loop .inv .known)))))))
+add-if-requires c κs = (search needs, (search needs, ((c .before .before .before .before .loop .inv .good), (search needs, ((c .before .before .before .before .before .before .before .before .before .before .before .pre .1 .1 .1 .1 .0), (search needs, (c .before .before .before .before .loop .inv .known)))))))
 
-add-p : tie.Need-add-p Inv-loop μ-loop
-add-p c = search needs
+next-requires : tie.Need-next-requires Inv-loop μ-loop
+next-requires c κs = ((c .before .before .before .before .before .before .before .before .before .before .before .before .before .before .before .before .pre .0), search needs)
 
 loop-less : tie.Need-loop-less Inv-loop μ-loop
 loop-less c = search needs
 
 loop-again : tie.Need-loop-again Inv-loop μ-loop
-loop-again c = search (needs, adding-step)
+loop-again c = search (needs, adding-next)
 
 same-length : tie.Need-same-length Inv-loop μ-loop
 same-length c = search needs
@@ -43,9 +46,10 @@ add-each-spec =
     (tie.spec
     Inv-loop
     μ-loop
+    first-requires
     loop-holds
     add-if-requires
-    add-p
+    next-requires
     loop-less
     loop-again
     same-length

@@ -2,7 +2,7 @@
 use borrow.Author.Needs.{needs}
 use Prim.Native.Nat.{_-_}
 use Rattle.cache.specs.Areas.{catalogue}
-use Rattle.parts.proofs.Names.{NamedSoFar, naming-start, naming-step, naming-end}
+use Rattle.parts.proofs.Names.{NamedSoFar, naming-first, naming-next, naming-end}
 use Rattle.parts.proofs.name_each.Statement.{statement}
 use Rattle.parts.proofs.name_each.Tie as tie
 
@@ -12,20 +12,23 @@ Inv-loop marks unions t k s₀ l which naming m₀ p₀ s m p = NamedSoFar (cata
 abbrev μ-loop : tie.MeasureT-loop
 μ-loop marks unions t k s₀ l which naming m₀ p₀ s m p = k .parts - p
 
+first-requires : tie.Need-first-requires Inv-loop μ-loop
+first-requires c κs = search needs
+
 loop-holds : tie.Need-loop-holds Inv-loop μ-loop
-loop-holds c = search (needs, naming-start)
+loop-holds c = search (needs, naming-first)
 
 name-if-requires : tie.Need-name-if-requires Inv-loop μ-loop
 name-if-requires c κs = (search needs, (search needs, ((c .before .before .before .loop .inv .alone), search needs)))
 
-add-p : tie.Need-add-p Inv-loop μ-loop
-add-p c = search needs
+next-requires : tie.Need-next-requires Inv-loop μ-loop
+next-requires c κs = search needs
 
 loop-less : tie.Need-loop-less Inv-loop μ-loop
 loop-less c = search needs
 
 loop-again : tie.Need-loop-again Inv-loop μ-loop
-loop-again c = search (needs, naming-step)
+loop-again c = search (needs, naming-next)
 
 same-length : tie.Need-same-length Inv-loop μ-loop
 same-length c = search needs
@@ -39,9 +42,10 @@ name-each-spec =
     (tie.spec
     Inv-loop
     μ-loop
+    first-requires
     loop-holds
     name-if-requires
-    add-p
+    next-requires
     loop-less
     loop-again
     same-length

@@ -1,0 +1,14 @@
+-- `index::non_matching_count` counts the non-matching parts of a range.
+use borrow.Author.Needs.{needs}
+use Rattle.cache.proofs.Lists.{non-matching-counted}
+use Rattle.index.proofs.non_matching_count.Statement.{statement}
+use Rattle.index.proofs.non_matching_count.Tie as tie
+
+count-requires : tie.Need-count-requires
+count-requires c κs = search needs
+
+returns : tie.Need-returns
+returns c = search (needs, non-matching-counted)
+
+pub non-matching-count-spec : {M : Type 1} → statement M
+non-matching-count-spec = tie.close (tie.spec count-requires returns)
