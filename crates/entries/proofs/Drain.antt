@@ -33,10 +33,10 @@ snoc-append xs ys x = append-assoc xs ys (x ∷ [])
 
 module _ {l : Limits} {held : List ℕ} {n i d : ℕ} {b : List ℕ} where
   pub free-stays : getD held i 0 ≡ 0 → DrawnAt l held n i d b d b
-  free-stays h = record { fewer = omega arith; drawn = rw (is-free held i 0 0 h); waiting = refl }
+  free-stays h = record { fewer = omega arith; drawn = rw (is-free held i h); waiting = refl }
 
   pub held-drawn : (e : Entry) {d′ : ℕ} {b′ : List ℕ} → (getD held i 0 ≡ 0 → ⊥) → n ≤ l .waiting → entryOf e ≡ getD (waitingIn l n b) i noEntry → PushedDrawn l d (entryOf e) b d′ b′ → DrawnAt l held n i d b d′ b′
-  held-drawn e h m x p = record { fewer = omega (arith, p .count); drawn = rw (is-held held i 0 0 h, ← x) (p .drawn); waiting = p .waiting n m }
+  held-drawn e h m x p = record { fewer = omega (arith, p .count); drawn = rw (is-held held i h, ← x) (p .drawn); waiting = p .waiting n m }
 
 -- ---- all that are held are drawn: i of n entries were looked at
 

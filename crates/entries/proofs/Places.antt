@@ -88,7 +88,7 @@ module _ {A : Type 0} (held : List ℕ) (g : ℕ → A) where
 
 -- ---- one flag
 
-module _ (held : List ℕ) (i to more : ℕ) where
+module _ (held : List ℕ) (i : ℕ) where
   pub is-free : getD held i 0 ≡ 0 → isFree held i ≡ true
   unfolding isFree
   is-free h = eq-eqb (getD held i 0) 0 h
@@ -97,13 +97,13 @@ module _ (held : List ℕ) (i to more : ℕ) where
   unfolding isFree
   is-held h = ne-eqb (getD held i 0) 0 h
 
-  pub behind-free : getD held i 0 ≡ 0 → more ≡ behind held i to more
+  pub behind-free : (to more : ℕ) → getD held i 0 ≡ 0 → more ≡ behind held i to more
   unfolding behind
-  behind-free h = rw (is-free h)
+  behind-free to more h = rw (is-free h)
 
-  pub behind-held : (getD held i 0 ≡ 0 → ⊥) → to ≡ behind held i to more
+  pub behind-held : (to more : ℕ) → (getD held i 0 ≡ 0 → ⊥) → to ≡ behind held i to more
   unfolding behind
-  behind-held h = rw (is-held h)
+  behind-held to more h = rw (is-held h)
 
 -- ---- loading: the first m rows are pushed
 
