@@ -1,4 +1,4 @@
-// The encoder's state in its areas: how much of each table is used. Steps that change it stand in `opening`, `clauses` and the crates above them.
+// The encoder's state in its areas: how much of each table is used. Steps that change it stand in `opening`, `storing`, `reporting`, `setting` and the crates above them.
 ghost use mathlib.Core.Path.{_≡_};
 ghost use Rattle.encoder.specs.Did.{filled};
 
