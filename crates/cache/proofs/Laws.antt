@@ -1,19 +1,14 @@
--- For callers: the catalogue that the areas hold, read through the accessors of `tables`, `marks` and `unions`, and a list that was written, read back.
-use mathlib.Core.Path.{_≡_, refl, ap, sym, _∙_}
-use mathlib.Core.Bool.{Bool, false}
-use mathlib.Core.List.{List, [], _∷_}
-use Prim.Native.Nat.{ℕ, zero, suc, _<_, _≤_}
-use native.Mathlib.Nat.{not-suc-le-zero, le-of-suc-le-suc}
+-- For callers: the catalogue that the areas hold, read through the accessors of `tables`, `marks` and `unions`.
+use mathlib.Core.Path.{_≡_, refl, _∙_}
+use mathlib.Core.Bool.{false}
+use mathlib.Core.List.{List, []}
+use Prim.Native.Nat.{ℕ, _<_, _≤_}
 use native.Mathlib.Decide.{decLt}
 use native.Mathlib.Omega.{arith}
-use lib.ListN.{length, getD, List·getD-eq-default}
-use lib.Seq.{getD-take}
-use Rattle.rules.specs.Catalogue.{Range, Catalogue, noPart, partAt, noRange, rangeAt, nameOf, rangeName, severalAllowed}
+use lib.ListN.{length, getD}
+use Rattle.rules.specs.Catalogue.{Range, noPart, partAt, noRange, rangeAt, nameOf, rangeName, severalAllowed}
 use Rattle.rules.specs.Catalogue.{noCondition, noRequirement, requirementAt, noConstraint, constraintAt, union}
-use Rattle.rules.specs.Lists.{filter, upTo}
-use Rattle.rules.specs.Candidates.{partsOf, matching, nonMatching, favouredFirst, sorted, goalRanges}
-use Rattle.rules.proofs.ListLaws.{All, all-append, filter-all, upTo-below}
-use Rattle.words.specs.Words.{words}
+use Rattle.rules.specs.Candidates.{goalRanges}
 use Rattle.tables.specs.declared.Counts.{Counts}
 use Rattle.tables.specs.Tables.{tables}
 use Rattle.tables.proofs.Listed.{listed-at, listed-past, listed-length}
@@ -21,7 +16,6 @@ use Rattle.tables.proofs.Laws.{names-counted, parts-counted, ranges-counted, un
 use Rattle.marks.specs.Marks.{isMarked}
 use Rattle.unions.specs.Unions.{rows, rangesOf}
 use Rattle.cache.specs.Areas.{assembled, catalogue}
-use Rattle.cache.specs.Lists.{numbers, Written}
 
 module _ (k : Counts) (m u t : List ℕ) where
   -- ---- how many of each
@@ -120,50 +114,3 @@ module _ (k : Counts) (m u t : List ℕ) where
   pub union-ranges-held : (x : ℕ) → x < k .unions → goalRanges (catalogue k m u t) (union x) ≡ rangesOf x (rows (k .members) u)
   unfolding goalRanges
   union-ranges-held x h = union-held x h
-
--- ---- the lists of a range, and reading one that was written
-
-all-at : (P : ℕ → Type 0) (xs : List ℕ) → All P xs → (i : ℕ) → i < length xs → P (getD xs i 0)
-all-at P [] a i h = absurd (not-suc-le-zero h)
-all-at P (x ∷ xs) a zero h = a .0
-all-at P (x ∷ xs) a (suc i) h = all-at P xs (a .1) i (le-of-suc-le-suc h)
-
-module _ (k : Counts) (m u t : List ℕ) (r : ℕ) where
-  abbrev held : Catalogue
-  held = catalogue k m u t
-
-  abbrev Given : ℕ → Type 0
-  Given p = p < k .parts
-
-  name-given : All Given (partsOf held (rangeName held r))
-  unfolding partsOf
-  name-given = filter-all Given _ (upTo 0 (length (held .parts))) (rw parts-held (upTo-below (k .parts)))
-
-  matching-given : All Given (matching held r)
-  unfolding matching
-  matching-given = filter-all Given _ (partsOf held (rangeName held r)) name-given
-
-  non-matching-given : All Given (nonMatching held r)
-  unfolding nonMatching
-  non-matching-given = filter-all Given _ (partsOf held (rangeName held r)) name-given
-
-  sorted-given : All Given (sorted held r)
-  unfolding sorted favouredFirst
-  sorted-given = all-append Given (filter _ (matching held r)) _ (filter-all Given _ (matching held r) matching-given) (filter-all Given _ (matching held r) matching-given)
-
-  pub matching-part : (i : ℕ) → i < length (matching (catalogue k m u t) r) → getD (matching (catalogue k m u t) r) i 0 < k .parts
-  matching-part i h = all-at Given (matching held r) matching-given i h
-
-  pub non-matching-part : (i : ℕ) → i < length (nonMatching (catalogue k m u t) r) → getD (nonMatching (catalogue k m u t) r) i 0 < k .parts
-  non-matching-part i h = all-at Given (nonMatching held r) non-matching-given i h
-
-  pub sorted-part : (i : ℕ) → i < length (sorted (catalogue k m u t) r) → getD (sorted (catalogue k m u t) r) i 0 < k .parts
-  sorted-part i h = all-at Given (sorted held r) sorted-given i h
-
-module _ {out : List ℕ} {n : ℕ} {xs : List ℕ} (w : Written out n xs) (i : ℕ) where
-  pub written-at : (x : ℕ) → i < n → x ≡ getD (words out) i 0 → x ≡ getD xs i 0
-  unfolding numbers
-  written-at x h e = e ∙ sym (getD-take n (words out) i 0 h) ∙ ap (λ (l : List ℕ). getD l i 0) (w .is)
-
-  pub written-past : n ≤ i → 0 ≡ getD xs i 0
-  written-past h = sym (List·getD-eq-default xs 0 (omega arith))

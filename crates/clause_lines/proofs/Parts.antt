@@ -2,7 +2,7 @@
 use mathlib.Core.Path.{_≡_, refl, ap, sym, _∙_}
 use mathlib.Core.Bool.{Bool, true, false}
 use mathlib.Core.List.{List, [], _∷_, _++_}
-use Prim.Native.Nat.{ℕ, _<_, _≤_}
+use Prim.Native.Nat.{ℕ, _+_, _<_, _≤_}
 use native.Mathlib.Omega.{arith}
 use lib.ListN.{length}
 use borrow.Author.Tests.{lt-ltb}
@@ -26,12 +26,14 @@ use Rattle.cache.specs.Areas.{catalogue}
 use Rattle.cache.specs.Lists.{chosen, choice}
 use Rattle.cache.proofs.Laws.{parts-held}
 use Rattle.cache.proofs.Lists.{sorted-is}
+use Rattle.index.specs.Chains.{Skips}
 use Rattle.index.specs.Indexed.{Indexed}
+use Rattle.index.proofs.Walking.{walk}
 use Rattle.variable_map.specs.declared.Origin.{Origin}
 use Rattle.variable_map.specs.Mapping.{originOf, inTables, AllKnown}
 use Rattle.encoder.specs.Did.{Looked}
 use Rattle.line_fields.specs.Listed.{texts, partText, chosenText}
-use Rattle.line_fields.proofs.Printing.{Printing, printing-end, concatMap-append}
+use Rattle.line_fields.proofs.Printing.{Printing, printing-start, printing-step, printing-end, concatMap-append}
 
 -- ---- the literals of parts
 
@@ -83,6 +85,20 @@ module _ (k : Counts) (m u t : List ℕ) (vs : List variables.Origin) (r : ℕ) 
   pub chosen-no : (room at : ℕ) (o : List ℕ) (p : ℕ) (b : Bool) → b ≡ chosen (catalogue k m u t) r w p → b ≡ false → Wrote at at (chosenText (catalogue k m u t) vs r w p) room o o
   unfolding chosenText listIf
   chosen-no room at o p b e d = rw (← e, d, listIf, parts-none vs) (nothing room at o)
+
+  chosen-on : {room at a p x : ℕ} {o o1 : List ℕ} → Skips (k .parts) (chosen (catalogue k m u t) r w) p x
+      → Printing (chosenText (catalogue k m u t) vs r w) (k .parts) at a p room o o1 → Printing (chosenText (catalogue k m u t) vs r w) (k .parts) at a x room o o1
+  chosen-on {room} {at} {a} {o = o} {o1 = o1} s y =
+      walk (λ q. Printing (chosenText (catalogue k m u t) vs r w) (k .parts) at a q room o o1)
+      (λ i h e z. printing-step z h refl (chosen-no room a o1 i (chosen (catalogue k m u t) r w i) refl e)) s y
+
+  pub chosen-first : {room at x : ℕ} {o : List ℕ} → Skips (k .parts) (chosen (catalogue k m u t) r w) 0 x → Printing (chosenText (catalogue k m u t) vs r w) (k .parts) at at x room o o
+  chosen-first s = chosen-on s printing-start
+
+  pub chosen-next : {room at a b p x : ℕ} {o o1 o2 : List ℕ} → Printing (chosenText (catalogue k m u t) vs r w) (k .parts) at a p room o o1 → p < k .parts → length o2 ≡ length o1
+      → Wrote a b (chosenText (catalogue k m u t) vs r w p) room o1 o2 → Skips (k .parts) (chosen (catalogue k m u t) r w) (p + 1) x
+      → Printing (chosenText (catalogue k m u t) vs r w) (k .parts) at b x room o o2
+  chosen-next y h i g s = chosen-on s (printing-step y h i g)
 
   pub chosen-end : {room at a p : ℕ} {o o1 : List ℕ} → Printing (chosenText (catalogue k m u t) vs r w) (k .parts) at a p room o o1 → k .parts ≤ p
       → Wrote at a (partText vs (choice (catalogue k m u t) r w)) room o o1

@@ -79,10 +79,10 @@ fn chosen_literals(
     ensures { λ x. ⌜ Wrote at x (partText (variables (n .variables) (held l (now (s .entry)))) (choice (catalogue k (now (marks .entry)) (now (unions .entry)) (now (t .entry))) r w)) room (now (out .entry)) (now (out .exit)) ⌝ }
 {
     let mut a = at;
-    let mut p = 0;
+    let mut p = index::first_chosen(marks, unions, t, k, r, w);
     while p < k.parts {
         a = chosen_literal(marks, unions, t, k, s, l, n, out, room, a, r, w, p);
-        p += 1;
+        p = index::next_chosen(marks, unions, t, k, r, w, p);
     }
     a
 }

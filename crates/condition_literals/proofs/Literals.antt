@@ -34,6 +34,8 @@ use Rattle.cache.specs.declared.Choice.the-variants.{NonMatching}
 use Rattle.cache.specs.Areas.{catalogue}
 use Rattle.cache.specs.Lists.{asked, chosen, Counted}
 use Rattle.cache.proofs.Laws.{parts-held, ranges-held, range-missing, range-name-held}
+use Rattle.index.specs.Chains.{Skips}
+use Rattle.index.proofs.Walking.{walk}
 use Rattle.state.specs.declared.Limits.{Limits}
 use Rattle.state.specs.Layout.{held, Fits}
 use Rattle.variable_map.specs.declared.Origin as Origins
@@ -139,7 +141,7 @@ pub record Going (c : Catalogue) (r : ℕ) (l : Limits) (n : Counters) (count : 
   pub pushed : Pushes l n (held l b₀) count (partLiterals (variables (n .variables) (held l b₀)) done) m (held l b)
 
 module _ (k : Counts) (m u t : List ℕ) (r : ℕ) {l : Limits} {n : Counters} {count : ℕ} where
-  pub going-start : (b : List ℕ) → Fits l (length b) → GoodState (catalogue k m u t) l n (held l b)
+  going-start : (b : List ℕ) → Fits l (length b) → GoodState (catalogue k m u t) l n (held l b)
       → AllKnown (variables (n .variables) (held l b)) (nonMatching (catalogue k m u t) r) → Going (catalogue k m u t) r l n count b b count 0
   going-start b f g a =
       record { fits = f; same = refl; good = g; few = omega arith; known = a; done = []; all = rest-start k m u t r; pushed = rw literals-none push-none }
@@ -156,7 +158,7 @@ module _ (k : Counts) (m u t : List ℕ) (r : ℕ) {l : Limits} {n : Counters} {
         let whole : Each (λ q. known (variables (n .variables) (held l b₀)) (partOrigin q) ≡ true) ((x .done ++ here) ++ rest (catalogue k m u t) r (p + 1)) = rw (split h) (x .known .known) in
         record { known = rw (push-variables (x .pushed)) (each-right (x .done) (each-left (x .done ++ here) (rest (catalogue k m u t) r (p + 1)) whole)) }
 
-    pub going-step : {now′ : ℕ} (b′ : List ℕ) → p < k .parts → length b′ ≡ length b
+    going-step : {now′ : ℕ} (b′ : List ℕ) → p < k .parts → length b′ ≡ length b
         → Pushes l n (held l b) now (partLiterals (variables (n .variables) (held l b)) here) now′ (held l b′)
         → Going (catalogue k m u t) r l n count b₀ b′ now′ (p + 1)
     going-step {now′} b′ h s q =
@@ -183,6 +185,22 @@ module _ (k : Counts) (m u t : List ℕ) (r : ℕ) {l : Limits} {n : Counters} {
     going-end h =
         let e : x .done ≡ nonMatching (catalogue k m u t) r = sym (append-nil (x .done)) ∙ (ap (λ ps. x .done ++ ps) (sym (rest-end k m u t r p h)) ∙ x .all) in
         rw (← e) (x .pushed)
+
+  going-on : {b₀ b : List ℕ} {now p x : ℕ} → Skips (k .parts) (chosen (catalogue k m u t) r NonMatching) p x
+      → Going (catalogue k m u t) r l n count b₀ b now p → Going (catalogue k m u t) r l n count b₀ b now x
+  going-on {b₀} {b} {now} s y =
+      walk (Going (catalogue k m u t) r l n count b₀ b now)
+      (λ i h e z. going-step z b h refl (if-not (catalogue k m u t) r i (chosen (catalogue k m u t) r NonMatching i) refl e (variables (n .variables) (held l b)))) s y
+
+  pub going-first : {x : ℕ} (b : List ℕ) → Fits l (length b) → GoodState (catalogue k m u t) l n (held l b)
+      → AllKnown (variables (n .variables) (held l b)) (nonMatching (catalogue k m u t) r) → Skips (k .parts) (chosen (catalogue k m u t) r NonMatching) 0 x
+      → Going (catalogue k m u t) r l n count b b count x
+  going-first b f g a s = going-on s (going-start b f g a)
+
+  pub going-next : {b₀ b : List ℕ} {now p now′ x : ℕ} (b′ : List ℕ) → Going (catalogue k m u t) r l n count b₀ b now p → p < k .parts → length b′ ≡ length b
+      → Pushes l n (held l b) now (partLiterals (variables (n .variables) (held l b)) (listIf (chosen (catalogue k m u t) r NonMatching p) (p ∷ []))) now′ (held l b′)
+      → Skips (k .parts) (chosen (catalogue k m u t) r NonMatching) (p + 1) x → Going (catalogue k m u t) r l n count b₀ b′ now′ x
+  going-next b′ y h i q s = going-on s (going-step y b′ h i q)
 
 -- ---- a range
 

@@ -99,10 +99,10 @@ fn part_literals(
     ensures { λ m. ⌜ Pushes l n (held l (now (s .entry))) count (partLiterals (variables (n .variables) (held l (now (s .entry)))) (nonMatching (catalogue k (now (marks .entry)) (now (unions .entry)) (now (t .entry))) r)) m (held l (now (s .exit))) ⌝ }
 {
     let mut m = count;
-    let mut p = 0;
+    let mut p = index::first_chosen(marks, unions, t, k, r, Choice::NonMatching);
     while p < k.parts {
         m = push_if(marks, unions, t, k, s, l, n, m, r, p);
-        p += 1;
+        p = index::next_chosen(marks, unions, t, k, r, Choice::NonMatching, p);
     }
     m
 }
@@ -126,7 +126,7 @@ fn range_literals(
     requires { ⌜ RangeKnown (catalogue k (now marks) (now unions) (now t)) (variables (n .variables) (held l (now s))) r ⌝ }
     ensures { λ m. ⌜ Pushes l n (held l (now (s .entry))) count (rangeLiterals (variables (n .variables) (held l (now (s .entry)))) (rangeName (catalogue k (now (marks .entry)) (now (unions .entry)) (now (t .entry))) r) (nonMatching (catalogue k (now (marks .entry)) (now (unions .entry)) (now (t .entry))) r)) m (held l (now (s .exit))) ⌝ }
 {
-    if cache::non_matching_count(marks, unions, t, k, r) == 0 {
+    if index::non_matching_count(marks, unions, t, k, r) == 0 {
         let literal = literal_of(
             s,
             l,

@@ -197,7 +197,7 @@ pub fn serve_constraint(
     let o = owners::owner_number(it.owner);
     let r = it.range as usize;
     let m = opening::name_variable(s, l, n, owners::owner_origin(o));
-    if cache::non_matching_count(marks, unions, t, k, r) < 4 {
+    if index::non_matching_count(marks, unions, t, k, r) < 4 {
         return constrain_few(marks, unions, t, k, s, clauses, l, m, run, r, o);
     }
     constrain_many(marks, unions, t, k, s, clauses, l, m, run, r, o)

@@ -4,3 +4,4 @@ pub mod Laws
 pub mod Selecting
 pub mod Owners
 pub mod Walking
+pub mod Counting

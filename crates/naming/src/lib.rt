@@ -118,7 +118,7 @@ fn name_range(
     requires { ⌜ r < k .ranges ⌝ }
     ensures { λ m. ⌜ StateDid (catalogue k (now (marks .entry)) (now (unions .entry)) (now (t .entry))) l (λ v. nameRange (catalogue k (now (marks .entry)) (now (unions .entry)) (now (t .entry))) r) n (held l (now (s .entry))) m (held l (now (s .exit))) ⌝ }
 {
-    if cache::non_matching_count(marks, unions, t, k, r) == 0 {
+    if index::non_matching_count(marks, unions, t, k, r) == 0 {
         return opening::name_variable(s, l, n, variable_map::one(tables::range_name(t, k, r)));
     }
     parts::name_each(

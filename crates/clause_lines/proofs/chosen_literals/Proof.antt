@@ -5,8 +5,8 @@ use Rattle.state.specs.Layout.{held}
 use Rattle.variable_map.specs.Mapping.{variables}
 use Rattle.cache.specs.Areas.{catalogue}
 use Rattle.line_fields.specs.Listed.{chosenText}
-use Rattle.line_fields.proofs.Printing.{Printing, printing-start, printing-step}
-use Rattle.clause_lines.proofs.Parts.{chosen-end}
+use Rattle.line_fields.proofs.Printing.{Printing}
+use Rattle.clause_lines.proofs.Parts.{chosen-first, chosen-next, chosen-end}
 use Rattle.clause_lines.proofs.chosen_literals.Statement.{statement}
 use Rattle.clause_lines.proofs.chosen_literals.Tie as tie
 
@@ -16,20 +16,23 @@ Inv-loop marks unions t k s l n out₀ room at r w a₀ p₀ out a p = Printing 
 abbrev μ-loop : tie.MeasureT-loop
 μ-loop marks unions t k s l n out₀ room at r w a₀ p₀ out a p = k .parts - p
 
+first-chosen-requires : tie.Need-first-chosen-requires Inv-loop μ-loop
+first-chosen-requires c κs = search needs
+
 loop-holds : tie.Need-loop-holds Inv-loop μ-loop
-loop-holds c = search (needs, printing-start)
+loop-holds c = search (needs, chosen-first)
 
 chosen-literal-requires : tie.Need-chosen-literal-requires Inv-loop μ-loop
 chosen-literal-requires c κs = (search needs, (search needs, search needs))
 
-add-p : tie.Need-add-p Inv-loop μ-loop
-add-p c = search needs
+next-chosen-requires : tie.Need-next-chosen-requires Inv-loop μ-loop
+next-chosen-requires c κs = search needs
 
 loop-less : tie.Need-loop-less Inv-loop μ-loop
 loop-less c = search needs
 
 loop-again : tie.Need-loop-again Inv-loop μ-loop
-loop-again c = search (needs, printing-step)
+loop-again c = search (needs, chosen-next)
 
 same-length : tie.Need-same-length Inv-loop μ-loop
 same-length c = search needs
@@ -43,9 +46,10 @@ chosen-literals-spec =
     (tie.spec
     Inv-loop
     μ-loop
+    first-chosen-requires
     loop-holds
     chosen-literal-requires
-    add-p
+    next-chosen-requires
     loop-less
     loop-again
     same-length

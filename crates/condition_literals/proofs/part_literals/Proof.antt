@@ -2,7 +2,7 @@
 use borrow.Author.Needs.{needs}
 use Prim.Native.Nat.{_-_}
 use Rattle.cache.specs.Areas.{catalogue}
-use Rattle.condition_literals.proofs.Literals.{Going, going-start, going-known, going-step, going-end}
+use Rattle.condition_literals.proofs.Literals.{Going, going-first, going-known, going-next, going-end}
 use Rattle.condition_literals.proofs.part_literals.Statement.{statement}
 use Rattle.condition_literals.proofs.part_literals.Tie as tie
 
@@ -12,20 +12,23 @@ Inv-loop marks unions t k s₀ l n count r m₀ p₀ s m p = Going (catalogue k 
 abbrev μ-loop : tie.MeasureT-loop
 μ-loop marks unions t k s₀ l n count r m₀ p₀ s m p = k .parts - p
 
+first-chosen-requires : tie.Need-first-chosen-requires Inv-loop μ-loop
+first-chosen-requires c κs = search needs
+
 loop-holds : tie.Need-loop-holds Inv-loop μ-loop
-loop-holds c = search (needs, going-start)
+loop-holds c = search (needs, going-first)
 
 push-if-requires : tie.Need-push-if-requires Inv-loop μ-loop
 push-if-requires c κs = (search needs, (search needs, (search needs, (search needs, search (needs, going-known)))))
 
-add-p : tie.Need-add-p Inv-loop μ-loop
-add-p c = search needs
+next-chosen-requires : tie.Need-next-chosen-requires Inv-loop μ-loop
+next-chosen-requires c κs = search needs
 
 loop-less : tie.Need-loop-less Inv-loop μ-loop
 loop-less c = search needs
 
 loop-again : tie.Need-loop-again Inv-loop μ-loop
-loop-again c = search (needs, going-step)
+loop-again c = search (needs, going-next)
 
 same-length : tie.Need-same-length Inv-loop μ-loop
 same-length c = search needs
@@ -39,9 +42,10 @@ part-literals-spec =
     (tie.spec
     Inv-loop
     μ-loop
+    first-chosen-requires
     loop-holds
     push-if-requires
-    add-p
+    next-chosen-requires
     loop-less
     loop-again
     same-length

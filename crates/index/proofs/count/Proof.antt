@@ -2,8 +2,7 @@
 use borrow.Author.Needs.{needs}
 use Prim.Native.Nat.{_-_}
 use Rattle.cache.specs.Areas.{catalogue}
-use Rattle.cache.proofs.Lists.{Counting, count-end}
-use Rattle.index.proofs.Walking.{count-first, count-next}
+use Rattle.index.proofs.Counting.{Counting, count-first, count-next, count-end}
 use Rattle.index.proofs.count.Statement.{statement}
 use Rattle.index.proofs.count.Tie as tie
 

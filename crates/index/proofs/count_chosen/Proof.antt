@@ -1,6 +1,6 @@
 -- `index::count_chosen` counts one more where part p is asked for.
 use borrow.Author.Needs.{needs}
-use Rattle.cache.proofs.Lists.{count-one, count-none}
+use Rattle.index.proofs.Counting.{count-one, count-none}
 use Rattle.index.proofs.count_chosen.Statement.{statement}
 use Rattle.index.proofs.count_chosen.Tie as tie
 

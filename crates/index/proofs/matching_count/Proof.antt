@@ -1,6 +1,6 @@
 -- `index::matching_count` counts the matching parts of a range.
 use borrow.Author.Needs.{needs}
-use Rattle.cache.proofs.Lists.{matching-counted}
+use Rattle.index.proofs.Counting.{matching-counted}
 use Rattle.index.proofs.matching_count.Statement.{statement}
 use Rattle.index.proofs.matching_count.Tie as tie
 

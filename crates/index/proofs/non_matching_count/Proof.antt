@@ -1,6 +1,6 @@
 -- `index::non_matching_count` counts the non-matching parts of a range.
 use borrow.Author.Needs.{needs}
-use Rattle.cache.proofs.Lists.{non-matching-counted}
+use Rattle.index.proofs.Counting.{non-matching-counted}
 use Rattle.index.proofs.non_matching_count.Statement.{statement}
 use Rattle.index.proofs.non_matching_count.Tie as tie
 

@@ -1,0 +1,121 @@
+-- How many parts are chosen of a range: a pass over the parts, those before part p being counted.
+use mathlib.Core.Path.{_≡_, refl, ap, _∙_}
+use mathlib.Core.Bool.{Bool, true, false}
+use mathlib.Core.List.{List, [], _∷_, _++_}
+use Prim.Native.Nat.{ℕ, suc, _+_, _-_, _<_, _≤_}
+use native.Mathlib.Numerals.{add-one}
+use native.Mathlib.Omega.{arith}
+use lib.ListN.{length, length-append}
+use Rattle.rules.specs.Lists.{filter, listIf, upTo}
+use Rattle.rules.specs.Catalogue.{Catalogue}
+use Rattle.rules.specs.Candidates.{matching, nonMatching}
+use Rattle.rules.proofs.ListLaws.{length-filters, length-upTo}
+use Rattle.tables.specs.declared.Counts.{Counts}
+use Rattle.cache.specs.declared.Choice.{Choice}
+use Rattle.cache.specs.declared.Choice.the-variants.{Matching, NonMatching}
+use Rattle.cache.specs.Areas.{catalogue, Held}
+use Rattle.cache.specs.Lists.{chosen, choice, Counted}
+use Rattle.cache.proofs.Laws.{parts-held}
+use Rattle.cache.proofs.Lists.{matching-is, non-matching-is}
+use Rattle.index.specs.Chains.{Skips}
+use Rattle.index.proofs.Walking.{walk}
+
+module _ {A : Type 0} (f : A → Bool) where
+  filter-head : (x : A) (xs : List A) → filter f (x ∷ xs) ≡ listIf (f x) (x ∷ []) ++ filter f xs
+  unfolding filter listIf
+  filter-head x xs = go (f x)
+    where
+      go : (b : Bool) → elim b [ true ↦ x ∷ filter f xs | false ↦ filter f xs ] ≡ listIf b (x ∷ []) ++ filter f xs
+      go true = refl
+      go false = refl
+
+-- no list is longer than the parts
+choice-most : (c : Catalogue) (r : ℕ) (w : Choice) → length (choice c r w) ≤ length (c .parts)
+unfolding choice
+choice-most c r w = omega (arith, length-filters (chosen c r w) (upTo 0 (length (c .parts))), length-upTo 0 (length (c .parts)))
+
+-- ---- a pass over the parts
+
+-- those asked for from part p on
+pub left : Catalogue → ℕ → Choice → ℕ → List ℕ
+left c r w p = filter (chosen c r w) (upTo p (length (c .parts) - p))
+
+module _ (k : Counts) (m u t : List ℕ) (r : ℕ) (w : Choice) where
+  abbrev held : Catalogue
+  held = catalogue k m u t
+
+  left-start : left held r w 0 ≡ choice held r w
+  unfolding left choice
+  left-start =
+      let e : length (held .parts) - 0 ≡ length (held .parts) = omega arith in
+      rw e
+
+  left-step : (p : ℕ) → p < k .parts → left held r w p ≡ listIf (chosen held r w p) (p ∷ []) ++ left held r w (p + 1)
+  unfolding left upTo
+  left-step p h =
+      let e : length (held .parts) - p ≡ suc (length (held .parts) - (p + 1)) = omega (arith, parts-held k m u t) in
+      rw (e, add-one p) (filter-head (chosen held r w) p (upTo (suc p) (length (held .parts) - suc p)))
+
+  left-length : (p : ℕ) → p < k .parts → length (left held r w p) ≡ length (listIf (chosen held r w p) (p ∷ [])) + length (left held r w (p + 1))
+  left-length p h = ap length (left-step p h) ∙ length-append (listIf (chosen held r w p) (p ∷ [])) (left held r w (p + 1))
+
+  left-end : (p : ℕ) → k .parts ≤ p → left held r w p ≡ []
+  unfolding left upTo filter
+  left-end p h =
+      let e : length (held .parts) - p ≡ 0 = omega (arith, parts-held k m u t) in
+      rw e
+
+  held-most : Held k (length m) (length u) (length t) → length (choice held r w) ≤ 1024
+  held-most h = omega (arith, choice-most held r w, parts-held k m u t)
+
+-- ---- counting
+
+-- a part that is asked for counts 1, and any other 0
+module _ (n p : ℕ) {b a : Bool} (e : b ≡ a) where
+  pub count-one : b ≡ true → n + 1 ≡ n + length (listIf a (p ∷ []))
+  unfolding listIf
+  count-one d = rw (← e, d, listIf)
+
+  pub count-none : b ≡ false → n ≡ n + length (listIf a (p ∷ []))
+  unfolding listIf
+  count-none d = rw (← e, d, listIf) (omega arith)
+
+-- n were counted before part p
+pub record Counting (c : Catalogue) (r : ℕ) (w : Choice) (n p : ℕ) : Type 0 where
+  pub most : length (choice c r w) ≤ 1024
+  pub is : n + length (left c r w p) ≡ length (choice c r w)
+
+module _ (k : Counts) (m u t : List ℕ) (r : ℕ) (w : Choice) where
+  count-start : Held k (length m) (length u) (length t) → Counting (catalogue k m u t) r w 0 0
+  count-start h = record { most = held-most k m u t r w h; is = rw (left-start k m u t r w) (omega arith) }
+
+  module _ (n p : ℕ) (x : Counting (catalogue k m u t) r w n p) where
+    count-step : (n′ : ℕ) → p < k .parts → n′ ≡ n + length (listIf (chosen (catalogue k m u t) r w p) (p ∷ [])) → Counting (catalogue k m u t) r w n′ (p + 1)
+    count-step n′ h e = record { most = x .most; is = omega (arith, left-length k m u t r w p h) }
+
+    pub count-end : k .parts ≤ p → Counted n (choice (catalogue k m u t) r w)
+    count-end h =
+        let e = ap length (left-end k m u t r w p h) in
+        record { is = omega arith; most = omega arith }
+
+-- ---- on a walk
+
+module _ (k : Counts) (m u t : List ℕ) (r : ℕ) (w : Choice) where
+  count-on : {n p x : ℕ} → Skips (k .parts) (chosen (catalogue k m u t) r w) p x → Counting (catalogue k m u t) r w n p → Counting (catalogue k m u t) r w n x
+  count-on {n} s y = walk (Counting (catalogue k m u t) r w n) (λ i h e z. count-step k m u t r w n i z n h (count-none n i refl e)) s y
+
+  pub count-first : {x : ℕ} → Held k (length m) (length u) (length t) → Skips (k .parts) (chosen (catalogue k m u t) r w) 0 x → Counting (catalogue k m u t) r w 0 x
+  count-first h s = count-on s (count-start k m u t r w h)
+
+  pub count-next : {n p x : ℕ} (n′ : ℕ) → Counting (catalogue k m u t) r w n p → p < k .parts → n′ ≡ n + length (listIf (chosen (catalogue k m u t) r w p) (p ∷ []))
+      → Skips (k .parts) (chosen (catalogue k m u t) r w) (p + 1) x → Counting (catalogue k m u t) r w n′ x
+  count-next {n} {p} n′ y h e s = count-on s (count-step k m u t r w n p y n′ h e)
+
+-- ---- the definitions' lists
+
+module _ (k : Counts) (m u t : List ℕ) (r : ℕ) where
+  pub matching-counted : {n : ℕ} → Counted n (choice (catalogue k m u t) r Matching) → Counted n (matching (catalogue k m u t) r)
+  matching-counted x = rw (← matching-is (catalogue k m u t) r) x
+
+  pub non-matching-counted : {n : ℕ} → Counted n (choice (catalogue k m u t) r NonMatching) → Counted n (nonMatching (catalogue k m u t) r)
+  non-matching-counted x = rw (← non-matching-is (catalogue k m u t) r) x
