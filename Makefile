@@ -9,7 +9,7 @@ HOST_RUN = host/with-reference cargo run --quiet --release
 .PHONY: test host-test compare bench record demo
 
 # `rt ci` proves everything from nothing; the host tests link what it built, and its last line is said again at the end.
-# rt waits for each batch of crates or edits: with four in one two cores are seldom idle.
+# rt waits for each batch of crates or edits; docs/DECISIONS.md 60 says why there are four in one.
 test:
 	@RT_JOBS=4 rt ci | tee ci.log
 	@host/test

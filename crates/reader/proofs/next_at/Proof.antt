@@ -53,7 +53,6 @@ abbrev stayed : Stays (next-at.ended .signature .params) (next-at.ended .kept)
 stayed = (stay-none-slice (0 ∷ []) tt (plain (λ _. u8)) yes, (stay-none (λ _. usize) yes, tt))
 
 module _ {M : Type 1} (𝓤 : URA M) (H : Heap 𝓤) (A : Atoms 𝓤) (mem : Memory → SProp 𝓤) (run : Routine → Fun 𝓤) where
-  -- the contract that the proof cites
   abbrev Next : Contract 𝓤
   Next = tripleOf 𝓤 H A next.signature (next.spec 𝓤 H A mem run)
 
@@ -75,7 +74,6 @@ module _ {M : Type 1} (𝓤 : URA M) (H : Heap 𝓤) (A : Atoms 𝓤) (W : Given
   abbrev Post : Val → SProp 𝓤
   Post = walkOf 𝓤 H A next-at.ended stayed (next-at.clauses 𝓤 H A mem run) .post (((κ, tt), (q, tt), tt, (s, (n, tt)), at), tt)
 
-  -- what the callee is passed
   abbrev passed : Vals next.signature (κ, tt)
   passed = (T′.lowered made ∷ [], tt)
 
@@ -94,7 +92,6 @@ module _ {M : Type 1} (𝓤 : URA M) (H : Heap 𝓤) (A : Atoms 𝓤) (W : Given
       nothing ! $ move ! (1 ∷ 0 ∷ []) $ fjoin ! $
       move ! (2 ∷ 0 ∷ []) $ use2 W (raw (Next 𝓤 H A mem run .pre to)) asked $ frame ! $ done !
 
-  -- of the callee's `ensured`, the clause alone: it has no `&mut`, so what is said of last values is dropped
   said : (r : ℕ) → ent 𝓤 (ensured 𝓤 H A next.ended (next.clauses 𝓤 H A mem run) (κ, tt) (made, tt) tt r) (fact 𝓤 (r ≡ found))
   said r = exE 𝓤 _ (λ ws. snd∗ 𝓤 (sem 𝓤 H A (lasts next.ended (κ, tt) (made, tt) ws)) (fact 𝓤 (r ≡ found)))
 

@@ -155,7 +155,7 @@ module _ {M : Type 1} (𝓤 : URA M) (H : Heap 𝓤) (A : Atoms 𝓤) (W : Given
         ∷ ‵ (fat fullShare word l₄ 0 (vint w64 (t .m))) ∷ ‵ (fdies word l₄) ∷ ‵ (fat fullShare word l₃ 0 (vint w64 n)) ∷ ‵ (fdies word l₃)
         ∷ ‵ (fat fullShare bytes l₂ 0 u) ∷ ‵ (fdies bytes l₂) ∷ ‵ (fat fullShare list l₁ 0 s) ∷ ‵ (fdies list l₁) ∷ ‵ (froom tyUnit l₀ 0) ∷ ‵ (fdies tyUnit l₀) ∷ []
 
-    -- a turn's postcondition: it ends nearer to n, or the loop is left and the rest of the body runs
+    -- what a turn leaves: fewer entries to go, or the loop is over and what stands behind it follows
     abbrev Turned : At-turn → Out → SProp 𝓤
     Turned t = afterTurn 𝓤 H (Below 𝓤 H A Nearer At t) (afterBlock 𝓤 H (afterSeq 𝓤 H (Wp 𝓤 H C Λ En pieces.t-3 (atReturn 𝓤 H En Post)) (atReturn 𝓤 H En Post)))
 

@@ -54,7 +54,6 @@ abbrev stayed : Stays (next.ended .signature .params) (next.ended .kept)
 stayed = (stay-none B yes, tt)
 
 module _ {M : Type 1} (𝓤 : URA M) (H : Heap 𝓤) (A : Atoms 𝓤) (mem : Memory → SProp 𝓤) (run : Routine → Fun 𝓤) where
-  -- the contract that the proof cites
   abbrev Behind : Contract 𝓤
   Behind = tripleOf 𝓤 H A behind.signature (behind.spec 𝓤 H A mem run)
 
@@ -72,7 +71,6 @@ module _ {M : Type 1} (𝓤 : URA M) (H : Heap 𝓤) (A : Atoms 𝓤) (W : Given
   abbrev Post : Val → SProp 𝓤
   Post = walkOf 𝓤 H A next.ended stayed (next.clauses 𝓤 H A mem run) .post (((κ, tt), (q, tt), tt, (d, tt), at), tt)
 
-  -- what the callee is passed
   abbrev passed : Vals behind.signature (κ, tt)
   passed = (machine (d .job) ∷ [], (vint w64 (d .at) ∷ [], tt))
 
@@ -91,7 +89,6 @@ module _ {M : Type 1} (𝓤 : URA M) (H : Heap 𝓤) (A : Atoms 𝓤) (W : Given
       nothing ! $ owned ! usize (Is usize) (uint-makes 𝓤 H A W w64) (d .at) _ (refl, fits) $ fjoin ! $ move ! (1 ∷ 0 ∷ []) $ fjoin ! $
       move ! (2 ∷ 0 ∷ []) $ use2 W (raw (Behind 𝓤 H A mem run .pre to)) asked $ frame ! $ done !
 
-  -- of the callee's `ensured`, the clause alone: it has no `&mut`, so what is said of last values is dropped
   said : (r : ℕ) → ent 𝓤 (ensured 𝓤 H A behind.ended (behind.clauses 𝓤 H A mem run) (κ, tt) (d .job, (d .at, tt)) tt r) (fact 𝓤 (r ≡ found))
   said r = exE 𝓤 _ (λ ws. snd∗ 𝓤 (sem 𝓤 H A (lasts behind.ended (κ, tt) (d .job, (d .at, tt)) ws)) (fact 𝓤 (r ≡ found)))
 

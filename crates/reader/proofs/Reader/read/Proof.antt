@@ -61,7 +61,6 @@ abbrev stayed : Stays (read.ended .signature .params) (read.ended .kept)
 stayed = (stay-none B yes, (stay-none (λ _. bool) yes, tt))
 
 module _ {M : Type 1} (𝓤 : URA M) (H : Heap 𝓤) (A : Atoms 𝓤) (mem : Memory → SProp 𝓤) (run : Routine → Fun 𝓤) where
-  -- the contract that the proof cites
   abbrev Decode : Contract 𝓤
   Decode = tripleOf 𝓤 H A decode.signature (decode.spec 𝓤 H A mem run)
 
@@ -79,7 +78,6 @@ module _ {M : Type 1} (𝓤 : URA M) (H : Heap 𝓤) (A : Atoms 𝓤) (W : Given
   abbrev Post : Val → SProp 𝓤
   Post = walkOf 𝓤 H A read.ended stayed (read.clauses 𝓤 H A mem run) .post (((κ, tt), (q, tt), tt, (d, (begun, tt)), at), tt)
 
-  -- what the callee is passed
   abbrev passed : Vals decode.signature (κ, tt)
   passed = (machine (d .job) ∷ [], (vint w64 (d .at) ∷ [], (vbool begun ∷ [], tt)))
 
@@ -98,7 +96,6 @@ module _ {M : Type 1} (𝓤 : URA M) (H : Heap 𝓤) (A : Atoms 𝓤) (W : Given
       nothing ! $ owned ! bool (Is bool) (bool-makes 𝓤 H A W) begun _ refl $ fjoin ! $ owned ! usize (Is usize) (uint-makes 𝓤 H A W w64) (d .at) _ (refl, fits) $ fjoin ! $ move ! (1 ∷ 0 ∷ []) $ fjoin ! $
       move ! (2 ∷ 0 ∷ []) $ use2 W (raw (Decode 𝓤 H A mem run .pre to)) asked $ frame ! $ done !
 
-  -- of the callee's `ensured`, the clause alone: it has no `&mut`, so what is said of last values is dropped
   said : (r : Record) → ent 𝓤 (ensured 𝓤 H A decode.ended (decode.clauses 𝓤 H A mem run) (κ, tt) (d .job, (d .at, (begun, tt))) tt r) (fact 𝓤 (resultOf r ≡ found))
   said r = exE 𝓤 _ (λ ws. snd∗ 𝓤 (sem 𝓤 H A (lasts decode.ended (κ, tt) (d .job, (d .at, (begun, tt))) ws)) (fact 𝓤 (resultOf r ≡ found)))
 
