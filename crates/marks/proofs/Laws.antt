@@ -8,14 +8,13 @@ use native.Mathlib.Decide.{decLt}
 use lib.Dec.{eqb, ltb}
 use lib.ListN.{length, getD, set, take, drop, replicate, length-drop, length-replicate, getD-replicate, List·getD-append}
 use lib.Seq.{getD-set-same, getD-set-other, getD-take, getD-drop, getD-append-add, length-take-le}
-use lib.Pow.{pow-pos}
 use borrow.Author.Tests.{eqb-true, eqb-false, eq-eqb, ne-eqb, lt-ltb, le-ltb}
 use Rattle.rules.specs.AtMostOne.{bit}
 use Rattle.rules.specs.Lists.{all, upTo}
 use Rattle.rules.proofs.Bools.{and-left, and-right, and-both, same-test}
 use Rattle.rules.proofs.Member.{all-out, upTo-in}
 use Rattle.marks.specs.Marks.{isMarked, WithBit, Marked, Cleared, NextMember, EndOfMembers}
-use Rattle.marks.proofs.Bits.{bit-is, bit-none, bit-more, bit-room}
+use Rattle.marks.proofs.Bits.{bit-none, bit-more, bit-room}
 
 -- ---- a byte
 
@@ -25,12 +24,6 @@ powers = 1 ∷ 2 ∷ 4 ∷ 8 ∷ 16 ∷ 32 ∷ 64 ∷ 128 ∷ []
 pub power-is : (j : ℕ) → j < 8 → getD powers j 0 ≡ 2 ^ j
 power-is j h =
     eqb-true (getD powers j 0) (2 ^ j) (all-out (λ (i : ℕ). eqb (getD powers i 0) (2 ^ i)) (upTo 0 8) (unfold all upTo in refl) j (upTo-in 0 8 j zero-le h))
-
-pub power-some : (x j : ℕ) → x ≡ 2 ^ j → 0 < x
-power-some x j e = rw e (pow-pos j)
-
-pub has-is : (j x y : ℕ) → y ≡ 2 ^ j → eqb (x / y % 2) 1 ≡ bit j x
-has-is j x y e = rw e (bit-is j x)
 
 or-one-true : (a b : Bool) → (a ≡ true → b ≡ true) → b ≡ (a || b)
 or-one-true true b f = f refl

@@ -20,7 +20,7 @@ fn has(x: u8, j: usize) -> bool
     requires { ⌜ j < 8 ⌝ }
     ensures { λ b. ⌜ b ≡ bit j x ⌝ }
 {
-    x / power_of(j) % 2 == 1
+    (x >> j) % 2 == 1
 }
 
 // A byte with bit j set.

@@ -1,14 +1,15 @@
 -- A part is named, or each of these parts.
-use mathlib.Core.Path.{_≡_, refl, _∙_}
-use mathlib.Core.Bool.{Bool, true, false}
+use mathlib.Core.Path.{_≡_, refl, sym, _∙_}
+use mathlib.Core.Bool.{Bool, true, false, not, true≢false}
 use mathlib.Core.List.{List, []}
 use Prim.Native.Nat.{ℕ, _+_, _<_, _≤_}
 use native.Mathlib.Omega.{arith}
+use lib.Dec.{ltb}
 use lib.ListN.{length, getD}
-use borrow.Author.Tests.{lt-ltb}
-use Rattle.rules.specs.Lists.{filter, fold, when, upTo}
+use borrow.Author.Tests.{lt-ltb, ltb-true}
+use Rattle.rules.specs.Lists.{filter, fold, when, upTo, elem}
 use Rattle.rules.specs.Catalogue.{Catalogue, noPart}
-use Rattle.rules.specs.Variables.{known, withVariable, partOrigin}
+use Rattle.rules.specs.Variables.{Origin, known, withVariable, partOrigin}
 use Rattle.rules.specs.Opening.{openOwner, nameForTracking, openReady}
 use Rattle.rules.specs.State.{State}
 use Rattle.rules.proofs.Each.{Each, each-in}
@@ -19,23 +20,28 @@ use Rattle.rules.proofs.Capped.{addVariable}
 use Rattle.tables.specs.declared.Counts.{Counts}
 use Rattle.tables.specs.Tables.{tables}
 use Rattle.cache.specs.Areas.{catalogue}
-use Rattle.cache.proofs.Laws.{parts-held, part-held}
+use Rattle.cache.proofs.Laws.{parts-held, part-held, part-name-held}
 use Rattle.state.specs.declared.Limits.{Limits}
 use Rattle.state.specs.Layout.{held}
 use Rattle.variable_map.specs.declared.Origin as code
-use Rattle.variable_map.specs.Mapping.{originOf, inTables, variables}
-use Rattle.marked.specs.Marked.{ownerOf, Marked}
+use Rattle.variable_map.specs.Mapping.{originOf, inTables, variables, place}
+use Rattle.variable_map.proofs.Places.{placed, with-known}
+use Rattle.marked.specs.Marked.{ownerOf, listed, isMarked, Marked}
 use Rattle.marked.proofs.Owners.{part-is}
 use Rattle.encoder.specs.declared.Counters.{Counters}
 use Rattle.encoder.specs.Held.{Reading, stateOf, GoodAlone, KnownUnlessFull}
 use Rattle.encoder.specs.Did.{onOpening, StateDid, PlainDid}
+use Rattle.encoder.proofs.Did.{did-idle}
+use Rattle.encoder.proofs.Widening.{addVariable-widens}
 use Rattle.encoder.proofs.Steps.{state-same, state-none, state-then, alone-after, variables-after}
 use Rattle.index.specs.Chains.{Skips}
 use Rattle.index.proofs.Walking.{walk}
 use Rattle.parts.specs.declared.Parts.{Parts}
 use Rattle.parts.specs.declared.Naming.{Naming}
 use Rattle.parts.specs.declared.Naming.the-variants.{Variable, Tracked, Candidate}
-use Rattle.parts.specs.Parts.{selectedOf, partsFor, namingOf}
+use Rattle.opening.proofs.Tracking.{tracking-again, tracking-several}
+use Rattle.opening.proofs.Opens.{openOwner-again}
+use Rattle.parts.specs.Parts.{selectedOf, partsFor, namingOf, Settled, Due}
 use Rattle.parts.proofs.Lists.{fold-none, fold-more}
 
 pub part-fits : (o : code.Origin) (p : ℕ) → originOf o ≡ partOrigin p → p < 1024 → inTables (originOf o) ≡ true
@@ -82,13 +88,71 @@ module _ {c : Catalogue} {l : Limits} {n n′ : Counters} {st st′ : ℕ → Li
     naming-as naming kind i d = rw i d
 
     module _ (which : Parts) (naming : Naming) {b : Bool} (e : b ≡ selectedOf c which p) where
-      pub naming-selected : b ≡ true → StateDid c l (λ v. namingOf c naming p) n st n′ st′
+      naming-selected : b ≡ true → StateDid c l (λ v. namingOf c naming p) n st n′ st′
           → StateDid c l (λ v. when (selectedOf c which p) (namingOf c naming p)) n st n′ st′
       naming-selected i d = state-same d (λ v s. unfold when in rw (← e, i))
 
-pub naming-other : {c : Catalogue} {l : Limits} {n : Counters} {st : ℕ → List ℕ} (which : Parts) (naming : Naming) (p : ℕ) {b : Bool} → b ≡ selectedOf c which p → b ≡ false
+naming-other : {c : Catalogue} {l : Limits} {n : Counters} {st : ℕ → List ℕ} (which : Parts) (naming : Naming) (p : ℕ) {b : Bool} → b ≡ selectedOf c which p → b ≡ false
     → StateDid c l (λ v. when (selectedOf c which p) (namingOf c naming p)) n st n st
 naming-other which naming p e i = state-none (λ v s. unfold when in rw (← e, i))
+
+-- ---- a part that is settled
+
+pub variable-some : (vs : List Origin) (o : code.Origin) (p x : ℕ) → originOf o ≡ partOrigin p → x ≡ place vs (originOf o) → ltb 0 x ≡ true → known vs (partOrigin p) ≡ true
+variable-some vs o p x e h i = rw e at (placed vs (originOf o) x h (ltb-true 0 x i))
+
+not-false : (f : Bool) → not f ≡ false → f ≡ true
+not-false true e = refl
+not-false false e = sym e
+
+pub not-said : {A : Type 0} → false ≡ true → A
+not-said e = absurd (true≢false (sym e))
+
+module _ {c : Catalogue} {l : Limits} {n : Counters} {st : ℕ → List ℕ} (p : ℕ) (k : known (variables (n .variables) st) (partOrigin p) ≡ true) where
+  known-idle : StateDid c l (λ v. addVariable (partOrigin p)) n st n st
+  known-idle = record { is = λ cl wt. did-idle (λ v. addVariable-widens (partOrigin p)) (λ g _ v. same cl wt v) }
+    where
+      same : (cl wt : List ℕ) (v : Reading) → addVariable (partOrigin p) (stateOf c l v n st cl wt) ≡ stateOf c l v n st cl wt
+      same cl wt v = unfold addVariable stateOf in rw (with-known (variables (n .variables) st) (partOrigin p) k)
+
+  settled : StateDid c l (λ v. onOpening (nameForTracking c p)) n st n st → StateDid c l (λ v. onOpening (openReady c p)) n st n st → Settled c l n st p
+  settled d h = record { is = go }
+    where
+      go : (naming : Naming) → StateDid c l (λ v. namingOf c naming p) n st n st
+      go Variable = state-same known-idle (λ v s. unfold namingOf in refl)
+      go Tracked = state-same (state-then known-idle d) (λ v s. unfold namingOf in refl)
+      go Candidate = state-same (state-then (state-then known-idle d) h) (λ v s. unfold namingOf in refl)
+
+module _ (k : Counts) (m u t : List ℕ) (p : ℕ) {l : Limits} {n : Counters} {st : ℕ → List ℕ} where
+  module _ {b : Bool} (g : GoodAlone (catalogue k m u t) l n st) (q : b ≡ isMarked 9 p st) where
+    pub tracked-again : b ≡ true → true ≡ true → StateDid (catalogue k m u t) l (λ v. onOpening (nameForTracking (catalogue k m u t) p)) n st n st
+    tracked-again z e = tracking-again l n (catalogue k m u t) p (g .good .state .named) q z
+
+    pub tracked-several : {x : ℕ} {d : Bool} → d ≡ elem x (listed (n .several) 5 st) → x ≡ (getD (tables k t .parts) p noPart) .name → d ≡ true
+        → StateDid (catalogue k m u t) l (λ v. onOpening (nameForTracking (catalogue k m u t) p)) n st n st
+    tracked-several e i z = tracking-several l n (catalogue k m u t) p (g .good .state .named) q e (i ∙ sym (part-name-held k m u t p)) z
+
+  module _ {known′ tracked r : Bool} (g : GoodAlone (catalogue k m u t) l n st)
+      (i : known′ ≡ true → known (variables (n .variables) st) (partOrigin p) ≡ true) (h : not known′ ≡ false)
+      (q : tracked ≡ true → StateDid (catalogue k m u t) l (λ v. onOpening (nameForTracking (catalogue k m u t) p)) n st n st) (z : not tracked ≡ false)
+      (e : r ≡ (getD (tables k t .parts) p noPart) .ready) where
+    pub settled-open : {f : Bool} → r ≡ true → p < 1024 → f ≡ isMarked 2 p st → f ≡ true → Settled (catalogue k m u t) l n st p
+    settled-open a j w x =
+        settled p (i (not-false known′ h)) (q (not-false tracked z)) (ready-opened k m u t p e a j (openOwner-again l n p (g .good .state .owners) w x))
+
+    pub settled-closed : r ≡ false → true ≡ true → Settled (catalogue k m u t) l n st p
+    settled-closed a x = settled p (i (not-false known′ h)) (q (not-false tracked z)) (ready-not k m u t p e a)
+
+module _ {c : Catalogue} {l : Limits} {n : Counters} {st : ℕ → List ℕ} (which : Parts) (p : ℕ) {b : Bool} (e : b ≡ selectedOf c which p) where
+  pub due-selected : {f : Bool} → b ≡ true → (f ≡ true → Settled c l n st p) → Due c l n st which p (not f)
+  due-selected {f} i h =
+      record {
+        due = λ d. sym e ∙ i;
+        idle = λ d naming. state-same (h (not-false f d) .is naming) (λ v s. unfold when in rw (← e, i));
+      }
+
+  pub due-other : b ≡ false → Due c l n st which p false
+  due-other i = record { due = λ d. not-said d; idle = λ d naming. naming-other which naming p e i }
 
 -- ---- each of these
 
@@ -120,10 +184,19 @@ module _ {c : Catalogue} {l : Limits} {which : Parts} {naming : Naming} {count :
   pub naming-first : {x : ℕ} → GoodAlone c l n₀ (held l s₀) → Skips count (selectedOf c which) 0 x → NamedSoFar c l which naming count n₀ s₀ n₀ s₀ x
   naming-first g z = naming-on z (naming-start g)
 
-  pub naming-next : {n n′ : Counters} {s s′ : List ℕ} {p x : ℕ} → NamedSoFar c l which naming count n₀ s₀ n s p → p < count → length s′ ≡ length s
+  naming-next : {n n′ : Counters} {s s′ : List ℕ} {p x : ℕ} → NamedSoFar c l which naming count n₀ s₀ n s p → p < count → length s′ ≡ length s
       → StateDid c l (λ v. when (selectedOf c which p) (namingOf c naming p)) n (held l s) n′ (held l s′) → Skips count (selectedOf c which) (p + 1) x
       → NamedSoFar c l which naming count n₀ s₀ n′ s′ x
   naming-next y h i d z = naming-on z (naming-step y h i d)
+
+module _ {c : Catalogue} {l : Limits} {which : Parts} {naming : Naming} {count : ℕ} {n₀ : Counters} {s₀ : List ℕ} {n : Counters} {s : List ℕ} {p x : ℕ} {b : Bool}
+    (y : NamedSoFar c l which naming count n₀ s₀ n s p) (h : p < count) (z : Skips count (selectedOf c which) (p + 1) x) (d : Due c l n (held l s) which p b) where
+  pub naming-due : {n′ : Counters} {s′ : List ℕ} → b ≡ true → length s′ ≡ length s → StateDid c l (λ v. namingOf c naming p) n (held l s) n′ (held l s′)
+      → NamedSoFar c l which naming count n₀ s₀ n′ s′ x
+  naming-due i e f = naming-next y h e (naming-selected p which naming (sym (d .due i)) refl f) z
+
+  pub naming-idle : b ≡ false → NamedSoFar c l which naming count n₀ s₀ n s x
+  naming-idle i = naming-next y h refl (d .idle i naming) z
 
 pub naming-end : (k : Counts) (m u t : List ℕ) {l : Limits} {which : Parts} {naming : Naming} {n₀ : Counters} {s₀ : List ℕ} {n : Counters} {s : List ℕ} {p : ℕ}
     → NamedSoFar (catalogue k m u t) l which naming (k .parts) n₀ s₀ n s p → k .parts ≤ p

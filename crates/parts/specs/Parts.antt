@@ -1,10 +1,11 @@
 -- Which parts a rule is for, and what is done with each.
-use mathlib.Core.Bool.{Bool, not, _&&_}
+use mathlib.Core.Path.{_≡_}
+use mathlib.Core.Bool.{Bool, true, false, not, _&&_}
 use mathlib.Core.List.{List}
 use Prim.Native.Nat.{ℕ, _<_}
 use lib.Dec.{eqb}
 use lib.ListN.{length}
-use Rattle.rules.specs.Lists.{filter, upTo}
+use Rattle.rules.specs.Lists.{filter, upTo, when}
 use Rattle.rules.specs.Clause.{Clause, excluded, constrains, auxOut, lock, exclusion}
 use Rattle.rules.specs.Catalogue.{Catalogue, partAt, nameOf, excludedPart}
 use Rattle.rules.specs.Variables.{partOrigin, partVariable}
@@ -16,7 +17,8 @@ use Rattle.rules.proofs.ClauseByClause.{addClause}
 use Rattle.state.specs.declared.Limits.{Limits}
 use Rattle.cache.specs.Lists.{chosen}
 use Rattle.encoder.specs.declared.Run.{Run}
-use Rattle.encoder.specs.Did.{onOpening}
+use Rattle.encoder.specs.declared.Counters.{Counters}
+use Rattle.encoder.specs.Did.{onOpening, StateDid}
 use Rattle.parts.specs.declared.Parts.{Parts}
 use Rattle.parts.specs.declared.Parts.the-variants.{Chosen, Locked, Others, Excluded}
 use Rattle.parts.specs.declared.Naming.{Naming}
@@ -37,6 +39,15 @@ unfoldable pub namingOf : Catalogue → Naming → ℕ → State → State
 namingOf c Variable p s = addVariable (partOrigin p) s
 namingOf c Tracked p s = onOpening (nameForTracking c p) (addVariable (partOrigin p) s)
 namingOf c Candidate p s = onOpening (openReady c p) (onOpening (nameForTracking c p) (addVariable (partOrigin p) s))
+
+-- naming part p changes nothing
+pub record Settled (c : Catalogue) (l : Limits) (n : Counters) (st : ℕ → List ℕ) (p : ℕ) : Type 0 where
+  pub is : (naming : Naming) → StateDid c l (λ v. namingOf c naming p) n st n st
+
+-- b says that part p is one of these; where it says not, there is nothing to do for p
+pub record Due (c : Catalogue) (l : Limits) (n : Counters) (st : ℕ → List ℕ) (which : Parts) (p : ℕ) (b : Bool) : Type 0 where
+  pub due : b ≡ true → selectedOf c which p ≡ true
+  pub idle : b ≡ false → (naming : Naming) → StateDid c l (λ v. when (selectedOf c which p) (namingOf c naming p)) n st n st
 
 -- part p, whose variable is x
 unfoldable pub clauseFor : Adding → (x p : ℕ) → Clause

@@ -5,24 +5,25 @@ use encoder::Run;
 use state::Limits;
 use tables::Counts;
 ghost use mathlib.Core.Path.{_≡_};
-ghost use mathlib.Core.Bool.{not, _&&_};
+ghost use mathlib.Core.Bool.{true, not, _&&_};
 ghost use mathlib.Core.List.{[], _∷_};
 ghost use Prim.Native.Nat.{_+_, _<_};
 ghost use lib.Dec.{eqb};
 ghost use lib.ListN.{length, getD};
 ghost use Rattle.rules.specs.Lists.{fold, when};
 ghost use Rattle.rules.specs.Catalogue.{noPart};
-ghost use Rattle.rules.specs.Opening.{openReady};
+ghost use Rattle.rules.specs.Opening.{openReady, nameForTracking};
+ghost use Rattle.rules.specs.Variables.{known, partOrigin};
 ghost use Rattle.tables.specs.Tables.{tables, Laid};
 ghost use Rattle.cache.specs.Areas.{catalogue};
 ghost use Rattle.index.specs.Chains.{Skips};
 ghost use Rattle.index.specs.Indexed.{Indexed};
 ghost use Rattle.state.specs.Layout.{held, Fits};
-ghost use Rattle.variable_map.specs.Mapping.{variables};
+ghost use Rattle.variable_map.specs.Mapping.{variables, Mapped};
 ghost use Rattle.encoder.specs.Held.{runOf, LongEnough, Good, GoodAlone, KnownUnlessFull};
 ghost use Rattle.encoder.specs.Did.{onOpening, StateDid, ClausesDid};
 ghost use Rattle.parts.specs.declared.Naming.the-variants.{Tracked, Candidate};
-ghost use Rattle.parts.specs.Parts.{selectedOf, partsFor, namingOf, addingOf, CanAdd};
+ghost use Rattle.parts.specs.Parts.{selectedOf, partsFor, namingOf, addingOf, CanAdd, Settled, Due};
 
 // Which parts: those chosen of a range; of a name the locked one, all but the locked one, or the excluded ones.
 pub enum Parts {
@@ -213,28 +214,89 @@ fn name_part(
     }
 }
 
-fn name_if(
+// Part p has its variable.
+fn has_variable(s: &[u8], l: Limits, n: Counters, p: u16) -> bool
+    requires { ⌜ Fits l (length (now s)) ⌝ }
+    requires { ⌜ Mapped l (n .variables) (held l (now s)) × (p < 1024) ⌝ }
+    ensures { λ b. ⌜ (b ≡ true → known (variables (n .variables) (held l (now (s .entry)))) (partOrigin p) ≡ true) ⌝ }
+{
+    variable_map::variable(s, l, n.variables, variable_map::part(p)) > 0
+}
+
+// Part p is named for tracking, or its name was served with several allowed: naming it for tracking changes nothing.
+fn is_tracked(
     marks: &[u8],
     unions: &[u8],
     t: &[u8],
     k: Counts,
-    s: &mut [u8],
+    s: &[u8],
     l: Limits,
     n: Counters,
-    which: Parts,
-    naming: Naming,
-    p: usize,
-) -> Counters
+    p: u16,
+) -> bool
+    requires { ⌜ Indexed k (now marks) (now unions) (now t) ⌝ }
+    requires { ⌜ Fits l (length (now s)) ⌝ }
+    requires { ⌜ GoodAlone (catalogue k (now marks) (now unions) (now t)) l n (held l (now s)) ⌝ }
+    ensures { λ b. ⌜ (b ≡ true → StateDid (catalogue k (now (marks .entry)) (now (unions .entry)) (now (t .entry))) l (λ v. onOpening (nameForTracking (catalogue k (now (marks .entry)) (now (unions .entry)) (now (t .entry))) p)) n (held l (now (s .entry))) n (held l (now (s .entry)))) ⌝ }
+{
+    if marked::contains(s, l, state::NAMED_MARKS, p) {
+        return true;
+    }
+    let name = tables::part_name(t, k, p as usize);
+    opening::is_several(s, l, n.several, name)
+}
+
+// Part p has its variable, is tracked, and is opened if it is ready: no naming of it changes anything.
+fn is_settled(
+    marks: &[u8],
+    unions: &[u8],
+    t: &[u8],
+    k: Counts,
+    s: &[u8],
+    l: Limits,
+    n: Counters,
+    p: u16,
+) -> bool
     requires { ⌜ Indexed k (now marks) (now unions) (now t) ⌝ }
     requires { ⌜ Fits l (length (now s)) ⌝ }
     requires { ⌜ GoodAlone (catalogue k (now marks) (now unions) (now t)) l n (held l (now s)) ⌝ }
     requires { ⌜ p < 1024 ⌝ }
-    ensures { λ m. ⌜ StateDid (catalogue k (now (marks .entry)) (now (unions .entry)) (now (t .entry))) l (λ v. when (selectedOf (catalogue k (now (marks .entry)) (now (unions .entry)) (now (t .entry))) which p) (namingOf (catalogue k (now (marks .entry)) (now (unions .entry)) (now (t .entry))) naming p)) n (held l (now (s .entry))) m (held l (now (s .exit))) ⌝ }
+    ensures { λ b. ⌜ (b ≡ true → Settled (catalogue k (now (marks .entry)) (now (unions .entry)) (now (t .entry))) l n (held l (now (s .entry))) p) ⌝ }
+{
+    if !has_variable(s, l, n, p) {
+        return false;
+    }
+    if !is_tracked(marks, unions, t, k, s, l, n, p) {
+        return false;
+    }
+    if tables::ready(t, k, p as usize) {
+        return marked::contains(s, l, state::OWNER_MARKS, p);
+    }
+    true
+}
+
+// Is part p one of these, and not settled?
+fn is_due(
+    marks: &[u8],
+    unions: &[u8],
+    t: &[u8],
+    k: Counts,
+    s: &[u8],
+    l: Limits,
+    n: Counters,
+    which: Parts,
+    p: usize,
+) -> bool
+    requires { ⌜ Indexed k (now marks) (now unions) (now t) ⌝ }
+    requires { ⌜ Fits l (length (now s)) ⌝ }
+    requires { ⌜ GoodAlone (catalogue k (now marks) (now unions) (now t)) l n (held l (now s)) ⌝ }
+    requires { ⌜ p < 1024 ⌝ }
+    ensures { λ b. ⌜ Due (catalogue k (now (marks .entry)) (now (unions .entry)) (now (t .entry))) l n (held l (now (s .entry))) which p b ⌝ }
 {
     if selected(marks, unions, t, k, which, p) {
-        return name_part(marks, unions, t, k, s, l, n, naming, p as u16);
+        return !is_settled(marks, unions, t, k, s, l, n, p as u16);
     }
-    n
+    false
 }
 
 // Each of these parts is named.
@@ -257,8 +319,12 @@ pub fn name_each(
     let mut m = n;
     let mut p = first(marks, unions, t, k, which);
     while p < k.parts {
-        m = name_if(marks, unions, t, k, s, l, m, which, naming, p);
-        p = next(marks, unions, t, k, which, p);
+        if is_due(marks, unions, t, k, s, l, m, which, p) {
+            m = name_part(marks, unions, t, k, s, l, m, naming, p as u16);
+            p = next(marks, unions, t, k, which, p);
+        } else {
+            p = next(marks, unions, t, k, which, p);
+        }
     }
     m
 }

@@ -1,17 +1,17 @@
 -- `marks::has` gives bit j of a byte.
 use borrow.Author.Needs.{needs}
-use Rattle.marks.proofs.Laws.{power-some, has-is}
+use Rattle.marks.proofs.Bits.{bit-is}
 use Rattle.marks.proofs.has.Statement.{statement}
 use Rattle.marks.proofs.has.Tie as tie
 
-power-of-requires : tie.Need-power-of-requires
-power-of-requires c κs = search needs
+cast-result : tie.Need-cast-result
+cast-result c = search needs
 
-div-result : tie.Need-div-result
-div-result c = search (needs, power-some)
+shr-result : tie.Need-shr-result
+shr-result c = search needs
 
 returns : tie.Need-returns
-returns c = search (needs, has-is)
+returns c = search (needs, bit-is)
 
 pub has-spec : {M : Type 1} → statement M
-has-spec = tie.close (tie.spec power-of-requires div-result returns)
+has-spec = tie.close (tie.spec cast-result shr-result returns)

@@ -1,10 +1,15 @@
 -- `parts::name_each` names each of these. The invariant: those below p are named.
 use borrow.Author.Needs.{needs}
 use Prim.Native.Nat.{_-_}
+use native.Mathlib.Omega.{arith}
 use Rattle.cache.specs.Areas.{catalogue}
-use Rattle.parts.proofs.Names.{NamedSoFar, naming-first, naming-next, naming-end}
+use Rattle.parts.proofs.Names.{NamedSoFar, naming-first, naming-due, naming-idle, naming-end}
 use Rattle.parts.proofs.name_each.Statement.{statement}
 use Rattle.parts.proofs.name_each.Tie as tie
+use Rattle.parts.proofs.first.Reads as first-reads
+use Rattle.parts.proofs.is_due.Reads as is-due-reads
+use Rattle.parts.proofs.name_part.Reads as name-part-reads
+use Rattle.parts.proofs.next.Reads as next-reads
 
 abbrev Inv-loop : tie.InvT-loop
 Inv-loop marks unions t k s₀ l which naming m₀ p₀ s m p = NamedSoFar (catalogue k marks unions t) l which naming (k .parts) m₀ s₀ m s p
@@ -18,17 +23,32 @@ first-requires c κs = search needs
 loop-holds : tie.Need-loop-holds Inv-loop μ-loop
 loop-holds c = search (needs, naming-first)
 
-name-if-requires : tie.Need-name-if-requires Inv-loop μ-loop
-name-if-requires c κs = (search needs, (search needs, ((c .before .before .before .loop .inv .alone), search needs)))
+is-due-requires : tie.Need-is-due-requires Inv-loop μ-loop
+is-due-requires c κs = (search needs, (search needs, ((c .before .before .before .loop .inv .alone), search needs)))
+
+cast-name-part : tie.Need-cast-name-part Inv-loop μ-loop
+cast-name-part c = search needs
+
+name-part-requires : tie.Need-name-part-requires Inv-loop μ-loop
+name-part-requires c κs = (search needs, (search needs, ((c .before .before .before .before .before .before .loop .inv .alone), omega (arith, (c .before .before .before .before .if1 .taken), (c .before .before .before .before .before .before .before .before .before .before .before .before .pre .0 .held .laid .parts)))))
 
 next-requires : tie.Need-next-requires Inv-loop μ-loop
-next-requires c κs = search needs
+next-requires c κs = ((c .before .before .before .before .before .before .before .before .before .before .before .before .before .before .before .pre .0), (c .before .before .before .before .before .before .before .if1 .taken))
 
 loop-less : tie.Need-loop-less Inv-loop μ-loop
 loop-less c = search needs
 
 loop-again : tie.Need-loop-again Inv-loop μ-loop
-loop-again c = search (needs, naming-next)
+loop-again c = search (needs, naming-due)
+
+next-requires-2 : tie.Need-next-requires-2 Inv-loop μ-loop
+next-requires-2 c κs = search needs
+
+loop-less-2 : tie.Need-loop-less-2 Inv-loop μ-loop
+loop-less-2 c = search needs
+
+loop-again-2 : tie.Need-loop-again-2 Inv-loop μ-loop
+loop-again-2 c = naming-idle (c .before .before .before .before .before .before .loop .inv) (c .before .before .before .before .if1 .taken) (c .next2 .ensures) (c .before .before .is-due .ensures) (c .before .if2 .left)
 
 same-length : tie.Need-same-length Inv-loop μ-loop
 same-length c = search needs
@@ -44,9 +64,14 @@ name-each-spec =
     μ-loop
     first-requires
     loop-holds
-    name-if-requires
+    is-due-requires
+    cast-name-part
+    name-part-requires
     next-requires
     loop-less
     loop-again
+    next-requires-2
+    loop-less-2
+    loop-again-2
     same-length
     returns)
