@@ -60,9 +60,15 @@ pub byte-past : (l : List ℕ) (i : ℕ) → length l ≤ i → 0 ≡ byteAt l i
 unfolding byteAt
 byte-past l i h = sym (List·getD-eq-default l 0 h)
 
-pub word-is : (l : List ℕ) (i x y u v : ℕ) → x ≡ byteAt l i → u ≡ x → y ≡ byteAt l (i + 1) → v ≡ y → u + 256 * v ≡ wordAt l i
+pub word-in : (l : List ℕ) (i u v : ℕ) → u ≡ getD l i 0 → v ≡ getD l (i + 1) 0 → u + 256 * v ≡ wordAt l i
+unfolding wordAt byteAt
+word-in l i u v e f = rw (e, f, add-one)
+
+pub word-past : (l : List ℕ) (i x u : ℕ) → length l ≤ i + 1 → x ≡ byteAt l i → u ≡ x → u ≡ wordAt l i
 unfolding wordAt
-word-is l i x y u v e d f g = rw (d, g, e, f, add-one)
+word-past l i x u h e d =
+    let z : 0 ≡ byteAt l (suc i) = byte-past l (suc i) (omega arith) in
+    rw (d, e) (omega (arith, z))
 
 -- ---- bodies
 

@@ -140,12 +140,15 @@ pub fn byte(body: &[u8], i: usize) -> u8
     if i < body.len() { body[i] } else { 0 }
 }
 
-// The two-byte number at i.
+// The two-byte number at i; what lies past the end counts as 0.
 pub fn word(body: &[u8], i: usize) -> u16
     requires { ⌜ i < 65536 ⌝ }
     ensures { λ r. ⌜ r ≡ wordAt (now (body .entry)) i ⌝ }
 {
-    words::wide(byte(body, i)) + 256 * words::wide(byte(body, i + 1))
+    if i + 1 < body.len() {
+        return words::wide(body[i]) + 256 * words::wide(body[i + 1]);
+    }
+    words::wide(byte(body, i))
 }
 
 pub fn read_item(kind: u8, body: &[u8]) -> Item
