@@ -18,7 +18,7 @@ use Rattle.tables.proofs.Laws.{conditions-counted}
 use Rattle.conditions.specs.declared.Disjunct as D
 use Rattle.conditions.specs.declared.Source.{Source}
 use Rattle.conditions.specs.declared.Source.the-variants.{Range, Half, Halves}
-use Rattle.conditions.specs.Sizes.{Sized, Counted, Earlier, rangesOf, Carries, Appended, worked, Before, From, Asked}
+use Rattle.conditions.specs.Sizes.{Sized, Counted, Earlier, rangesOf, Carries, Appended, worked, Before, AllBefore, From, Asked}
 use Rattle.conditions.proofs.Longest.{at-most-longest}
 use Rattle.conditions.proofs.Sizing.{row-leaf, row-joined, and-when, or-when}
 
@@ -100,6 +100,14 @@ module _ (k : Counts) (b : List ℕ) (c i : ℕ) (x : C.Condition) (s : Sized (t
 
 -- ---- condition c, by where its disjunct i comes from
 
+all-before : (cs : List Condition) {h c : ℕ} (s : Source) → h < c → AllBefore cs h s → AllBefore cs c s
+all-before cs (Range r) e p = p
+all-before cs (Half l i) e p = record { earlier = omega (arith, p .earlier); there = p .there }
+all-before cs (Halves l i r j) e p = (record { earlier = omega (arith, p .0 .earlier); there = p .0 .there }, record { earlier = omega (arith, p .1 .earlier); there = p .1 .there })
+
+pub from-same : {cs : List Condition} {c i : ℕ} {s r : Source} → From cs c i s → s ≡ r → From cs c i r
+from-same f e = rw e at f
+
 module _ (k : Counts) (b : List ℕ) {c i : ℕ} {s : Source} (f : From (tables k b .conditions) c i s) where
   abbrev this : Disjunct
   this = getD (disjuncts (tables k b .conditions) c) i []
@@ -125,6 +133,15 @@ module _ (k : Counts) (b : List ℕ) {c i : ℕ} {s : Source} (f : From (tables 
 
     pub half-falls : (t : ℕ) → c ≡ t → h < t
     half-falls t q = omega (arith, half-before .earlier)
+
+    pub half-given : c < k .conditions → h < k .conditions
+    half-given g = omega (arith, half-before .earlier)
+
+    pub half-there : j < length (disjuncts (tables k b .conditions) h)
+    half-there = half-before .there
+
+    pub half-followed : {r : Source} → From (tables k b .conditions) h j r → From (tables k b .conditions) c i r
+    half-followed {r} p = record { is = half-one ∙ p .is; before = all-before (tables k b .conditions) r (half-before .earlier) (p .before) }
 
     pub half-asked : {n : ℕ} → Asked k b c i n → Asked k b h j n
     half-asked a =

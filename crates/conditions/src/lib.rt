@@ -138,12 +138,37 @@ fn source_of(t: &[u8], k: Counts, c: usize, i: usize) -> Source
     }
 }
 
+// The same, a half followed to its own halves as long as it is one: a range, or a disjunct of each of two halves.
+fn followed(t: &[u8], k: Counts, c: usize, i: usize) -> Source
+    requires { ⌜ Laid k (length (now t)) ⌝ }
+    requires { ⌜ Sized (tables k (now t)) ⌝ }
+    requires { ⌜ c < k .conditions ⌝ }
+    requires { ⌜ i < length (disjuncts (tables k (now t) .conditions) c) ⌝ }
+    ensures { λ r. ⌜ From (tables k (now (t .entry)) .conditions) c i r ⌝ }
+{
+    match source_of(t, k, c, i) {
+        Source::Range(r) => Source::Range(r),
+        Source::Half { condition, index } => followed(t, k, condition, index),
+        Source::Halves {
+            left,
+            first,
+            right,
+            second,
+        } => Source::Halves {
+            left,
+            first,
+            right,
+            second,
+        },
+    }
+}
+
 // The ranges of disjunct i of condition c behind those of d. A half has a smaller number, so the number falls at each call.
 pub fn disjunct_behind(t: &[u8], k: Counts, c: usize, i: usize, d: Disjunct) -> Disjunct
     requires { ⌜ Asked k (now t) c i (d .len) ⌝ }
     ensures { λ r. ⌜ Appended d (getD (disjuncts (tables k (now (t .entry)) .conditions) c) i []) r ⌝ }
 {
-    match source_of(t, k, c, i) {
+    match followed(t, k, c, i) {
         Source::Range(r) => pushed(d, r),
         Source::Half { condition, index } => disjunct_behind(t, k, condition, index, d),
         Source::Halves {
