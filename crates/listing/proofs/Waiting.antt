@@ -1,23 +1,21 @@
 -- The lines of the entries that wait.
 use mathlib.Core.Path.{_≡_, refl, ap, sym, _∙_}
-use mathlib.Core.Bool.{false}
+use mathlib.Core.Bool.{true, false, false≢true}
 use mathlib.Core.List.{List, [], _∷_, map, append-nil}
-use mathlib.Core.Option.{some}
-use Prim.Native.Nat.{ℕ, _<_, _≤_}
+use mathlib.Core.Option.{Option, none, some}
+use Prim.Native.Nat.{ℕ, _<_}
 use native.Mathlib.Omega.{arith}
-use lib.Dec.{eqb}
 use lib.ListN.{length, getD}
-use borrow.Author.Tests.{eq-eqb, ne-eqb}
+use borrow.Author.Tests.{eqb-true, eq-eqb}
 use Rattle.rules.specs.Lists.{filter, concatMap}
 use Rattle.rules.specs.Catalogue.{Requirement, Catalogue, noRequirement, requirementAt, conditionAt}
 use Rattle.rules.specs.Conditions.{disjuncts, disjunctsIf, isCondition, disjunctsOf, disjunctAt}
 use Rattle.rules.specs.Items as items
 use Rattle.rules.specs.Listing.{ascii, decimal, line, ownerField, goalFields, waitingLine, waitingLines}
-use Rattle.rules.proofs.Bools.{by-cases}
 use Rattle.rules.proofs.Each.{Each, each-at}
 use Rattle.rules.proofs.Valid.{Entry}
 use Rattle.text.specs.Text.{Wrote, fields}
-use Rattle.text.proofs.Written.{nothing, fields-first, fields-then, line-is}
+use Rattle.text.proofs.Written.{fields-first, fields-then, line-is}
 use Rattle.requirement.specs.declared.ConditionalRequirement.{ConditionalRequirement}
 use Rattle.requirement.specs.Requirements.{goalOf, requirementIs, formOf, numberOf}
 use Rattle.requirement.proofs.Laws.{goal-from-parts}
@@ -25,14 +23,13 @@ use Rattle.tables.specs.declared.Counts.{Counts}
 use Rattle.tables.specs.Tables.{tables}
 use Rattle.cache.specs.Areas.{catalogue}
 use Rattle.cache.proofs.Laws.{conditions-same, requirement-held}
-use Rattle.index.specs.Indexed.{Indexed}
 use Rattle.state.specs.declared.Limits.{Limits}
 use Rattle.entries.specs.declared.Entry as entries
 use Rattle.entries.specs.Entries.{noEntry, entryOf, waitingIn}
 use Rattle.encoder.proofs.Frames.{waiting-counted}
 use Rattle.goals.specs.Goals.{AllGiven}
-use Rattle.line_fields.specs.Listed.{ownerBut, entryFields, entryText, conditionText}
-use Rattle.line_fields.proofs.Printing.{Printing, printing-end}
+use Rattle.line_fields.specs.Listed.{ownerBut, entryFields, entryText}
+use Rattle.listing.specs.Chains.{isUnder}
 
 -- ---- an entry's fields and its line
 
@@ -73,58 +70,48 @@ module _ (c : Catalogue) (k q : ℕ) where
   unfolding waitingLines filter concatMap
   no-entry d e = rw (e, filter, concatMap)
 
-other-condition : (x k : ℕ) → (x ≡ k → ⊥) → isCondition k (items.conditionOf x) ≡ false
-unfolding items.conditionOf
-other-condition x k h = by-cases (eqb x 65535) (λ e. rw e) (λ e. rw (e, ne-eqb x k h))
-
-this-condition : (x k : ℕ) → x ≡ k → k < 256 → items.conditionOf x ≡ some k
-unfolding items.conditionOf
-this-condition x k e h = rw (e, ne-eqb k 65535 (λ z. omega arith))
-
-module _ (k : Counts) (m u t : List ℕ) (c : ℕ) (x : entries.Entry) (q : ConditionalRequirement)
-    (d : requirementIs q ≡ getD (tables k t .requirements) (x .requirement) noRequirement) where
+module _ (k : Counts) (m u t : List ℕ) (x : entries.Entry) (q : ConditionalRequirement) (d : requirementIs q ≡ getD (tables k t .requirements) (x .requirement) noRequirement) where
   named : requirementAt (catalogue k m u t) (x .requirement) ≡ requirementIs q
   named = requirement-held k m u t (x .requirement) ∙ sym d
 
-  condition-named : conditionAt (catalogue k m u t) (x .requirement) ≡ items.conditionOf (q .condition)
+  pub condition-named : conditionAt (catalogue k m u t) (x .requirement) ≡ items.conditionOf (q .condition)
   unfolding requirementIs
   condition-named = ap (λ (r : Requirement). r .condition) named
 
-  condition-here : Indexed k m u t → c < k .conditions → q .condition ≡ c → conditionAt (catalogue k m u t) (x .requirement) ≡ some c
-  condition-here f h z = condition-named ∙ this-condition (q .condition) c z (omega arith)
-
-  pub under-yes : {room at r : ℕ} {o o1 : List ℕ} → Indexed k m u t → c < k .conditions → q .condition ≡ c
+  pub under : {room at r : ℕ} {o o1 : List ℕ} (c : ℕ) → conditionAt (catalogue k m u t) (x .requirement) ≡ some c
       → Wrote at r (line (ascii "w" ∷ decimal c ∷ entryFields (requirementIs q) (getD (disjuncts (tables k t .conditions) c) (x .disjunct) []))) room o o1
       → Wrote at r (waitingLines (catalogue k m u t) (entryOf x ∷ []) c) room o o1
   unfolding entryOf
-  under-yes f h z w =
-      rw (one-entry (catalogue k m u t) c (x .requirement) (x .disjunct) (condition-here f h z), named, conditions-same k m u t) w
+  under c z w = rw (one-entry (catalogue k m u t) c (x .requirement) (x .disjunct) z, named, conditions-same k m u t) w
 
-  pub under-no : (room at : ℕ) (o : List ℕ) → (q .condition ≡ c → ⊥) → Wrote at at (waitingLines (catalogue k m u t) (entryOf x ∷ []) c) room o o
-  unfolding entryOf
-  under-no room at o z =
-      let other : isCondition c (conditionAt (catalogue k m u t) (x .requirement)) ≡ false = ap (isCondition c) condition-named ∙ other-condition (q .condition) c z in
-      rw (no-entry (catalogue k m u t) c (x .requirement) (x .disjunct) other) (nothing room at o)
-
-  pub entry-disjunct : AllGiven (catalogue k m u t) (entryOf x ∷ []) → Indexed k m u t → c < k .conditions → q .condition ≡ c
-      → x .disjunct < length (disjuncts (tables k t .conditions) c)
-  unfolding entryOf
-  entry-disjunct a f h z =
-      let s : Entry (catalogue k m u t) (entryOf x) = each-at (a .given) 0 noEntry (omega arith) in
-      rw (same-disjuncts (catalogue k m u t) c (x .requirement) (condition-here f h z), conditions-same k m u t) at (s .disjunct)
+-- the disjunct is one of the condition's, since the entry is given
+pub entry-disjunct : (k : Counts) (m u t : List ℕ) (x : entries.Entry) (c : ℕ) → conditionAt (catalogue k m u t) (x .requirement) ≡ some c
+    → AllGiven (catalogue k m u t) (entryOf x ∷ []) → x .disjunct < length (disjuncts (tables k t .conditions) c)
+unfolding entryOf
+entry-disjunct k m u t x c z a =
+    let s : Entry (catalogue k m u t) (entryOf x) = each-at (a .given) 0 noEntry (omega arith) in
+    rw (same-disjuncts (catalogue k m u t) c (x .requirement) z, conditions-same k m u t) at (s .disjunct)
 
 -- ---- entry i
+
+under-is : (k : ℕ) (o : Option ℕ) → isCondition k o ≡ true → o ≡ some k
+under-is k none e = absurd (false≢true e)
+under-is k (some j) e = ap some (eqb-true j k e)
 
 module _ (c : Catalogue) (l : Limits) (n : ℕ) (w : List ℕ) (i : ℕ) (x : entries.Entry) (e : entryOf x ≡ getD (waitingIn l n w) i noEntry) where
   pub entry-given : AllGiven c (waitingIn l n w) → i < n → AllGiven c (entryOf x ∷ [])
   entry-given a h = record { given = Each.cons {x = entryOf x} (rw e (each-at (a .given) i noEntry (rw (waiting-counted l n w) h))) Each.nil }
+
+  pub entry-under : (k : ℕ) → isUnder c (waitingIn l n w) k i ≡ true → conditionAt c (x .requirement) ≡ some k
+  unfolding isUnder entryOf
+  entry-under k h = under-is k _ (rw (← e) at h)
 
   pub waiting-line : {room at r : ℕ} {o o1 : List ℕ} (k : ℕ) → Wrote at r (waitingLines c (entryOf x ∷ []) k) room o o1
       → Wrote at r (entryText c (waitingIn l n w) k i) room o o1
   unfolding entryText
   waiting-line k v = rw (← e) v
 
-pub waiting-end : {room at a n i : ℕ} {o o1 : List ℕ} (c : Catalogue) (es : List (ℕ × ℕ)) (k : ℕ) → Printing (entryText c es k) n at a i room o o1 → n ≤ i
-    → Wrote at a (conditionText c es n k) room o o1
-unfolding conditionText
-waiting-end c es k f h = printing-end f h
+-- another entry has no line under the condition
+pub no-line : (c : Catalogue) (es : List (ℕ × ℕ)) (k i : ℕ) → isUnder c es k i ≡ false → entryText c es k i ≡ []
+unfolding isUnder entryText
+no-line c es k i e = no-entry c k (getD es i noEntry .0) (getD es i noEntry .1) e

@@ -1,13 +1,19 @@
 // The listing of a state: its lines of waiting entries, and the whole.
 // The same functions measure and write (`text`).
+mod chains;
+
 use encoder::Counters;
 use entries::Entry;
 use requirement::ConditionalRequirement;
 use state::Limits;
 use tables::Counts;
+ghost use mathlib.Core.Path.{_≡_};
+ghost use mathlib.Core.Bool.{true};
 ghost use mathlib.Core.List.{[], _∷_, map};
+ghost use mathlib.Core.Option.{some};
 ghost use Prim.Native.Nat.{_<_, _≤_};
 ghost use lib.ListN.{length, getD};
+ghost use Rattle.rules.specs.Catalogue.{conditionAt};
 ghost use Rattle.rules.specs.Conditions.{disjuncts};
 ghost use Rattle.rules.specs.Listing.{ascii, decimal, line, waitingLines};
 ghost use Rattle.rules.proofs.WellFormed.{WellFormed};
@@ -22,6 +28,7 @@ ghost use Rattle.entries.specs.Entries.{entryOf, waitingIn, Long};
 ghost use Rattle.encoder.specs.Held.{LongEnough, Good};
 ghost use Rattle.goals.specs.Goals.{AllGiven};
 ghost use Rattle.line_fields.specs.Listed.{entryFields, texts, entryText, conditionText, firstHalf, clauseNotes, stateNotes, secondHalf, Ready, GoodRows, Lists};
+ghost use Rattle.listing.specs.Chains.{isUnder, Linked};
 
 // ---- waiting entries
 
@@ -92,7 +99,7 @@ fn entry_line(
     text::line_feed(out, room, d)
 }
 
-// The line of an entry, if it is of condition c.
+// The line of an entry of condition c.
 fn entry_under(
     marks: &[u8],
     unions: &[u8],
@@ -107,17 +114,14 @@ fn entry_under(
     requires { ⌜ Indexed k (now marks) (now unions) (now t) ⌝ }
     requires { ⌜ Addressable room ⌝ }
     requires { ⌜ AllGiven (catalogue k (now marks) (now unions) (now t)) (entryOf e ∷ []) ⌝ }
-    requires { ⌜ c < k .conditions ⌝ }
+    requires { ⌜ (c < k .conditions) × (conditionAt (catalogue k (now marks) (now unions) (now t)) (e .requirement) ≡ some c) ⌝ }
     ensures { λ r. ⌜ Wrote at r (waitingLines (catalogue k (now (marks .entry)) (now (unions .entry)) (now (t .entry))) (entryOf e ∷ []) c) room (now (out .entry)) (now (out .exit)) ⌝ }
 {
     let q = tables::requirement_at(t, k, e.requirement as usize);
-    if q.condition as usize == c {
-        return entry_line(t, k, out, room, at, q, c, e.disjunct as usize);
-    }
-    at
+    entry_line(t, k, out, room, at, q, c, e.disjunct as usize)
 }
 
-// The line of entry i, if it is of condition c.
+// The line of entry i, which is of condition c.
 fn waiting_line(
     marks: &[u8],
     unions: &[u8],
@@ -136,13 +140,14 @@ fn waiting_line(
     requires { ⌜ Addressable room ⌝ }
     requires { ⌜ Long l (length (now w)) × (n .waiting ≤ l .waiting) ⌝ }
     requires { ⌜ AllGiven (catalogue k (now marks) (now unions) (now t)) (waitingIn l (n .waiting) (now w)) ⌝ }
-    requires { ⌜ (c < k .conditions) × (i < n .waiting) ⌝ }
+    requires { ⌜ (c < k .conditions) × (i < n .waiting) × (isUnder (catalogue k (now marks) (now unions) (now t)) (waitingIn l (n .waiting) (now w)) c i ≡ true) ⌝ }
     ensures { λ r. ⌜ Wrote at r (entryText (catalogue k (now (marks .entry)) (now (unions .entry)) (now (t .entry))) (waitingIn l (n .waiting) (now (w .entry))) c i) room (now (out .entry)) (now (out .exit)) ⌝ }
 {
     let e = entries::waiting_at(w, l, n.waiting, i);
     entry_under(marks, unions, t, k, out, room, at, e, c)
 }
 
+// The lines of condition c, along its chain.
 fn waiting_of(
     marks: &[u8],
     unions: &[u8],
@@ -151,6 +156,8 @@ fn waiting_of(
     w: &[u8],
     l: Limits,
     n: Counters,
+    heads: &[u16; 256],
+    links: &[u16; 2048],
     out: &mut [u8],
     room: usize,
     at: usize,
@@ -160,18 +167,50 @@ fn waiting_of(
     requires { ⌜ Addressable room ⌝ }
     requires { ⌜ Long l (length (now w)) × (n .waiting ≤ l .waiting) ⌝ }
     requires { ⌜ AllGiven (catalogue k (now marks) (now unions) (now t)) (waitingIn l (n .waiting) (now w)) ⌝ }
-    requires { ⌜ c < k .conditions ⌝ }
+    requires { ⌜ Linked (catalogue k (now marks) (now unions) (now t)) (waitingIn l (n .waiting) (now w)) (n .waiting) (k .conditions) 0 (now heads) (now links) × (c < k .conditions) ⌝ }
     ensures { λ r. ⌜ Wrote at r (conditionText (catalogue k (now (marks .entry)) (now (unions .entry)) (now (t .entry))) (waitingIn l (n .waiting) (now (w .entry))) (n .waiting) c) room (now (out .entry)) (now (out .exit)) ⌝ }
 {
     let mut a = at;
-    let mut i = 0;
+    let mut i = chains::first(heads, c) as usize;
     while i < n.waiting {
         a = waiting_line(marks, unions, t, k, w, l, n, out, room, a, c, i);
+        i = chains::next(links, i) as usize;
+    }
+    a
+}
+
+// Those of all conditions, by rising condition.
+fn chained_lines(
+    marks: &[u8],
+    unions: &[u8],
+    t: &[u8],
+    k: Counts,
+    w: &[u8],
+    l: Limits,
+    n: Counters,
+    heads: &[u16; 256],
+    links: &[u16; 2048],
+    out: &mut [u8],
+    room: usize,
+    at: usize,
+) -> usize
+    requires { ⌜ Indexed k (now marks) (now unions) (now t) ⌝ }
+    requires { ⌜ Addressable room ⌝ }
+    requires { ⌜ Long l (length (now w)) × (n .waiting ≤ l .waiting) ⌝ }
+    requires { ⌜ AllGiven (catalogue k (now marks) (now unions) (now t)) (waitingIn l (n .waiting) (now w)) ⌝ }
+    requires { ⌜ Linked (catalogue k (now marks) (now unions) (now t)) (waitingIn l (n .waiting) (now w)) (n .waiting) (k .conditions) 0 (now heads) (now links) ⌝ }
+    ensures { λ r. ⌜ Wrote at r (texts (conditionText (catalogue k (now (marks .entry)) (now (unions .entry)) (now (t .entry))) (waitingIn l (n .waiting) (now (w .entry))) (n .waiting)) (k .conditions)) room (now (out .entry)) (now (out .exit)) ⌝ }
+{
+    let mut a = at;
+    let mut i = 0;
+    while i < k.conditions {
+        a = waiting_of(marks, unions, t, k, w, l, n, heads, links, out, room, a, i);
         i += 1;
     }
     a
 }
 
+// The same, after making the chains.
 fn waiting_lines(
     marks: &[u8],
     unions: &[u8],
@@ -185,18 +224,16 @@ fn waiting_lines(
     at: usize,
 ) -> usize
     requires { ⌜ Indexed k (now marks) (now unions) (now t) ⌝ }
+    requires { ⌜ WellFormed (catalogue k (now marks) (now unions) (now t)) ⌝ }
     requires { ⌜ Addressable room ⌝ }
     requires { ⌜ Long l (length (now w)) × (n .waiting ≤ l .waiting) ⌝ }
     requires { ⌜ AllGiven (catalogue k (now marks) (now unions) (now t)) (waitingIn l (n .waiting) (now w)) ⌝ }
     ensures { λ r. ⌜ Wrote at r (texts (conditionText (catalogue k (now (marks .entry)) (now (unions .entry)) (now (t .entry))) (waitingIn l (n .waiting) (now (w .entry))) (n .waiting)) (k .conditions)) room (now (out .entry)) (now (out .exit)) ⌝ }
 {
-    let mut a = at;
-    let mut i = 0;
-    while i < k.conditions {
-        a = waiting_of(marks, unions, t, k, w, l, n, out, room, a, i);
-        i += 1;
-    }
-    a
+    let mut heads = [n.waiting as u16; 256];
+    let mut links = [0; 2048];
+    chains::link_entries(marks, unions, t, k, w, l, n, &mut heads, &mut links);
+    chained_lines(marks, unions, t, k, w, l, n, &heads, &links, out, room, at)
 }
 
 // ---- the whole

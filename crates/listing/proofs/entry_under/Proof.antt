@@ -1,6 +1,6 @@
--- `listing::entry_under` prints the line of an entry whose requirement has this condition, and nothing for another. The disjunct is one of the condition's, since the entry is given.
+-- `listing::entry_under` prints the line of an entry under its condition. The disjunct is one of the condition's, since the entry is given.
 use borrow.Author.Needs.{needs}
-use Rattle.listing.proofs.Waiting.{entry-disjunct, under-yes, under-no}
+use Rattle.listing.proofs.Waiting.{entry-disjunct, under}
 use Rattle.listing.proofs.entry_under.Statement.{statement}
 use Rattle.listing.proofs.entry_under.Tie as tie
 
@@ -10,27 +10,20 @@ cast-requirement-at c = search needs
 requirement-at-requires : tie.Need-requirement-at-requires
 requirement-at-requires c κs = search needs
 
-cast-if1 : tie.Need-cast-if1
-cast-if1 c = search needs
-
 cast-entry-line : tie.Need-cast-entry-line
 cast-entry-line c = search needs
 
 entry-line-requires : tie.Need-entry-line-requires
 entry-line-requires c κs =
-    let start = c .before .before .before .before .before .before .before .before .before .before in
-    let given =
-    entry-disjunct _ _ _ _ _ _ _ (c .before .before .before .before .requirement-at .ensures) (start .pre .1 .1 .0) (start .pre .0) (start .pre .1 .1 .1) (c .before .before .if1 .taken) in
+    let start = c .before .before .before .before .before .before .before .before in
+    let given = entry-disjunct _ _ _ _ _ _ (start .pre .1 .1 .1 .1) (start .pre .1 .1 .0) in
     (search needs, (search needs, (search needs, (search needs, given))))
 
 same-length : tie.Need-same-length
 same-length c = search needs
 
 returns : tie.Need-returns
-returns c = search (needs, under-yes)
-
-returns-2 : tie.Need-returns-2
-returns-2 c = search (needs, under-no)
+returns c = search (needs, under)
 
 pub entry-under-spec : {M : Type 1} → statement M
 entry-under-spec =
@@ -38,9 +31,7 @@ entry-under-spec =
     (tie.spec
     cast-requirement-at
     requirement-at-requires
-    cast-if1
     cast-entry-line
     entry-line-requires
     same-length
-    returns
-    returns-2)
+    returns)

@@ -8,7 +8,7 @@ decision-lines-requires : tie.Need-decision-lines-requires
 decision-lines-requires c κs = search needs
 
 waiting-lines-requires : tie.Need-waiting-lines-requires
-waiting-lines-requires c κs = (search needs, (search needs, (search needs, search needs)))
+waiting-lines-requires c κs = (search needs, (search needs, (search needs, (search needs, search needs))))
 
 same-length : tie.Need-same-length
 same-length c = search needs

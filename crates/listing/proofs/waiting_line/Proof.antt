@@ -1,6 +1,6 @@
 -- `listing::waiting_line` prints entry i under a condition.
 use borrow.Author.Needs.{needs}
-use Rattle.listing.proofs.Waiting.{entry-given, waiting-line}
+use Rattle.listing.proofs.Waiting.{entry-given, entry-under, waiting-line}
 use Rattle.listing.proofs.waiting_line.Statement.{statement}
 use Rattle.listing.proofs.waiting_line.Tie as tie
 
@@ -8,7 +8,7 @@ waiting-at-requires : tie.Need-waiting-at-requires
 waiting-at-requires c κs = search needs
 
 entry-under-requires : tie.Need-entry-under-requires
-entry-under-requires c κs = (search needs, (search needs, (search (needs, entry-given), search needs)))
+entry-under-requires c κs = (search needs, (search needs, (search (needs, entry-given), (search needs, search (needs, entry-under)))))
 
 same-length : tie.Need-same-length
 same-length c = search needs
