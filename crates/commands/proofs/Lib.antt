@@ -1,4 +1,5 @@
 pub mod Outcomes
 pub mod Adding
+pub mod Idling
 pub mod Drawing
 pub mod Deciding

@@ -1,25 +1,28 @@
 -- What a command does to the state that the areas hold, or its refusal.
 use mathlib.Core.Path.{_≡_}
-use mathlib.Core.Bool.{true, false}
-use mathlib.Core.List.{List}
+use mathlib.Core.Bool.{Bool, true, false, _&&_}
+use mathlib.Core.List.{List, []}
 use mathlib.Core.Option.{none}
-use Prim.Native.Nat.{ℕ}
-use lib.ListN.{length}
+use Prim.Native.Nat.{ℕ, _<_}
+use lib.ListN.{length, getD}
 use Rattle.rules.specs.Lists.{snoc, when}
 use Rattle.rules.specs.Literal.{Literal}
-use Rattle.rules.specs.Catalogue.{Catalogue}
+use Rattle.rules.specs.Catalogue.{Requirement, Catalogue, noRequirement}
+use Rattle.rules.specs.Conditions.{Disjunct, isCondition}
 use Rattle.rules.specs.Refusals.{ok, refuse}
 use Rattle.rules.specs.Records.{Command}
 use Rattle.rules.specs.Decisions.{evaluate, isFalsified, isUndecided}
 use Rattle.rules.specs.Opening as opening
 use Rattle.rules.specs.State.{State, setDecisions, decidedTrue}
 use Rattle.rules.specs.Sheet.{carryOut}
+use Rattle.rules.proofs.Each.{Each}
 use Rattle.refusal.specs.declared.Refusal.{Refusal}
 use Rattle.refusal.specs.declared.Refusal.the-variants.{DecidedAgainst}
 use Rattle.refusal.specs.Refusing.{refusalOf}
 use Rattle.state.specs.declared.Limits.{Limits}
 use Rattle.decision_tracker.specs.Tracking.{decisions}
 use Rattle.marked.specs.Marked.{Marked}
+use Rattle.entries.specs.Deferred.{isHeld}
 use Rattle.encoder.specs.declared.Counters.{Counters}
 use Rattle.encoder.specs.Held.{Reading, stateOf, Good}
 use Rattle.encoder.specs.Did.{limitsOf, onOpening}
@@ -37,6 +40,24 @@ pub record ChangesOf (c : Catalogue) (l : Limits) (F : State → State) (n : Cou
 -- whatever the catalogue and the other areas
 pub record Changes (l : Limits) (F : State → State) (n : Counters) (st : ℕ → List ℕ) (n′ : Counters) (st′ : ℕ → List ℕ) : Type 0 where
   pub is : (c : Catalogue) (cl wt : List ℕ) → ChangesOf c l F n st cl wt n′ st′
+
+-- ---- a draw
+
+-- a flag for each of these disjuncts, by whether it holds
+pub record Judged (c : Catalogue) (true? : ℕ → Bool) (ds : List Disjunct) (flags : List ℕ) : Type 0 where
+  pub is : (i : ℕ) → i < length ds → isHeld flags i ≡ opening.holdsNow c true? (getD ds i [])
+
+-- b says that no flag is set
+pub record NoneSet (b : Bool) (flags : List ℕ) : Type 0 where
+  pub none : b ≡ true → (i : ℕ) → isHeld flags i ≡ false
+
+-- an entry of condition k, by these requirements, whose disjunct is flagged
+unfoldable pub isFlagged : List Requirement → (flags : List ℕ) → (k : ℕ) → ℕ × ℕ → Bool
+isFlagged rs flags k e = isCondition k ((getD rs (e .0) noRequirement) .condition) && isHeld flags (e .1)
+
+-- nothing of condition k is to be drawn
+pub record Idle (c : Catalogue) (true? : ℕ → Bool) (k : ℕ) (s : opening.Opening) : Type 0 where
+  pub none : Each (λ (e : ℕ × ℕ). opening.isDrawn c true? k e ≡ false) (s .waiting)
 
 -- the entries of condition k that hold were drawn
 pub record Draws (c : Catalogue) (l : Limits) (k : ℕ) (n : Counters) (st : ℕ → List ℕ) (wt : List ℕ) (n′ : Counters) (wt′ : List ℕ) : Type 0 where

@@ -14,11 +14,11 @@ ghost use Prim.Native.Nat.{_+_, _<_, _≤_};
 ghost use lib.Dec.{eqb, ltb};
 ghost use lib.ListN.{length, getD};
 ghost use Rattle.rules.specs.Decisions.{lastLevel};
-ghost use Rattle.rules.specs.Opening.{isDrawn};
+ghost use Rattle.rules.specs.Conditions.{disjuncts};
 ghost use Rattle.rules.specs.Opening as rules;
 ghost use Rattle.rules.specs.Records.{Command};
 ghost use Rattle.rules.proofs.Levels.{Rising};
-ghost use Rattle.rules.proofs.Valid.{Entry};
+ghost use Rattle.tables.specs.Tables.{tables, Laid};
 ghost use Rattle.cache.specs.Areas.{catalogue};
 ghost use Rattle.clause.specs.Literals.{literalOf};
 ghost use Rattle.state.specs.Layout.{held, Fits};
@@ -26,10 +26,10 @@ ghost use Rattle.variable_map.specs.Mapping.{variables, Mapped};
 ghost use Rattle.decision_tracker.specs.Tracking.{decisions, Kept};
 ghost use Rattle.marked.specs.Marked.{ownerOf, Marked};
 ghost use Rattle.entries.specs.Entries.{noEntry, waitingIn, Long};
-ghost use Rattle.entries.specs.Deferred.{flagOf, Flags};
+ghost use Rattle.entries.specs.Deferred.{flagOf, isHeld, Flags};
 ghost use Rattle.encoder.specs.Did.{onOpening};
 ghost use Rattle.goals.specs.Goals.{Catalogued, trueOf, AllGiven};
-ghost use Rattle.commands.specs.Commands.{Changes, Draws, DecidesLiteral, PlainOutcomes, PartOutcomes};
+ghost use Rattle.commands.specs.Commands.{Changes, Judged, NoneSet, isFlagged, Draws, DecidesLiteral, PlainOutcomes, PartOutcomes};
 
 // What a command gives.
 pub enum Outcome {
@@ -71,84 +71,118 @@ pub fn add(k: Counts, s: &mut [u8], l: Limits, n: Counters, owner: u16) -> Outco
 
 // ---- draw
 
-// Is entry i one of condition c whose disjunct holds?
-fn is_drawn(
-    marks: &[u8],
-    unions: &[u8],
-    t: &[u8],
-    k: Counts,
-    s: &[u8],
-    w: &[u8],
-    l: Limits,
-    n: Counters,
-    c: u16,
-    i: usize,
-) -> bool
-    requires { ⌜ Catalogued k (now marks) (now unions) (now t) ⌝ }
-    requires { ⌜ Fits l (length (now s)) ⌝ }
-    requires { ⌜ Mapped l (n .variables) (held l (now s)) × Kept l (n .decisions) (held l (now s)) ⌝ }
-    requires { ⌜ Long l (length (now w)) × (n .waiting ≤ l .waiting) × (i < n .waiting) ⌝ }
-    requires { ⌜ Entry (catalogue k (now marks) (now unions) (now t)) (getD (waitingIn l (n .waiting) (now w)) i noEntry) ⌝ }
-    ensures { λ b. ⌜ b ≡ isDrawn (catalogue k (now (marks .entry)) (now (unions .entry)) (now (t .entry))) (trueOf (variables (n .variables) (held l (now (s .entry)))) (decisions (n .decisions) (held l (now (s .entry))))) c (getD (waitingIn l (n .waiting) (now (w .entry))) i noEntry) ⌝ }
+// The flag of a verdict: 1 where it holds, or else 0.
+fn flag(holds: bool) -> u8
+    ensures { λ r. ⌜ r ≡ flagOf holds ⌝ }
 {
-    let e = entries::waiting_at(w, l, n.waiting, i);
-    let it = tables::requirement_at(t, k, e.requirement as usize);
-    if it.condition != c {
-        return false;
-    }
-    goals::disjunct_holds(
-        marks,
-        unions,
-        t,
-        k,
-        s,
-        l,
-        n,
-        c as usize,
-        e.disjunct as usize,
-    )
-}
-
-// The flag of an entry: 1, it is to be drawn, or else 0.
-fn flag(drawn: bool) -> u8
-    ensures { λ r. ⌜ r ≡ flagOf drawn ⌝ }
-{
-    if drawn {
+    if holds {
         return 1;
     }
     0
 }
 
-// Which entries are of condition c and hold: a flag for each.
-fn held_flags(
+// Which disjuncts of condition c hold: a flag for each.
+fn holding(
     marks: &[u8],
     unions: &[u8],
     t: &[u8],
     k: Counts,
     s: &[u8],
-    w: &[u8],
     l: Limits,
     n: Counters,
-    c: u16,
-) -> [u8; 2048]
+    c: usize,
+) -> [u8; 64]
     requires { ⌜ Catalogued k (now marks) (now unions) (now t) ⌝ }
     requires { ⌜ Fits l (length (now s)) ⌝ }
     requires { ⌜ Mapped l (n .variables) (held l (now s)) × Kept l (n .decisions) (held l (now s)) ⌝ }
-    requires { ⌜ Long l (length (now w)) × (n .waiting ≤ l .waiting) ⌝ }
-    requires { ⌜ AllGiven (catalogue k (now marks) (now unions) (now t)) (waitingIn l (n .waiting) (now w)) ⌝ }
-    ensures { λ r. ⌜ Flags (isDrawn (catalogue k (now (marks .entry)) (now (unions .entry)) (now (t .entry))) (trueOf (variables (n .variables) (held l (now (s .entry)))) (decisions (n .decisions) (held l (now (s .entry))))) c) (n .waiting) (waitingIn l (n .waiting) (now (w .entry))) r ⌝ }
+    requires { ⌜ c < k .conditions ⌝ }
+    ensures { λ r. ⌜ Judged (catalogue k (now (marks .entry)) (now (unions .entry)) (now (t .entry))) (trueOf (variables (n .variables) (held l (now (s .entry)))) (decisions (n .decisions) (held l (now (s .entry))))) (disjuncts (tables k (now (t .entry)) .conditions) c) r ⌝ }
+{
+    let count = conditions::count(t, k, c);
+    let mut flags = [0u8; 64];
+    let mut i = 0;
+    while i < count {
+        let holds = goals::disjunct_holds(marks, unions, t, k, s, l, n, c, i);
+        flags[i] = flag(holds);
+        i += 1;
+    }
+    flags
+}
+
+// Is no flag set?
+fn none_set(flags: &[u8]) -> bool
+    ensures { λ b. ⌜ NoneSet b (now (flags .entry)) ⌝ }
+{
+    let mut i = 0;
+    while i < flags.len() {
+        if flags[i] != 0 {
+            return false;
+        }
+        i += 1;
+    }
+    true
+}
+
+// Is disjunct i flagged?
+fn is_set(flags: &[u8], i: usize) -> bool
+    ensures { λ b. ⌜ b ≡ isHeld (now (flags .entry)) i ⌝ }
+{
+    if i < flags.len() {
+        return flags[i] != 0;
+    }
+    false
+}
+
+// Is entry i one of condition c whose disjunct is flagged?
+fn is_drawn(
+    t: &[u8],
+    k: Counts,
+    w: &[u8],
+    l: Limits,
+    n: usize,
+    holding: &[u8],
+    c: u16,
+    i: usize,
+) -> bool
+    requires { ⌜ Laid k (length (now t)) ⌝ }
+    requires { ⌜ Long l (length (now w)) × (n ≤ l .waiting) × (i < n) ⌝ }
+    requires { ⌜ c < 65535 ⌝ }
+    ensures { λ b. ⌜ b ≡ isFlagged (tables k (now (t .entry)) .requirements) (now (holding .entry)) c (getD (waitingIn l n (now (w .entry))) i noEntry) ⌝ }
+{
+    let e = entries::waiting_at(w, l, n, i);
+    let it = tables::requirement_at(t, k, e.requirement as usize);
+    if it.condition != c {
+        return false;
+    }
+    is_set(holding, e.disjunct as usize)
+}
+
+// Which of n entries are of condition c, with a disjunct that is flagged: a flag for each.
+fn held_flags(
+    t: &[u8],
+    k: Counts,
+    w: &[u8],
+    l: Limits,
+    n: usize,
+    holding: &[u8],
+    c: u16,
+) -> [u8; 2048]
+    requires { ⌜ Laid k (length (now t)) ⌝ }
+    requires { ⌜ Long l (length (now w)) × (n ≤ l .waiting) ⌝ }
+    requires { ⌜ c < 65535 ⌝ }
+    ensures { λ r. ⌜ Flags (isFlagged (tables k (now (t .entry)) .requirements) (now (holding .entry)) c) n (waitingIn l n (now (w .entry))) r ⌝ }
 {
     let mut flags = [0u8; 2048];
     let mut i = 0;
-    while i < n.waiting {
-        let drawn = is_drawn(marks, unions, t, k, s, w, l, n, c, i);
+    while i < n {
+        let drawn = is_drawn(t, k, w, l, n, holding, c, i);
         flags[i] = flag(drawn);
         i += 1;
     }
     flags
 }
 
-// The entries of condition c that hold are drawn, in order.
+// The entries of condition c that hold are drawn, in order. Each disjunct of c is judged once.
 pub fn draw(
     marks: &[u8],
     unions: &[u8],
@@ -165,9 +199,14 @@ pub fn draw(
     requires { ⌜ Mapped l (n .variables) (held l (now s)) × Kept l (n .decisions) (held l (now s)) ⌝ }
     requires { ⌜ Long l (length (now w)) × (n .waiting + n .drawn ≤ l .waiting) ⌝ }
     requires { ⌜ AllGiven (catalogue k (now marks) (now unions) (now t)) (waitingIn l (n .waiting) (now w)) ⌝ }
+    requires { ⌜ c < k .conditions ⌝ }
     ensures { λ m. ⌜ Draws (catalogue k (now (marks .entry)) (now (unions .entry)) (now (t .entry))) l c n (held l (now (s .entry))) (now (w .entry)) m (now (w .exit)) ⌝ }
 {
-    let flags = held_flags(marks, unions, t, k, s, w, l, n, c);
+    let judged = holding(marks, unions, t, k, s, l, n, c as usize);
+    if none_set(&judged) {
+        return n;
+    }
+    let flags = held_flags(t, k, w, l, n.waiting, &judged, c);
     let counts = entries::draw(w, &flags, l, n.waiting, n.drawn);
     let mut m = n;
     m.waiting = counts.kept;

@@ -1,30 +1,24 @@
--- `commands::held_flags` says of each entry whether it is drawn. The invariant: the flags of the first i entries are set.
+-- `commands::held_flags` says of each entry whether it is flagged. The invariant: the flags of the first i entries are set.
 use borrow.Author.Needs.{needs}
 use Prim.Native.Nat.{_-_}
-use Rattle.rules.specs.Opening.{isDrawn}
-use Rattle.cache.specs.Areas.{catalogue}
-use Rattle.state.specs.Layout.{held}
-use Rattle.variable_map.specs.Mapping.{variables}
-use Rattle.decision_tracker.specs.Tracking.{decisions}
+use Rattle.tables.specs.Tables.{tables}
 use Rattle.entries.specs.Entries.{waitingIn}
-use Rattle.goals.specs.Goals.{trueOf}
-use Rattle.commands.proofs.Drawing.{Flagging, flagging-start, flagging-step, flagging-end, entry-given}
+use Rattle.commands.specs.Commands.{isFlagged}
+use Rattle.commands.proofs.Drawing.{Flagging, flagging-start, flagging-step, flagging-end}
 use Rattle.commands.proofs.held_flags.Statement.{statement}
 use Rattle.commands.proofs.held_flags.Tie as tie
 
 abbrev Inv-loop : tie.InvT-loop
-Inv-loop marks unions t k s w l n c flags₀ i₀ flags i = Flagging (isDrawn (catalogue k marks unions t) (trueOf (variables (n .variables) (held l s)) (decisions (n .decisions) (held l s))) c) (n .waiting) (waitingIn l (n .waiting) w) i flags
+Inv-loop t k w l n holding c flags₀ i₀ flags i = Flagging (isFlagged (tables k t .requirements) holding c) n (waitingIn l n w) i flags
 
 abbrev μ-loop : tie.MeasureT-loop
-μ-loop marks unions t k s w l n c flags₀ i₀ flags i = n .waiting - i
+μ-loop t k w l n holding c flags₀ i₀ flags i = n - i
 
 loop-holds : tie.Need-loop-holds Inv-loop μ-loop
 loop-holds c = search (needs, flagging-start)
 
 is-drawn-requires : tie.Need-is-drawn-requires Inv-loop μ-loop
-is-drawn-requires c κs =
-    let p = c .before .before .before .before .before .before .before .before .pre in
-    (p .0, (p .1 .0, (p .1 .1 .0, ((p .1 .1 .1 .0 .0, p .1 .1 .1 .0 .1, c .if1 .taken), entry-given _ _ _ _ (p .1 .1 .1 .1) (c .if1 .taken)))))
+is-drawn-requires c κs = search needs
 
 flag-requires : tie.Need-flag-requires Inv-loop μ-loop
 flag-requires c κs = search needs

@@ -1,6 +1,6 @@
--- `commands::is_drawn` tells whether an entry is of the condition and holds now.
+-- `commands::is_drawn` tells whether an entry is of the condition and its disjunct is flagged.
 use borrow.Author.Needs.{needs}
-use Rattle.commands.proofs.Drawing.{other-entry, entry-within, entry-drawn}
+use Rattle.commands.proofs.Drawing.{other-entry, its-flag}
 use Rattle.commands.proofs.is_drawn.Statement.{statement}
 use Rattle.commands.proofs.is_drawn.Tie as tie
 
@@ -16,24 +16,14 @@ requirement-at-requires c κs = search needs
 returns : tie.Need-returns
 returns c = search (needs, other-entry)
 
-cast-disjunct-holds : tie.Need-cast-disjunct-holds
-cast-disjunct-holds c = search needs
+cast-is-set : tie.Need-cast-is-set
+cast-is-set c = search needs
 
-disjunct-holds-requires : tie.Need-disjunct-holds-requires
-disjunct-holds-requires c κs = (
-  c .before .before .before .before .before .before .before .before .before .before .before .pre .0,
-  (
-    c .before .before .before .before .before .before .before .before .before .before .before .pre .1 .0,
-    (
-      c .before .before .before .before .before .before .before .before .before .before .before .pre .1 .1 .0,
-      entry-within _ _ _ _ _ _ _ _ (c .before .before .before .before .before .waiting-at .ensures) (c .before .before .before .requirement-at .ensures) (c .before .before .before .before .before .before .before .before .before .before .before .pre .1 .1 .1 .1)
-          (c .before .if1 .left) (c .before .before .before .before .before .before .before .before .before .before .before .pre .0 .formed),
-    ),
-  ),
-)
+is-set-requires : tie.Need-is-set-requires
+is-set-requires c κs = search needs
 
 returns-2 : tie.Need-returns-2
-returns-2 c = entry-drawn _ _ _ _ _ _ _ _ (c .before .before .before .before .before .before .waiting-at .ensures) (c .before .before .before .before .requirement-at .ensures) (c .before .before .before .before .before .before .before .before .before .before .before .before .pre .1 .1 .1 .1) (c .before .before .if1 .left) _ _ (c .disjunct-holds .ensures)
+returns-2 c = search (needs, its-flag)
 
 pub is-drawn-spec : {M : Type 1} → statement M
 is-drawn-spec =
@@ -43,6 +33,6 @@ is-drawn-spec =
     cast-requirement-at
     requirement-at-requires
     returns
-    cast-disjunct-holds
-    disjunct-holds-requires
+    cast-is-set
+    is-set-requires
     returns-2)

@@ -6,7 +6,7 @@ use Rattle.sheet.proofs.draw.Statement.{statement}
 use Rattle.sheet.proofs.draw.Tie as tie
 
 draw-requires : tie.Need-draw-requires
-draw-requires c κs = let p = (c .before .before .before .before .before .before .before .before .before .before .pre) in (p .0, (p .1 .0, (search needs, (search needs, reaches-given (p .1 .1 .0)))))
+draw-requires c κs = let p = (c .before .before .before .before .before .before .before .before .before .before .pre) in (p .0, (p .1 .0, (search needs, (search needs, (reaches-given (p .1 .1 .0), search needs)))))
 
 same-length : tie.Need-same-length
 same-length c = search needs

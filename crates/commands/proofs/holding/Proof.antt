@@ -1,0 +1,62 @@
+-- `commands::holding` says of each disjunct of a condition whether it holds. The invariant: the flags of the first i disjuncts are set.
+use borrow.Author.Needs.{needs}
+use Prim.Native.Nat.{_-_}
+use Rattle.rules.specs.Conditions.{disjuncts}
+use Rattle.tables.specs.Tables.{tables}
+use Rattle.cache.specs.Areas.{catalogue}
+use Rattle.state.specs.Layout.{held}
+use Rattle.variable_map.specs.Mapping.{variables}
+use Rattle.decision_tracker.specs.Tracking.{decisions}
+use Rattle.goals.specs.Goals.{trueOf}
+use Rattle.commands.proofs.Drawing.{Judging, judging-start, judging-there, judging-step, judging-end}
+use Rattle.commands.proofs.holding.Statement.{statement}
+use Rattle.commands.proofs.holding.Tie as tie
+
+abbrev Inv-loop : tie.InvT-loop
+Inv-loop marks unions t k s l n c count flags₀ i₀ flags i = Judging (catalogue k marks unions t) (trueOf (variables (n .variables) (held l s)) (decisions (n .decisions) (held l s))) (disjuncts (tables k t .conditions) c) count i flags
+
+abbrev μ-loop : tie.MeasureT-loop
+μ-loop marks unions t k s l n c count flags₀ i₀ flags i = count - i
+
+count-requires : tie.Need-count-requires Inv-loop μ-loop
+count-requires c κs = search needs
+
+loop-holds : tie.Need-loop-holds Inv-loop μ-loop
+loop-holds c = search (needs, judging-start)
+
+disjunct-holds-requires : tie.Need-disjunct-holds-requires Inv-loop μ-loop
+disjunct-holds-requires c κs = (search needs, (search needs, (search needs, (search needs, search (needs, judging-there)))))
+
+flag-requires : tie.Need-flag-requires Inv-loop μ-loop
+flag-requires c κs = search needs
+
+array-write-flags : tie.Need-array-write-flags Inv-loop μ-loop
+array-write-flags c = search needs
+
+add-i : tie.Need-add-i Inv-loop μ-loop
+add-i c = search needs
+
+loop-less : tie.Need-loop-less Inv-loop μ-loop
+loop-less c = search needs
+
+loop-again : tie.Need-loop-again Inv-loop μ-loop
+loop-again c = search (needs, judging-step)
+
+returns : tie.Need-returns Inv-loop μ-loop
+returns c = search (needs, judging-end)
+
+pub holding-spec : {M : Type 1} → statement M
+holding-spec =
+    tie.close
+    (tie.spec
+    Inv-loop
+    μ-loop
+    count-requires
+    loop-holds
+    disjunct-holds-requires
+    flag-requires
+    array-write-flags
+    add-i
+    loop-less
+    loop-again
+    returns)
