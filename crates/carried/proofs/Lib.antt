@@ -1,3 +1,4 @@
 pub mod Starting
+pub mod Settling
 pub mod Records
 pub mod Sheets

@@ -36,7 +36,7 @@ use Rattle.commands.specs.declared.Outcome.{Outcome}
 use Rattle.commands.specs.declared.Outcome.the-variants as outcome
 use Rattle.sheet.specs.Sheet.{CommandDid}
 use Rattle.carried.specs.declared.Step.the-variants as Step
-use Rattle.carried.specs.Carrying.{endFrom, Passed, StepDid}
+use Rattle.carried.specs.Carrying.{endFrom, Settled, Idles, SettledDid, Passed, StepDid}
 
 -- ---- a sheet record has three bytes or more
 
@@ -92,36 +92,49 @@ module _ (l : Limits) (job : List ℕ) (at : ℕ) (h : at < length job) (c : Cat
         step : runStep t job at kind rest (carrying c s) ≡ carrying c s′
         step = unfold runStep afterRecord afterCommand in rw (e, q, d)
 
+-- ---- the code's command
+
+module _ {c : Catalogue} {flags : List ℕ} {l : Limits} {o : Command} {n : Counters} {st : ℕ → List ℕ} {cl wt : List ℕ} where
+  pub settled-passes : {b : Bool} → b ≡ true → Idles b o flags → SettledDid c flags l o n st cl wt (outcome.Carried n) st cl wt
+  settled-passes e d =
+      record {
+        carried = λ m q s g z h x. let y : m ≡ n = cc in rw y (record { state = s; is = d .is e c s x (limitsOf l); holds = h; runs = omega arith });
+        refused = λ f q. absurd (not-one (cc));
+      }
+
+  pub settled-carries : {r : Outcome} {st′ : ℕ → List ℕ} {cl′ wt′ : List ℕ} → CommandDid c l o n st cl wt r st′ cl′ wt′ → SettledDid c flags l o n st cl wt r st′ cl′ wt′
+  settled-carries d = record { carried = λ m e s g z h _. d .carried m e s g z h; refused = d .refused }
+
 -- ---- the code's record
 
-module _ {c : Catalogue} {l : Limits} {job : List ℕ} {at : ℕ} {n : Counters} {st : ℕ → List ℕ} {cl wt : List ℕ} {st′ : ℕ → List ℕ} {cl′ wt′ : List ℕ} where
+module _ {c : Catalogue} {flags : List ℕ} {l : Limits} {job : List ℕ} {at : ℕ} {n : Counters} {st : ℕ → List ℕ} {cl wt : List ℕ} {st′ : ℕ → List ℕ} {cl′ wt′ : List ℕ} where
   refuses : (f : Refusal)
       → ((s : State) → Given c → Reached (limitsOf l) c s → Holds c l s n st cl wt → (t : Terms) → t .limits ≡ limitsOf l
       → endFrom t job at (carrying c s) ≡ refused (numberAndPlace (length job) at (refusalOf f)))
-      → StepDid c l job at n st cl wt (Step.Refused f) st′ cl′ wt′
+      → StepDid c flags l job at n st cl wt (Step.Refused f) st′ cl′ wt′
   refuses f p =
       record {
-        next = λ a m e. absurd (not-one (cc));
+        next = λ a m o e. absurd (not-one (cc));
         refused = λ g e. let q : g ≡ f = cc in rw q p;
       }
 
-module _ {c : Catalogue} {l : Limits} (job : List ℕ) (at : ℕ) {n : Counters} {st : ℕ → List ℕ} {cl wt : List ℕ} (x : Record) (h : at < length job)
+module _ {c : Catalogue} {flags : List ℕ} {l : Limits} (job : List ℕ) (at : ℕ) {n : Counters} {st : ℕ → List ℕ} {cl wt : List ℕ} (x : Record) (h : at < length job)
     (e : resultOf x ≡ read true (getD job at 0) (drop (at + 1) job)) where
-  pub step-unread : (f : Refusal) → x ≡ R.Refused f → StepDid c l job at n st cl wt (Step.Refused f) st cl wt
+  pub step-unread : (f : Refusal) → x ≡ R.Refused f → StepDid c flags l job at n st cl wt (Step.Refused f) st cl wt
   unfolding resultOf
   step-unread f q = refuses f (λ s _ _ _ t p. unread l job at h c s t p (refusalOf f) (sym (rw q at e)))
 
   -- after a sheet record nothing is read as an item
-  pub step-item : (i : Item) (f : Refusal) → x ≡ R.Catalogue i → StepDid c l job at n st cl wt (Step.Refused f) st cl wt
+  pub step-item : (i : Item) (f : Refusal) → x ≡ R.Catalogue i → StepDid c flags l job at n st cl wt (Step.Refused f) st cl wt
   unfolding resultOf
   step-item i f q = absurd (no-item (getD job at 0) (drop (at + 1) job) (itemOf i) (sym (rw q at e)))
 
-  module _ (k : code.Command) (q : x ≡ R.Sheet k) {st′ : ℕ → List ℕ} {cl′ wt′ : List ℕ} {r : Outcome} (d : CommandDid c l (commandOf k) n st cl wt r st′ cl′ wt′) where
+  module _ (k : code.Command) (q : x ≡ R.Sheet k) {st′ : ℕ → List ℕ} {cl′ wt′ : List ℕ} {r : Outcome} (d : SettledDid c flags l (commandOf k) n st cl wt r st′ cl′ wt′) where
     is-read : read true (getD job at 0) (drop (at + 1) job) ≡ ok (sheet (commandOf k))
     unfolding resultOf
     is-read = sym (rw q at e)
 
-    pub step-refused : (f : Refusal) → r ≡ outcome.Refused f → StepDid c l job at n st cl wt (Step.Refused f) st′ cl′ wt′
+    pub step-refused : (f : Refusal) → r ≡ outcome.Refused f → StepDid c flags l job at n st cl wt (Step.Refused f) st′ cl′ wt′
     step-refused f y = refuses f (λ s g z o t p. not-carried l job at h c s t p (commandOf k) is-read (refusalOf f) (d .refused f y s g z o))
 
     behind : (next : ℕ) → next ≡ nextOf job at → next ≡ at + 1 + bodyOf (kindOf (getD job at 0))
@@ -135,21 +148,23 @@ module _ {c : Catalogue} {l : Limits} (job : List ℕ) (at : ℕ) {n : Counters}
         let z : next ≡ at + 1 + a .body = behind next u ∙ rw (a .found) in
         omega (arith, h)
 
-    pub step-carried : (next : ℕ) (m : Counters) → next ≡ nextOf job at → r ≡ outcome.Carried m → StepDid c l job at n st cl wt (Step.Next next m) st′ cl′ wt′
+    pub step-carried : (next : ℕ) (m : Counters) → next ≡ nextOf job at → r ≡ outcome.Carried m → StepDid c flags l job at n st cl wt (Step.Next next m k) st′ cl′ wt′
     step-carried next m u y =
         record {
-          next = λ a m′ v. let i : a ≡ next = cc in let j : m′ ≡ m = cc in rw (i, j) passed;
+          next = λ a m′ k′ v. let i : a ≡ next = cc in let j : m′ ≡ m = cc in let z : k′ ≡ k = cc in rw (i, j, z) passed;
           refused = λ f v. absurd (not-one (cc));
         }
       where
-        passed : (s : State) → Given c → Reached (limitsOf l) c s → Holds c l s n st cl wt → Passed c l job at next s n m st′ cl′ wt′
-        passed s g z o =
-            let x = d .carried m y s g z o in
+        passed : (s : State) → Given c → Reached (limitsOf l) c s → Holds c l s n st cl wt → Settled c flags s
+            → Passed c l job at next (commandOf k) s n m st′ cl′ wt′
+        passed s g z o b =
+            let x = d .carried m y s g z o b in
             record {
               onward = omega (arith, behind next u, sheet-body (getD job at 0) (drop (at + 1) job) (commandOf k) is-read);
               inside = whole next u;
               runs = x .runs;
               state = x .state;
+              is = x .is;
               reached = then-reached z (commandOf k) (x .is);
               holds = x .holds;
               alike = λ t p. goes-on l job at h c s t p (commandOf k) is-read (x .state) next (behind next u) (x .is);

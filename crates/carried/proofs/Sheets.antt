@@ -6,7 +6,7 @@ use mathlib.Core.Option.{Option, none, some}
 use Prim.Native.Nat.{ℕ, _+_, _-_, _*_, _<_, _≤_}
 use native.Mathlib.Omega.{arith}
 use native.Mathlib.Decide.{decLt}
-use lib.ListN.{length, getD, drop}
+use lib.ListN.{length, getD, drop, replicate, length-replicate}
 use Rattle.rules.specs.Catalogue.{Catalogue}
 use Rattle.rules.specs.Records.{Kind, kindOf, ofSheet, read}
 use Rattle.rules.specs.State.{State, start}
@@ -16,6 +16,8 @@ use Rattle.rules.proofs.KindTable.{not-one}
 use Rattle.rules.proofs.WalkLaws.{walk-record, walk-end}
 use Rattle.rules.proofs.Reached.{Given, Reached}
 use Rattle.refusal.specs.declared.Refusal.{Refusal}
+use Rattle.reader.specs.declared.Command as code
+use Rattle.reader.specs.Reading.{commandOf}
 use Rattle.tables.specs.declared.Counts.{Counts}
 use Rattle.cache.specs.Areas.{catalogue}
 use Rattle.catalogue.specs.Walking.{UpToSheet}
@@ -29,7 +31,8 @@ use Rattle.sheet.proofs.Held.{held-runs}
 use Rattle.carried.specs.declared.Step.{Step}
 use Rattle.carried.specs.declared.Step.the-variants as Step
 use Rattle.carried.specs.declared.Sheet.the-variants as Sheet
-use Rattle.carried.specs.Carrying.{endFrom, StepDid, Came, SheetDid}
+use Rattle.carried.specs.Carrying.{endFrom, Settled, Notes, StepDid, Came, SheetDid}
+use Rattle.carried.proofs.Settling.{settled-none}
 
 -- ---- the first record
 
@@ -57,31 +60,36 @@ module _ (job : List ℕ) (from : ℕ) (c : Catalogue) (starts : from < length j
 -- ---- the loop
 
 -- the records before `at` were carried out; a run takes three bytes or more
-pub record Left (c : Catalogue) (l : Limits) (job : List ℕ) (from : ℕ) (s₀ cl₀ wt₀ : List ℕ) (at : ℕ) (m : Counters) (s cl wt : List ℕ) : Type 0 where
+pub record Left (c : Catalogue) (l : Limits) (job : List ℕ) (from : ℕ) (s₀ cl₀ wt₀ : List ℕ) (flags : List ℕ) (at : ℕ) (m : Counters) (s cl wt : List ℕ) : Type 0 where
   pub state-same : length s ≡ length s₀
   pub clauses-same : length cl ≡ length cl₀
   pub waiting-same : length wt ≡ length wt₀
+  pub flags-long : length flags ≡ 256
   pub few : 3 * m .runs ≤ at
   pub state : State
   pub reached : Reached (limitsOf l) c state
   pub holds : Holds c l state m (held l s) cl wt
+  pub settled : Settled c flags state
   pub alike : (t : Terms) → t .limits ≡ limitsOf l → endFrom t job from (reading c) ≡ endFrom t job at (carrying c state)
 
-pub left-start : (k : Counts) (u v w : List ℕ) (l : Limits) (job : List ℕ) (from : ℕ) (n : Counters) (s cl wt : List ℕ) → UpToSheet job from k u v w
-    → Holds (catalogue k u v w) l start n (held l s) cl wt → Left (catalogue k u v w) l job from s cl wt from n s cl wt
-left-start k u v w l job from n s cl wt y h =
+pub left-start : (k : Counts) (u v w : List ℕ) (l : Limits) (job : List ℕ) (from : ℕ) (n : Counters) (s cl wt flags : List ℕ) → UpToSheet job from k u v w
+    → Holds (catalogue k u v w) l start n (held l s) cl wt → flags ≡ replicate 256 0 → Left (catalogue k u v w) l job from s cl wt flags from n s cl wt
+left-start k u v w l job from n s cl wt flags y h z =
     record {
       state-same = refl;
       clauses-same = refl;
       waiting-same = refl;
+      flags-long = ap length z ∙ length-replicate {A = ℕ} 256 0;
       few = omega (arith, held-runs h);
       state = start;
       reached = Reached.begun;
       holds = h;
+      settled = rw z (settled-none (catalogue k u v w) 256 start);
       alike = λ t _. begins-alike job from (catalogue k u v w) (y .starts) t;
     }
 
-module _ {c : Catalogue} {l : Limits} {job : List ℕ} {from : ℕ} {s₀ cl₀ wt₀ : List ℕ} {at : ℕ} {m : Counters} {s cl wt : List ℕ} (x : Left c l job from s₀ cl₀ wt₀ at m s cl wt) where
+module _ {c : Catalogue} {l : Limits} {job : List ℕ} {from : ℕ} {s₀ cl₀ wt₀ flags : List ℕ} {at : ℕ} {m : Counters} {s cl wt : List ℕ}
+    (x : Left c l job from s₀ cl₀ wt₀ flags at m s cl wt) where
   pub left-fits : Fits l (length s₀) → Fits l (length s)
   left-fits f = rw (x .state-same) f
 
@@ -94,24 +102,26 @@ module _ {c : Catalogue} {l : Limits} {job : List ℕ} {from : ℕ} {s₀ cl₀ 
   pub left-few : at < length job → length job ≤ 65536 → m .runs < 65535
   left-few h k = omega (arith, x .few)
 
-  module _ {r : Step} (s′ : List ℕ) {cl′ wt′ : List ℕ} (g : Given c) (d : StepDid c l job at m (held l s) cl wt r (held l s′) cl′ wt′) where
-    pub left-next : (a : ℕ) (m′ : Counters) → r ≡ Step.Next a m′ → length s′ ≡ length s → length cl′ ≡ length cl → length wt′ ≡ length wt
-        → Left c l job from s₀ cl₀ wt₀ a m′ s′ cl′ wt′
-    left-next a m′ e p q v =
-        let y = d .next a m′ e (x .state) g (x .reached) (x .holds) in
+  module _ {r : Step} (s′ : List ℕ) {cl′ wt′ : List ℕ} (g : Given c) (d : StepDid c flags l job at m (held l s) cl wt r (held l s′) cl′ wt′) where
+    pub left-next : (a : ℕ) (m′ : Counters) (o : code.Command) {flags′ : List ℕ} → r ≡ Step.Next a m′ o → Notes (commandOf o) flags flags′
+        → length s′ ≡ length s → length cl′ ≡ length cl → length wt′ ≡ length wt → length flags′ ≡ length flags → Left c l job from s₀ cl₀ wt₀ flags′ a m′ s′ cl′ wt′
+    left-next a m′ o e b p q v w =
+        let y = d .next a m′ o e (x .state) g (x .reached) (x .holds) (x .settled) in
         record {
           state-same = p ∙ x .state-same;
           clauses-same = q ∙ x .clauses-same;
           waiting-same = v ∙ x .waiting-same;
+          flags-long = w ∙ x .flags-long;
           few = omega (arith, x .few, y .runs, y .onward);
           state = y .state;
           reached = y .reached;
           holds = y .holds;
+          settled = b .is (limitsOf l) c (x .state) (y .state) (y .is) (x .settled);
           alike = λ t z. x .alike t z ∙ y .alike t z;
         }
 
-    pub left-less : (a : ℕ) (m′ : Counters) → r ≡ Step.Next a m′ → at < length job → length job - a < length job - at
-    left-less a m′ e h = let y = d .next a m′ e (x .state) g (x .reached) (x .holds) in omega (arith, y .onward)
+    pub left-less : (a : ℕ) (m′ : Counters) (o : code.Command) → r ≡ Step.Next a m′ o → at < length job → length job - a < length job - at
+    left-less a m′ o e h = let y = d .next a m′ o e (x .state) g (x .reached) (x .holds) (x .settled) in omega (arith, y .onward)
 
     pub left-refused : (f : Refusal) → r ≡ Step.Refused f → SheetDid c l job from (Sheet.Refused f at) (held l s′) cl′ wt′
     left-refused f e =

@@ -1,20 +1,31 @@
 -- A job's state at the start, and its sheet carried out record by record.
 use mathlib.Core.Path.{_≡_}
+use mathlib.Core.Bool.{Bool, true}
 use mathlib.Core.List.{List}
-use Prim.Native.Nat.{ℕ, _+_, _≤_}
+use Prim.Native.Nat.{ℕ, _+_, _<_, _≤_}
 use lib.ListN.{length, drop}
 use Rattle.rules.specs.Catalogue.{Catalogue}
-use Rattle.rules.specs.Refusals.{numberAndPlace}
-use Rattle.rules.specs.State.{State, start}
+use Rattle.rules.specs.Refusals.{ok, refuse, numberAndPlace}
+use Rattle.rules.specs.Records.{Command}
+use Rattle.rules.specs.State.{State, start, decidedTrue}
 use Rattle.rules.specs.Limits.{Terms}
+use Rattle.rules.specs.Limits as rules
+use Rattle.rules.specs.Sheet.{carryOut}
 use Rattle.rules.specs.Job.{Progress, reading, carrying, walk, runStep, Outcome, refused, ended}
 use Rattle.rules.proofs.Reached.{Given, Reached}
 use Rattle.refusal.specs.declared.Refusal.{Refusal}
 use Rattle.refusal.specs.Refusing.{refusalOf}
+use Rattle.reader.specs.declared.Command as code
+use Rattle.reader.specs.Reading.{commandOf}
 use Rattle.state.specs.declared.Limits.{Limits}
+use Rattle.entries.specs.Deferred.{isHeld}
 use Rattle.encoder.specs.declared.Counters.{Counters}
 use Rattle.encoder.specs.Did.{limitsOf}
 use Rattle.encoding.specs.Running.{Holds}
+use Rattle.commands.specs.declared.Outcome as commands
+use Rattle.commands.specs.declared.Outcome.the-variants as outcome
+use Rattle.commands.specs.Commands.{Idle}
+use Rattle.sheet.specs.Sheet.{Gives}
 use Rattle.carried.specs.declared.Step.{Step}
 use Rattle.carried.specs.declared.Step.the-variants as Step
 use Rattle.carried.specs.declared.Sheet.{Sheet}
@@ -28,23 +39,47 @@ pub record Started (l : Limits) (n : Counters) (st : ℕ → List ℕ) (cl : Lis
 unfoldable pub endFrom : Terms → (job : List ℕ) → (at : ℕ) → Progress → Outcome
 endFrom t job at p = ended t job (walk (runStep t job) 0 at (drop at job) p)
 
+-- ---- draws that change nothing
+
+-- nothing of a condition that is flagged is to be drawn
+pub record Settled (c : Catalogue) (flags : List ℕ) (s : State) : Type 0 where
+  pub given : (k : ℕ) → isHeld flags k ≡ true → k < length (c .conditions)
+  pub idle : (k : ℕ) → isHeld flags k ≡ true → Idle c (decidedTrue s) k (s .opening)
+
+-- b says that the command changes nothing where nothing of the flagged conditions is to be drawn
+pub record Idles (b : Bool) (o : Command) (flags : List ℕ) : Type 0 where
+  pub is : b ≡ true → (c : Catalogue) (s : State) → Settled c flags s → (l : rules.Limits) → carryOut l c o s ≡ ok s
+
+-- after the command these are flags of that kind
+pub record Notes (o : Command) (flags flags′ : List ℕ) : Type 0 where
+  pub is : (l : rules.Limits) (c : Catalogue) (s s′ : State) → carryOut l c o s ≡ ok s′ → Settled c flags s → Settled c flags′ s′
+
+-- the command was carried out or refused, where nothing of the flagged conditions was to be drawn
+pub record SettledDid (c : Catalogue) (flags : List ℕ) (l : Limits) (o : Command) (n : Counters) (st : ℕ → List ℕ) (cl wt : List ℕ)
+    (r : commands.Outcome) (st′ : ℕ → List ℕ) (cl′ wt′ : List ℕ) : Type 0 where
+  pub carried : (m : Counters) → r ≡ outcome.Carried m → (s : State) → Given c → Reached (limitsOf l) c s → Holds c l s n st cl wt → Settled c flags s
+      → Gives c l o s n m st′ cl′ wt′
+  pub refused : (f : Refusal) → r ≡ outcome.Refused f → (s : State) → Given c → Reached (limitsOf l) c s → Holds c l s n st cl wt
+      → carryOut (limitsOf l) c o s ≡ refuse (refusalOf f)
+
 -- ---- a record
 
--- the record at `at` was carried out in state s, and `next` is past it
-pub record Passed (c : Catalogue) (l : Limits) (job : List ℕ) (at next : ℕ) (s : State) (n m : Counters) (st′ : ℕ → List ℕ) (cl′ wt′ : List ℕ) : Type 0 where
+-- the record at `at` was the command o, carried out in state s, and `next` is past it
+pub record Passed (c : Catalogue) (l : Limits) (job : List ℕ) (at next : ℕ) (o : Command) (s : State) (n m : Counters) (st′ : ℕ → List ℕ) (cl′ wt′ : List ℕ) : Type 0 where
   pub onward : at + 3 ≤ next
   pub inside : next ≤ length job
   pub runs : m .runs ≤ n .runs + 1
   pub state : State
+  pub is : carryOut (limitsOf l) c o s ≡ ok state
   pub reached : Reached (limitsOf l) c state
   pub holds : Holds c l state m st′ cl′ wt′
   pub alike : (t : Terms) → t .limits ≡ limitsOf l → endFrom t job at (carrying c s) ≡ endFrom t job next (carrying c state)
 
--- it was carried out or refused
-pub record StepDid (c : Catalogue) (l : Limits) (job : List ℕ) (at : ℕ) (n : Counters) (st : ℕ → List ℕ) (cl wt : List ℕ)
+-- it was carried out or refused, where nothing of the flagged conditions was to be drawn
+pub record StepDid (c : Catalogue) (flags : List ℕ) (l : Limits) (job : List ℕ) (at : ℕ) (n : Counters) (st : ℕ → List ℕ) (cl wt : List ℕ)
     (r : Step) (st′ : ℕ → List ℕ) (cl′ wt′ : List ℕ) : Type 0 where
-  pub next : (a : ℕ) (m : Counters) → r ≡ Step.Next a m → (s : State) → Given c → Reached (limitsOf l) c s → Holds c l s n st cl wt
-      → Passed c l job at a s n m st′ cl′ wt′
+  pub next : (a : ℕ) (m : Counters) (o : code.Command) → r ≡ Step.Next a m o → (s : State) → Given c → Reached (limitsOf l) c s → Holds c l s n st cl wt
+      → Settled c flags s → Passed c l job at a (commandOf o) s n m st′ cl′ wt′
   pub refused : (f : Refusal) → r ≡ Step.Refused f → (s : State) → Given c → Reached (limitsOf l) c s → Holds c l s n st cl wt
       → (t : Terms) → t .limits ≡ limitsOf l → endFrom t job at (carrying c s) ≡ refused (numberAndPlace (length job) at (refusalOf f))
 

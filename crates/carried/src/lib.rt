@@ -1,6 +1,7 @@
 // A sheet carried out, from the encoder's state at the start.
 use commands::Outcome;
 use encoder::Counters;
+use reader::Command;
 use reader::Record;
 use refusal::Refusal;
 use solver::Stored;
@@ -8,16 +9,17 @@ use state::Limits;
 use tables::Counts;
 ghost use mathlib.Core.Path.{_≡_};
 ghost use Prim.Native.Nat.{_*_, _<_, _≤_};
-ghost use lib.ListN.{length, replicate};
+ghost use lib.ListN.{length, set, replicate};
 ghost use Rattle.rules.specs.State as rules;
 ghost use Rattle.rules.proofs.Reached.{Given};
 ghost use Rattle.cache.specs.Areas.{catalogue};
 ghost use Rattle.catalogue.specs.Walking.{UpToSheet};
+ghost use Rattle.reader.specs.Reading.{commandOf};
 ghost use Rattle.state.specs.Layout.{held, Fits};
 ghost use Rattle.encoder.specs.Held.{LongEnough};
 ghost use Rattle.goals.specs.Goals.{Catalogued};
 ghost use Rattle.encoding.specs.Running.{Holds, Reaches};
-ghost use Rattle.carried.specs.Carrying.{Started, StepDid, SheetDid};
+ghost use Rattle.carried.specs.Carrying.{Started, Idles, Notes, SettledDid, StepDid, SheetDid};
 
 // Variable 0 is the root; clause 0, install, is stored at the start. The state area is zero.
 pub fn start(s: &mut [u8], clauses: &mut [u8], l: Limits) -> Counters
@@ -64,15 +66,82 @@ pub enum Sheet {
     Refused { refusal: Refusal, at: usize },
 }
 
+// ---- draws that change nothing
+
+// Is the command a draw of a condition that is flagged?
+fn is_settled(settled: &[u8], command: Command) -> bool
+    ensures { λ b. ⌜ Idles b (commandOf command) (now (settled .entry)) ⌝ }
+{
+    match command {
+        Command::Draw(c) => commands::is_set(settled, c as usize),
+        _ => false,
+    }
+}
+
+// Flag i is set, if there is one.
+fn set_flag(flags: &mut [u8], i: usize)
+    ensures { λ _. ⌜ now (flags .exit) ≡ set (now (flags .entry)) i 1 ⌝ }
+{
+    if i < flags.len() {
+        flags[i] = 1;
+    }
+}
+
+// The flags after a command that was carried out. A draw leaves nothing of its condition to be drawn, and adding an owner changes nothing of it;
+// after any other command something of each condition may be.
+fn note(settled: &mut [u8], command: Command)
+    ensures { λ _. ⌜ Notes (commandOf command) (now (settled .entry)) (now (settled .exit)) ⌝ }
+{
+    match command {
+        Command::Add(_) => {}
+        Command::Draw(c) => set_flag(settled, c as usize),
+        _ => words::clear(settled),
+    }
+}
+
+// A command is carried out; a draw that changes nothing is passed over.
+fn carry_command(
+    settled: &[u8],
+    marks: &[u8],
+    unions: &[u8],
+    t: &[u8],
+    k: Counts,
+    s: &mut [u8],
+    clauses: &mut [u8],
+    w: &mut [u8],
+    l: Limits,
+    n: Counters,
+    command: Command,
+) -> Outcome
+    requires { ⌜ Catalogued k (now marks) (now unions) (now t) ⌝ }
+    requires { ⌜ Fits l (length (now s)) ⌝ }
+    requires { ⌜ Reaches (catalogue k (now marks) (now unions) (now t)) l n (held l (now s)) (now clauses) (now w) ⌝ }
+    requires { ⌜ LongEnough l (length (now clauses)) (length (now w)) × (n .runs < 65535) ⌝ }
+    ensures { λ r. ⌜ SettledDid (catalogue k (now (marks .entry)) (now (unions .entry)) (now (t .entry))) (now (settled .entry)) l (commandOf command) n (held l (now (s .entry))) (now (clauses .entry)) (now (w .entry)) r (held l (now (s .exit))) (now (clauses .exit)) (now (w .exit)) ⌝ }
+{
+    if is_settled(settled, command) {
+        return Outcome::Carried(n);
+    }
+    sheet::carry_out(marks, unions, t, k, s, clauses, w, l, n, command)
+}
+
+// ---- the records
+
 // What a record comes to.
 pub enum Step {
-    Next { at: usize, counters: Counters },
+    Next {
+        at: usize,
+        counters: Counters,
+        command: Command,
+    },
     Refused(Refusal),
 }
 
+// The command at `at` is read and carried out. `settled` flags conditions of which nothing is to be drawn.
 fn carry_record(
     job: &[u8],
     at: usize,
+    settled: &[u8],
     marks: &[u8],
     unions: &[u8],
     t: &[u8],
@@ -88,15 +157,19 @@ fn carry_record(
     requires { ⌜ Fits l (length (now s)) ⌝ }
     requires { ⌜ Reaches (catalogue k (now marks) (now unions) (now t)) l n (held l (now s)) (now clauses) (now w) ⌝ }
     requires { ⌜ LongEnough l (length (now clauses)) (length (now w)) × (n .runs < 65535) ⌝ }
-    ensures { λ r. ⌜ StepDid (catalogue k (now (marks .entry)) (now (unions .entry)) (now (t .entry))) l (now (job .entry)) at n (held l (now (s .entry))) (now (clauses .entry)) (now (w .entry)) r (held l (now (s .exit))) (now (clauses .exit)) (now (w .exit)) ⌝ }
+    ensures { λ r. ⌜ StepDid (catalogue k (now (marks .entry)) (now (unions .entry)) (now (t .entry))) (now (settled .entry)) l (now (job .entry)) at n (held l (now (s .entry))) (now (clauses .entry)) (now (w .entry)) r (held l (now (s .exit))) (now (clauses .exit)) (now (w .exit)) ⌝ }
 {
     let next = reader::next_at(job, at);
     match reader::record_at(job, at, true) {
         Record::Refused(refusal) => Step::Refused(refusal),
         Record::Catalogue(_) => Step::Refused(Refusal::OutOfPlace),
         Record::Sheet(command) => {
-            match sheet::carry_out(marks, unions, t, k, s, clauses, w, l, n, command) {
-                Outcome::Carried(counters) => Step::Next { at: next, counters },
+            match carry_command(settled, marks, unions, t, k, s, clauses, w, l, n, command) {
+                Outcome::Carried(counters) => Step::Next {
+                    at: next,
+                    counters,
+                    command,
+                },
                 Outcome::Refused(refusal) => Step::Refused(refusal),
             }
         }
@@ -126,11 +199,17 @@ pub fn carry_sheet(
     requires { ⌜ Holds (catalogue k (now marks) (now unions) (now t)) l rules.start n (held l (now s)) (now clauses) (now w) ⌝ }
     ensures { λ r. ⌜ SheetDid (catalogue k (now (marks .entry)) (now (unions .entry)) (now (t .entry))) l (now (job .entry)) from r (held l (now (s .exit))) (now (clauses .exit)) (now (w .exit)) ⌝ }
 {
+    let mut settled = [0u8; 256];
     let mut at = from;
     let mut m = n;
     while at < job.len() {
-        match carry_record(job, at, marks, unions, t, k, s, clauses, w, l, m) {
-            Step::Next { at: next, counters } => {
+        match carry_record(job, at, &settled, marks, unions, t, k, s, clauses, w, l, m) {
+            Step::Next {
+                at: next,
+                counters,
+                command,
+            } => {
+                note(&mut settled, command);
                 at = next;
                 m = counters;
             }

@@ -123,8 +123,8 @@ fn none_set(flags: &[u8]) -> bool
     true
 }
 
-// Is disjunct i flagged?
-fn is_set(flags: &[u8], i: usize) -> bool
+// Is flag i set? Past the flags none is.
+pub fn is_set(flags: &[u8], i: usize) -> bool
     ensures { λ b. ⌜ b ≡ isHeld (now (flags .entry)) i ⌝ }
 {
     if i < flags.len() {

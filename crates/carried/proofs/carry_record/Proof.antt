@@ -19,8 +19,8 @@ enum-told c = search needs
 enum-known-command : tie.Need-enum-known-command
 enum-known-command c = search needs
 
-carry-out-requires : tie.Need-carry-out-requires
-carry-out-requires c κs = search needs
+carry-command-requires : tie.Need-carry-command-requires
+carry-command-requires c κs = search needs
 
 enum-known-counters : tie.Need-enum-known-counters
 enum-known-counters c = search needs
@@ -44,7 +44,7 @@ same-length-3 : tie.Need-same-length-3
 same-length-3 c = search needs
 
 returns-3 : tie.Need-returns-3
-returns-3 c = step-carried _ _ _ (c .before .before .before .before .before .before .before .before .before .before .before .before .before .before .before .before .before .before .before .before .before .before .before .before .before .pre .0 .0) (c .before .before .before .before .before .before .before .before .before .before .before .before .before .before .before .before .record-at .ensures) _ (search needs) (c .before .before .before .before .before .before .before .before .before .carry-out .ensures) _ _ (c .before .before .before .before .before .before .before .before .before .before .before .before .before .before .before .before .before .next-at .ensures) (search needs)
+returns-3 c = step-carried _ _ _ (c .before .before .before .before .before .before .before .before .before .before .before .before .before .before .before .before .before .before .before .before .before .before .before .before .before .before .pre .0 .0) (c .before .before .before .before .before .before .before .before .before .before .before .before .before .before .before .before .record-at .ensures) _ (search needs) (c .before .before .before .before .before .before .before .before .before .carry-command .ensures) _ _ (c .before .before .before .before .before .before .before .before .before .before .before .before .before .before .before .before .before .next-at .ensures) (search needs)
 
 same-length-4 : tie.Need-same-length-4
 same-length-4 c = search needs
@@ -56,7 +56,7 @@ same-length-6 : tie.Need-same-length-6
 same-length-6 c = search needs
 
 returns-4 : tie.Need-returns-4
-returns-4 c = search (needs, step-refused)
+returns-4 c = step-refused _ _ _ (c .before .before .before .before .before .before .before .before .before .before .before .before .before .before .before .before .before .before .before .before .before .before .before .before .before .before .pre .0 .0) (c .before .before .before .before .before .before .before .before .before .before .before .before .before .before .before .before .record-at .ensures) _ (search needs) (c .before .before .before .before .before .before .before .before .before .carry-command .ensures) _ (search needs)
 
 pub carry-record-spec : {M : Type 1} → statement M
 carry-record-spec =
@@ -67,7 +67,7 @@ carry-record-spec =
     enum-known-refusal
     enum-told
     enum-known-command
-    carry-out-requires
+    carry-command-requires
     enum-known-counters
     enum-known-refusal-2
     returns

@@ -1,0 +1,38 @@
+-- `carried::carry_command` carries a command out or refuses it; a draw that changes nothing it passes over.
+use borrow.Author.Needs.{needs}
+use Rattle.carried.proofs.Records.{settled-passes, settled-carries}
+use Rattle.carried.proofs.carry_command.Statement.{statement}
+use Rattle.carried.proofs.carry_command.Tie as tie
+
+is-settled-requires : tie.Need-is-settled-requires
+is-settled-requires c κs = search needs
+
+returns : tie.Need-returns
+returns c = search (needs, settled-passes)
+
+carry-out-requires : tie.Need-carry-out-requires
+carry-out-requires c κs = search needs
+
+same-length : tie.Need-same-length
+same-length c = search needs
+
+same-length-2 : tie.Need-same-length-2
+same-length-2 c = search needs
+
+same-length-3 : tie.Need-same-length-3
+same-length-3 c = search needs
+
+returns-2 : tie.Need-returns-2
+returns-2 c = search (needs, settled-carries)
+
+pub carry-command-spec : {M : Type 1} → statement M
+carry-command-spec =
+    tie.close
+    (tie.spec
+    is-settled-requires
+    returns
+    carry-out-requires
+    same-length
+    same-length-2
+    same-length-3
+    returns-2)
