@@ -48,7 +48,10 @@ pub fn word(out: &mut [u8], room: usize, at: usize, bytes: &[u8]) -> usize
 fn free(room: usize, at: usize) -> usize
     ensures { λ r. ⌜ r ≡ room - at ⌝ }
 {
-    if at < room { room - at } else { 0 }
+    if room < at {
+        return 0;
+    }
+    room - at
 }
 
 // How many digits a number has.
