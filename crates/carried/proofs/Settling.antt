@@ -2,12 +2,12 @@
 use mathlib.Core.Path.{_≡_, sym, _∙_}
 use mathlib.Core.Bool.{Bool, true, false, not, true≢false}
 use mathlib.Core.List.{List}
-use Prim.Native.Nat.{ℕ, _<_, _≤_}
+use Prim.Native.Nat.{ℕ, _<_}
 use native.Mathlib.Omega.{arith}
 use native.Mathlib.Decide.{decLt}
 use lib.Dec.{eqb}
-use lib.ListN.{length, getD, set, replicate, getD-replicate, length-replicate, List·getD-eq-default}
-use lib.Seq.{set-out, getD-set-other}
+use lib.ListN.{length, getD, set, replicate}
+use lib.Seq.{getD-set-other}
 use borrow.Author.Tests.{eqb-true, eqb-false, le-leb, lt-leb}
 use Rattle.rules.specs.Catalogue.{Catalogue}
 use Rattle.rules.specs.Refusals.{Refusal, ok, refuse, unlessAny}
@@ -25,6 +25,7 @@ use Rattle.reader.specs.declared.Command.the-variants as C
 use Rattle.reader.specs.Reading.{commandOf}
 use Rattle.entries.specs.Deferred.{isFree, isHeld}
 use Rattle.entries.proofs.Places.{is-free}
+use Rattle.commands.proofs.Judging.{zeros}
 use Rattle.commands.proofs.Idling.{idle-draw, idle-after, idle-kept}
 use Rattle.carried.specs.Carrying.{Settled, Idles, Notes}
 
@@ -67,18 +68,12 @@ module _ (l : rules.Limits) (c : Catalogue) (s : State) where
         before j q e = unfold isHeld isFree in rw (getD-set-other flags k j 1 0 (eqb-false j k q)) at e
 
 -- no flag is set
-zeros : (n k : ℕ) → _≡_ {A = ℕ} (getD (replicate n 0) k 0) 0
-zeros n k = elim (decLt k n) [ yes h ↦ getD-replicate n k 0 0 h | no h ↦ List·getD-eq-default (replicate n 0) 0 (omega (arith, length-replicate {A = ℕ} n 0)) ]
-
 pub settled-none : (c : Catalogue) (n : ℕ) (s : State) → Settled c (replicate n 0) s
 unfolding isHeld
 settled-none c n s = record { given = λ k e. absurd (unset k e); idle = λ k e. absurd (unset k e) }
   where
     unset : (k : ℕ) → not (isFree (replicate n 0) k) ≡ true → ⊥
     unset k e = true≢false (sym e ∙ rw (is-free (replicate n 0) k (zeros n k)))
-
-pub set-past : (flags : List ℕ) (i x : ℕ) → length flags ≤ i → flags ≡ set flags i x
-set-past flags i x h = sym (set-out flags i x h)
 
 -- ---- the code's command
 

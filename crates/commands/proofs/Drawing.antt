@@ -8,12 +8,11 @@ use native.Mathlib.Omega.{arith}
 use native.Mathlib.Decide.{decLt}
 use lib.Dec.{eqb}
 use lib.ListN.{length, getD, set, length-set, List·getD-eq-default}
-use lib.Seq.{getD-set-same, getD-set-other}
-use borrow.Author.Tests.{eqb-true, eqb-false, eq-eqb, ne-eqb, le-leb, lt-leb}
+use borrow.Author.Tests.{eqb-true, eq-eqb, ne-eqb, le-leb, lt-leb}
 use Rattle.rules.specs.Lists.{any}
 use Rattle.rules.specs.Catalogue as rules
 use Rattle.rules.specs.Catalogue.{Catalogue, noRequirement, conditionAt}
-use Rattle.rules.specs.Conditions.{Disjunct, isCondition, disjuncts, disjunctsIf, disjunctsOf, disjunctAt}
+use Rattle.rules.specs.Conditions.{isCondition, disjuncts, disjunctsIf, disjunctsOf, disjunctAt}
 use Rattle.rules.specs.Records.{Command}
 use Rattle.rules.specs.Refusals.{ok, refuse, unlessAny}
 use Rattle.rules.specs.Items.{conditionOf, given, absent}
@@ -31,7 +30,6 @@ use Rattle.requirement.specs.Requirements.{requirementIs}
 use Rattle.tables.specs.declared.Counts.{Counts}
 use Rattle.tables.specs.Tables.{tables}
 use Rattle.cache.specs.Areas.{catalogue}
-use Rattle.conditions.specs.Sizes.{Counted}
 use Rattle.cache.proofs.Laws.{requirement-held, conditions-same}
 use Rattle.state.specs.declared.Limits.{Limits}
 use Rattle.state.proofs.Changed.{changed-none}
@@ -49,49 +47,6 @@ use Rattle.encoder.proofs.Frames.{good-kept}
 use Rattle.goals.specs.Goals.{trueOf, AllGiven}
 use Rattle.commands.specs.Commands.{Judged, NoneSet, isFlagged, Idle, Draws}
 use Rattle.commands.proofs.Idling.{idle-draw}
-
--- ---- one disjunct: does it hold?
-
-pub flag-held : (b : Bool) → b ≡ true → 1 ≡ flagOf b
-unfolding flagOf
-flag-held b e = rw e
-
-pub flag-free : (b : Bool) → b ≡ false → 0 ≡ flagOf b
-unfolding flagOf
-flag-free b e = rw e
-
-flag-is : (b : Bool) (x : ℕ) → x ≡ flagOf b → not (eqb x 0) ≡ b
-unfolding flagOf
-flag-is true x e = rw e
-flag-is false x e = rw e
-
--- those of the first i disjuncts
-pub record Judging (c : Catalogue) (f : ℕ → Bool) (ds : List Disjunct) (n i : ℕ) (flags : List ℕ) : Type 0 where
-  pub count : length flags ≡ 64
-  pub few : n ≤ 64
-  pub all : n ≡ length ds
-  pub passed : i ≤ n
-  pub judged : (j : ℕ) → j < i → isHeld flags j ≡ holdsNow c f (getD ds j [])
-
-pub judging-start : {c : Catalogue} {f : ℕ → Bool} {cs : List rules.Condition} {k n : ℕ} {flags : List ℕ} → length flags ≡ 64 → Counted cs k n
-    → Judging c f (disjuncts cs k) n 0 flags
-judging-start e h = record { count = e; few = h .most; all = h .is; passed = zero-le; judged = λ j q. let no : ⊥ = omega arith in absurd no }
-
-module _ {c : Catalogue} {f : ℕ → Bool} {ds : List Disjunct} {n i : ℕ} {flags : List ℕ} (r : Judging c f ds n i flags) where
-  pub judging-there : i < n → i < length ds
-  judging-there h = omega (arith, r .all)
-
-  pub judging-step : {b : Bool} {x : ℕ} → i < n → b ≡ holdsNow c f (getD ds i []) → x ≡ flagOf b → Judging c f ds n (i + 1) (set flags i x)
-  unfolding isHeld isFree
-  judging-step {b} {x} h t e =
-      record { count = length-set flags i x ∙ r .count; few = r .few; all = r .all; passed = omega arith; judged = λ j m. by-place j (eqb j i) refl m }
-    where
-      by-place : (j : ℕ) (z : Bool) → eqb j i ≡ z → j < i + 1 → not (eqb (getD (set flags i x) j 0) 0) ≡ holdsNow c f (getD ds j [])
-      by-place j true q m = rw (eqb-true j i q, getD-set-same flags i x 0 (omega (arith, r .count, r .few))) (flag-is b x e ∙ t)
-      by-place j false q m = rw (getD-set-other flags i j x 0 (eqb-false j i q)) (r .judged j (omega (arith, eqb-false j i q)))
-
-  pub judging-end : n ≤ i → Judged c f ds flags
-  judging-end h = record { is = λ j q. r .judged j (omega (arith, r .all)) }
 
 -- ---- is no flag set?
 

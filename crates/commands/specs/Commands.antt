@@ -1,13 +1,14 @@
 -- What a command does to the state that the areas hold, or its refusal.
 use mathlib.Core.Path.{_≡_}
-use mathlib.Core.Bool.{Bool, true, false, _&&_}
+use mathlib.Core.Bool.{Bool, true, false, _&&_, cond}
 use mathlib.Core.List.{List, []}
 use mathlib.Core.Option.{none}
 use Prim.Native.Nat.{ℕ, _<_}
 use lib.ListN.{length, getD}
-use Rattle.rules.specs.Lists.{snoc, when}
+use Rattle.rules.specs.Lists.{any, snoc, when}
 use Rattle.rules.specs.Literal.{Literal}
 use Rattle.rules.specs.Catalogue.{Requirement, Catalogue, noRequirement}
+use Rattle.rules.specs.Candidates.{matching}
 use Rattle.rules.specs.Conditions.{Disjunct, isCondition}
 use Rattle.rules.specs.Refusals.{ok, refuse}
 use Rattle.rules.specs.Records.{Command}
@@ -42,6 +43,19 @@ pub record Changes (l : Limits) (F : State → State) (n : Counters) (st : ℕ �
   pub is : (c : Catalogue) (cl wt : List ℕ) → ChangesOf c l F n st cl wt n′ st′
 
 -- ---- a draw
+
+-- a range's verdict, by whether it holds
+unfoldable pub verdictOf : Bool → ℕ
+verdictOf b = cond b 1 2
+
+-- the verdicts that are kept are right
+pub record Verdicts (c : Catalogue) (true? : ℕ → Bool) (vs : List ℕ) : Type 0 where
+  pub is : (r : ℕ) (b : Bool) → getD vs r 0 ≡ verdictOf b → b ≡ any true? (matching c r)
+
+-- b is the answer, and the verdicts that are kept are right
+pub record Answers (c : Catalogue) (true? : ℕ → Bool) (answer b : Bool) (vs : List ℕ) : Type 0 where
+  pub is : b ≡ answer
+  pub kept : Verdicts c true? vs
 
 -- a flag for each of these disjuncts, by whether it holds
 pub record Judged (c : Catalogue) (true? : ℕ → Bool) (ds : List Disjunct) (flags : List ℕ) : Type 0 where

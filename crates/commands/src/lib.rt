@@ -10,11 +10,15 @@ use state::Limits;
 use tables::Counts;
 ghost use mathlib.Core.Path.{_≡_};
 ghost use mathlib.Core.Bool.{_||_};
+ghost use mathlib.Core.List.{[]};
 ghost use Prim.Native.Nat.{_+_, _<_, _≤_};
 ghost use lib.Dec.{eqb, ltb};
-ghost use lib.ListN.{length, getD};
+ghost use lib.ListN.{length, getD, set};
 ghost use Rattle.rules.specs.Decisions.{lastLevel};
+ghost use Rattle.rules.specs.Lists.{any};
+ghost use Rattle.rules.specs.Candidates.{matching};
 ghost use Rattle.rules.specs.Conditions.{disjuncts};
+ghost use Rattle.rules.specs.Opening.{holdsNow};
 ghost use Rattle.rules.specs.Opening as rules;
 ghost use Rattle.rules.specs.Records.{Command};
 ghost use Rattle.rules.proofs.Levels.{Rising};
@@ -29,7 +33,7 @@ ghost use Rattle.entries.specs.Entries.{noEntry, waitingIn, Long};
 ghost use Rattle.entries.specs.Deferred.{flagOf, isHeld, Flags};
 ghost use Rattle.encoder.specs.Did.{onOpening};
 ghost use Rattle.goals.specs.Goals.{Catalogued, trueOf, AllGiven};
-ghost use Rattle.commands.specs.Commands.{Changes, Judged, NoneSet, isFlagged, Draws, DecidesLiteral, PlainOutcomes, PartOutcomes};
+ghost use Rattle.commands.specs.Commands.{Changes, verdictOf, Verdicts, Answers, Judged, NoneSet, isFlagged, Draws, DecidesLiteral, PlainOutcomes, PartOutcomes};
 
 // What a command gives.
 pub enum Outcome {
@@ -69,9 +73,103 @@ pub fn add(k: Counts, s: &mut [u8], l: Limits, n: Counters, owner: u16) -> Outco
     Outcome::Refused(Refusal::Missing(Thing::Part, 1))
 }
 
+// ---- verdicts of ranges: 1, it holds, 2, it does not, and 0, it was not asked
+
+// The verdict of range r.
+fn verdict_at(verdicts: &[u8], r: usize) -> u8
+    ensures { λ v. ⌜ v ≡ getD (now (verdicts .entry)) r 0 ⌝ }
+{
+    if r < verdicts.len() {
+        return verdicts[r];
+    }
+    0
+}
+
+// The verdict of a range, by whether it holds.
+fn verdict(holds: bool) -> u8
+    ensures { λ r. ⌜ r ≡ verdictOf holds ⌝ }
+{
+    if holds {
+        return 1;
+    }
+    2
+}
+
+// The verdict of range r is kept.
+fn keep_verdict(verdicts: &mut [u8], r: usize, holds: bool)
+    ensures { λ _. ⌜ now (verdicts .exit) ≡ set (now (verdicts .entry)) r (verdictOf holds) ⌝ }
+{
+    if r < verdicts.len() {
+        verdicts[r] = verdict(holds);
+    }
+}
+
+// Some matching part of range r is decided true. It is asked once.
+fn range_holds(
+    marks: &[u8],
+    unions: &[u8],
+    t: &[u8],
+    k: Counts,
+    s: &[u8],
+    l: Limits,
+    n: Counters,
+    verdicts: &mut [u8],
+    r: usize,
+) -> bool
+    requires { ⌜ Catalogued k (now marks) (now unions) (now t) ⌝ }
+    requires { ⌜ Fits l (length (now s)) ⌝ }
+    requires { ⌜ Mapped l (n .variables) (held l (now s)) × Kept l (n .decisions) (held l (now s)) ⌝ }
+    requires { ⌜ Verdicts (catalogue k (now marks) (now unions) (now t)) (trueOf (variables (n .variables) (held l (now s))) (decisions (n .decisions) (held l (now s)))) (now verdicts) ⌝ }
+    ensures { λ b. ⌜ Answers (catalogue k (now (marks .entry)) (now (unions .entry)) (now (t .entry))) (trueOf (variables (n .variables) (held l (now (s .entry)))) (decisions (n .decisions) (held l (now (s .entry))))) (any (trueOf (variables (n .variables) (held l (now (s .entry)))) (decisions (n .decisions) (held l (now (s .entry))))) (matching (catalogue k (now (marks .entry)) (now (unions .entry)) (now (t .entry))) r)) b (now (verdicts .exit)) ⌝ }
+{
+    let known = verdict_at(verdicts, r);
+    if known == 1 {
+        return true;
+    }
+    if known == 2 {
+        return false;
+    }
+    let holds = goals::range_holds(marks, unions, t, k, s, l, n, r);
+    keep_verdict(verdicts, r, holds);
+    holds
+}
+
+// Each range of disjunct i of condition c has a matching part decided true.
+fn disjunct_holds(
+    marks: &[u8],
+    unions: &[u8],
+    t: &[u8],
+    k: Counts,
+    s: &[u8],
+    l: Limits,
+    n: Counters,
+    verdicts: &mut [u8],
+    c: usize,
+    i: usize,
+) -> bool
+    requires { ⌜ Catalogued k (now marks) (now unions) (now t) ⌝ }
+    requires { ⌜ Fits l (length (now s)) ⌝ }
+    requires { ⌜ Mapped l (n .variables) (held l (now s)) × Kept l (n .decisions) (held l (now s)) ⌝ }
+    requires { ⌜ Verdicts (catalogue k (now marks) (now unions) (now t)) (trueOf (variables (n .variables) (held l (now s))) (decisions (n .decisions) (held l (now s)))) (now verdicts) ⌝ }
+    requires { ⌜ (c < k .conditions) × (i < length (disjuncts (tables k (now t) .conditions) c)) ⌝ }
+    ensures { λ b. ⌜ Answers (catalogue k (now (marks .entry)) (now (unions .entry)) (now (t .entry))) (trueOf (variables (n .variables) (held l (now (s .entry)))) (decisions (n .decisions) (held l (now (s .entry))))) (holdsNow (catalogue k (now (marks .entry)) (now (unions .entry)) (now (t .entry))) (trueOf (variables (n .variables) (held l (now (s .entry)))) (decisions (n .decisions) (held l (now (s .entry))))) (getD (disjuncts (tables k (now (t .entry)) .conditions) c) i [])) b (now (verdicts .exit)) ⌝ }
+{
+    let d = conditions::disjunct_of(t, k, c, i);
+    let mut j = 0;
+    while j < d.len {
+        let r = d.ranges[j];
+        if range_holds(marks, unions, t, k, s, l, n, verdicts, r as usize) {
+            j += 1;
+        } else {
+            return false;
+        }
+    }
+    true
+}
+
 // ---- draw
 
-// The flag of a verdict: 1 where it holds, or else 0.
+// The flag of a disjunct or an entry: 1 where it holds, or else 0.
 fn flag(holds: bool) -> u8
     ensures { λ r. ⌜ r ≡ flagOf holds ⌝ }
 {
@@ -81,7 +179,7 @@ fn flag(holds: bool) -> u8
     0
 }
 
-// Which disjuncts of condition c hold: a flag for each.
+// Which disjuncts of condition c hold: a flag for each. A range that stands in several of them is asked once.
 fn holding(
     marks: &[u8],
     unions: &[u8],
@@ -99,10 +197,11 @@ fn holding(
     ensures { λ r. ⌜ Judged (catalogue k (now (marks .entry)) (now (unions .entry)) (now (t .entry))) (trueOf (variables (n .variables) (held l (now (s .entry)))) (decisions (n .decisions) (held l (now (s .entry))))) (disjuncts (tables k (now (t .entry)) .conditions) c) r ⌝ }
 {
     let count = conditions::count(t, k, c);
+    let mut verdicts = [0u8; 512];
     let mut flags = [0u8; 64];
     let mut i = 0;
     while i < count {
-        let holds = goals::disjunct_holds(marks, unions, t, k, s, l, n, c, i);
+        let holds = disjunct_holds(marks, unions, t, k, s, l, n, &mut verdicts, c, i);
         flags[i] = flag(holds);
         i += 1;
     }

@@ -169,7 +169,7 @@ pub fn decided_true(s: &[u8], l: Limits, n: Counters, p: u16) -> bool
 }
 
 // Some matching part of range r is decided true.
-fn range_holds(
+pub fn range_holds(
     marks: &[u8],
     unions: &[u8],
     t: &[u8],

@@ -1,6 +1,6 @@
 -- `commands::flag` gives 1 for an entry that is held, and 0 for one that is free.
 use borrow.Author.Needs.{needs}
-use Rattle.commands.proofs.Drawing.{flag-held, flag-free}
+use Rattle.commands.proofs.Judging.{flag-held, flag-free}
 use Rattle.commands.proofs.flag.Statement.{statement}
 use Rattle.commands.proofs.flag.Tie as tie
 

@@ -8,15 +8,15 @@ use Rattle.state.specs.Layout.{held}
 use Rattle.variable_map.specs.Mapping.{variables}
 use Rattle.decision_tracker.specs.Tracking.{decisions}
 use Rattle.goals.specs.Goals.{trueOf}
-use Rattle.commands.proofs.Drawing.{Judging, judging-start, judging-there, judging-step, judging-end}
+use Rattle.commands.proofs.Judging.{Judging, judging-start, judging-there, judging-step, judging-end}
 use Rattle.commands.proofs.holding.Statement.{statement}
 use Rattle.commands.proofs.holding.Tie as tie
 
 abbrev Inv-loop : tie.InvT-loop
-Inv-loop marks unions t k s l n c count flags₀ i₀ flags i = Judging (catalogue k marks unions t) (trueOf (variables (n .variables) (held l s)) (decisions (n .decisions) (held l s))) (disjuncts (tables k t .conditions) c) count i flags
+Inv-loop marks unions t k s l n c count verdicts₀ flags₀ i₀ verdicts flags i = Judging (catalogue k marks unions t) (trueOf (variables (n .variables) (held l s)) (decisions (n .decisions) (held l s))) (disjuncts (tables k t .conditions) c) count i verdicts flags
 
 abbrev μ-loop : tie.MeasureT-loop
-μ-loop marks unions t k s l n c count flags₀ i₀ flags i = count - i
+μ-loop marks unions t k s l n c count verdicts₀ flags₀ i₀ verdicts flags i = count - i
 
 count-requires : tie.Need-count-requires Inv-loop μ-loop
 count-requires c κs = search needs
@@ -24,8 +24,11 @@ count-requires c κs = search needs
 loop-holds : tie.Need-loop-holds Inv-loop μ-loop
 loop-holds c = search (needs, judging-start)
 
+slice-aggregate-disjunct-holds : tie.Need-slice-aggregate-disjunct-holds Inv-loop μ-loop
+slice-aggregate-disjunct-holds c = search needs
+
 disjunct-holds-requires : tie.Need-disjunct-holds-requires Inv-loop μ-loop
-disjunct-holds-requires c κs = (search needs, (search needs, (search needs, (search needs, search (needs, judging-there)))))
+disjunct-holds-requires c κs = (search needs, (search needs, (search needs, (search needs, (search needs, search (needs, judging-there))))))
 
 flag-requires : tie.Need-flag-requires Inv-loop μ-loop
 flag-requires c κs = search needs
@@ -53,6 +56,7 @@ holding-spec =
     μ-loop
     count-requires
     loop-holds
+    slice-aggregate-disjunct-holds
     disjunct-holds-requires
     flag-requires
     array-write-flags
