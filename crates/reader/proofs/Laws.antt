@@ -3,15 +3,14 @@ use mathlib.Core.Path.{_≡_, refl, sym, _∙_, ap}
 use mathlib.Core.Bool.{Bool, true, false, not, _&&_, false≢true}
 use mathlib.Core.List.{List, [], _∷_, _++_}
 use mathlib.Core.Option.{Option, none, some}
-use Prim.Native.Nat.{ℕ, zero, suc, _+_, _*_, _-_, _<_, _≤_}
+use Prim.Native.Nat.{ℕ, zero, suc, _+_, _*_, _-_, _/_, _%_, _^_, _<_, _≤_}
 use native.Mathlib.Omega.{arith}
-use native.Mathlib.Nat.{not-suc-le-zero, le-of-suc-le-suc}
 use native.Mathlib.Numerals.{add-one}
 use lib.Dec.{eqb, ltb, leb}
 use lib.ListN.{length, getD, take, drop, length-drop, List·getD-eq-default}
 use native.Mathlib.Decide.{decLt}
 use borrow.Author.Tests.{lt-ltb, le-ltb, lt-leb, le-leb, eq-eqb, ne-eqb, eqb-true}
-use Rattle.rules.specs.Lists.{upTo}
+use Rattle.rules.specs.Lists.{all, upTo}
 use Rattle.rules.specs.Compute.{computing}
 use Rattle.rules.proofs.Bools.{and-left, and-right}
 use Rattle.rules.proofs.Member.{all-out, upTo-in}
@@ -30,7 +29,7 @@ use Rattle.reader.specs.declared.Record.{Record}
 use Rattle.reader.specs.declared.Record.the-variants.{Catalogue, Sheet, Refused}
 use Rattle.refusal.specs.declared.Refusal.the-variants.{UnknownKind, OutOfPlace, CutShort}
 use Rattle.refusal.specs.Refusing.{refusalOf}
-use Rattle.reader.specs.Reading.{itemOf, commandOf, resultOf, lengths, bodyLength, itemRead, commandRead}
+use Rattle.reader.specs.Reading.{itemOf, commandOf, resultOf, lengths, lengthAt, bodyLength, itemRead, commandRead}
 
 -- ---- lengths, bytes and parts
 
@@ -38,14 +37,35 @@ pub length-none : (k : ℕ) → 37 ≤ k → 99 ≡ bodyLength k
 unfolding bodyLength
 length-none k h = sym (List·getD-eq-default lengths 99 h)
 
-getD-any : (l : List ℕ) (i d e : ℕ) → i < length l → getD l i d ≡ getD l i e
-getD-any [] i d e h = absurd (not-suc-le-zero h)
-getD-any (x ∷ l) zero d e h = refl
-getD-any (x ∷ l) (suc i) d e h = getD-any l i d e (le-of-suc-le-suc h)
+module _ (ls i : ℕ) where
+  pub length-no : ls / 2 ^ (4 * i) % 16 ≡ 15 → 99 ≡ lengthAt ls i
+  unfolding lengthAt
+  length-no e = rw e
 
-pub length-in : (k : ℕ) → k < 37 → getD lengths k 0 ≡ bodyLength k
-unfolding bodyLength
-length-in k h = getD-any lengths k 0 99 h
+  pub length-is : (ls / 2 ^ (4 * i) % 16 ≡ 15 → ⊥) → ls / 2 ^ (4 * i) % 16 ≡ lengthAt ls i
+  unfolding lengthAt
+  length-is e = rw (ne-eqb (ls / 2 ^ (4 * i) % 16) 15 e)
+
+-- the lengths of sixteen kinds, one after another
+same-lengths : (ls from : ℕ) → all (λ k. eqb (lengthAt ls (k - from)) (bodyLength k)) (upTo from 16) ≡ true → (k : ℕ) → from ≤ k → k < from + 16
+    → lengthAt ls (k - from) ≡ bodyLength k
+same-lengths ls from e k h g =
+    eqb-true (lengthAt ls (k - from)) (bodyLength k) (all-out (λ k. eqb (lengthAt ls (k - from)) (bodyLength k)) (upTo from 16) e k (upTo-in from 16 k h g))
+
+pub length-first : (k x : ℕ) → k < 16 → x ≡ lengthAt 18446731382685443871 k → x ≡ bodyLength k
+length-first k x h e =
+    let z : k - 0 ≡ k = omega arith in
+    e ∙ rw z at (same-lengths 18446731382685443871 0 (unfold computing lengthAt bodyLength in refl) k (omega arith) (omega arith))
+
+pub length-between : (k : ℕ) → 16 ≤ k → k < 32 → 99 ≡ bodyLength k
+length-between k h g =
+    sym (eqb-true (bodyLength k) 99 (all-out (λ k. eqb (bodyLength k) 99) (upTo 16 16) (unfold computing bodyLength in refl) k (upTo-in 16 16 k h g)))
+
+pub length-second : (k x : ℕ) → 32 ≤ k → k < 48 → x ≡ lengthAt 18446744073708655138 (k - 32) → x ≡ bodyLength k
+length-second k x h g e = e ∙ same-lengths 18446744073708655138 32 (unfold computing lengthAt bodyLength in refl) k h g
+
+pub length-past : (k : ℕ) → 48 ≤ k → 99 ≡ bodyLength k
+length-past k h = length-none k (omega arith)
 
 pub part-is : (n at : ℕ) (l r : List ℕ) → r ≡ take (at + 1 + n - (at + 1)) (drop (at + 1) l) → r ≡ take n (drop (at + 1) l)
 part-is n at l r e =

@@ -1,7 +1,7 @@
 -- What the reader's enums stand for in the definitions, and what it reads by a kind's number.
-use mathlib.Core.Bool.{Bool, true, false}
+use mathlib.Core.Bool.{Bool, true, false, cond}
 use mathlib.Core.List.{List, [], _∷_, _++_}
-use Prim.Native.Nat.{ℕ, _+_}
+use Prim.Native.Nat.{ℕ, _+_, _*_, _/_, _%_, _^_}
 use lib.Dec.{eqb}
 use lib.ListN.{getD, replicate}
 use Rattle.rules.specs.Bytes.{byteAt, wordAt}
@@ -47,6 +47,10 @@ lengths = 99 ∷ 1 ∷ 7 ∷ 2 ∷ 4 ∷ 0 ∷ 4 ∷ 2 ∷ 5 ∷ 7 ∷ 4 ∷ (re
 -- 99: no kind
 unfoldable pub bodyLength : ℕ → ℕ
 bodyLength k = getD lengths k 99
+
+-- the i-th of sixteen lengths of four bits each
+unfoldable pub lengthAt : ℕ → ℕ → ℕ
+lengthAt ls i = let n = ls / 2 ^ (4 * i) % 16 in cond (eqb n 15) 99 n
 
 -- the position behind the record at a position of a job
 abbrev pub nextOf : List ℕ → ℕ → ℕ

@@ -7,7 +7,7 @@ ghost use lib.ListN.{length, take, drop, getD};
 ghost use Rattle.rules.specs.Bytes.{byteAt, wordAt};
 ghost use mathlib.Core.Bool.{not, _&&_};
 ghost use Rattle.rules.specs.Records.{ofSheet, read};
-ghost use Rattle.reader.specs.Reading.{bodyLength, nextOf, itemOf, itemRead, commandOf, commandRead, resultOf};
+ghost use Rattle.reader.specs.Reading.{lengthAt, bodyLength, nextOf, itemOf, itemRead, commandOf, commandRead, resultOf};
 
 // A catalogue record with the numbers of its body, in their order.
 pub enum Item {
@@ -72,55 +72,34 @@ pub struct Reader<'a> {
     pub at: usize,
 }
 
-// The length of each kind's body, and 99 for a number that is no kind.
-const LENGTHS: [u8; 37] = [
-    99,
-    1,
-    7,
-    2,
-    4,
-    0,
-    4,
-    2,
-    5,
-    7,
-    4,
-    99,
-    99,
-    99,
-    99,
-    99,
-    99,
-    99,
-    99,
-    99,
-    99,
-    99,
-    99,
-    99,
-    99,
-    99,
-    99,
-    99,
-    99,
-    99,
-    99,
-    99,
-    2,
-    2,
-    2,
-    5,
-    2,
-];
+// Lengths of bodies, four bits each: of the kinds from 0 on, and of those from 32 on. 15: no kind.
+const CATALOGUE: u64 = 0xffff_f475_2404_271f;
 
+const SHEET: u64 = 0xffff_ffff_fff2_5222;
+
+// The i-th of sixteen lengths, and 99 for no kind.
+fn length_at(lengths: u64, i: u8) -> u8
+    requires { ⌜ i < 16 ⌝ }
+    ensures { λ r. ⌜ r ≡ lengthAt lengths i ⌝ }
+{
+    let n = (lengths >> (4 * i)) % 16;
+    if n == 15 { 99 } else { n as u8 }
+}
+
+// The length of a kind's body, and 99 for a number that is no kind.
 pub fn body_length(kind: u8) -> u8
     ensures { λ r. ⌜ r ≡ bodyLength kind ⌝ }
 {
-    if kind < 37 {
-        LENGTHS[kind as usize]
-    } else {
-        99
+    if kind < 16 {
+        return length_at(CATALOGUE, kind);
     }
+    if kind < 32 {
+        return 99;
+    }
+    if kind < 48 {
+        return length_at(SHEET, kind - 32);
+    }
+    99
 }
 
 // The body of the record at `at`: the part of the job that follows the kind byte.

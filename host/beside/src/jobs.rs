@@ -26,9 +26,12 @@ fn job(name: &str, records: Vec<Record>) -> Job {
 }
 
 fn of_bytes(name: &str, job: Vec<u8>) -> Job {
+    within(Limits::CEILINGS, name, job)
+}
+
+fn within(limits: Limits, name: &str, job: Vec<u8>) -> Job {
     assert!(job.len() <= JOB_CEILING, "{name} has {} bytes", job.len());
-    let request = Request { job, limits: Limits::CEILINGS, listing_area: LISTING };
-    Job { name: name.to_string(), request }
+    Job { name: name.to_string(), request: Request { job, limits, listing_area: LISTING } }
 }
 
 /// The job as `kitlist` runs it.
@@ -155,8 +158,10 @@ fn slow_jobs() -> Vec<Job> {
     jobs.push(job("18,000 draws", drawing(PARTS, 2_048, 18_000)));
     jobs.push(job("draws with runs", draws_with_runs()));
     jobs.push(job("waiting of all conditions", waiting_of_all_conditions()));
-    jobs.push(job("empty runs", vec![Record::Run { level: 1 }; 21_845]));
-    jobs.extend(slow::jobs().into_iter().map(|(name, job)| of_bytes(name, job)));
+    // What follows makes no clause: a branch's limits do.
+    let empty_runs = job_of(vec![Record::Run { level: 1 }; 21_845]);
+    jobs.push(within(Limits::BRANCH, "empty runs", empty_runs));
+    jobs.extend(slow::jobs().into_iter().map(|(name, job)| within(Limits::BRANCH, name, job)));
     jobs
 }
 

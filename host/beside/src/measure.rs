@@ -3,6 +3,7 @@
 use std::{
     env, fmt,
     hash::{DefaultHasher, Hash, Hasher},
+    hint::black_box,
     io::{self, Read},
     process::{Child, Command, Stdio},
     thread,
@@ -15,6 +16,8 @@ use oracle::Rust;
 
 use crate::{clock::timed, jobs::Job};
 
+/// A round calls a short job so often that it takes about so long: asking the clock takes time too.
+const ROUND: Duration = Duration::from_micros(200);
 /// A job is run again until its rounds have taken so long,
 const ENOUGH: Duration = Duration::from_millis(500);
 /// and at least so many times,
@@ -90,17 +93,17 @@ enum Given {
 pub fn measure(side: Side, request: &Request, once: bool) -> Found {
     let mut kit = Kit::with_listing_area(request.listing_area);
     kit.check(&[], &request.limits).expect("the limits are allowed");
-    let (mut best, mut total) = (Duration::MAX, Duration::ZERO);
-    for round in 1.. {
-        let (time, given) = timed(|| measured(side, &mut kit, request));
-        best = best.min(time);
-        total += time;
-        if once || total > TOO_LONG || total > ENOUGH && round >= FEWEST {
-            let (listing, answer) = told(given);
-            return Found { best, listing, answer };
-        }
+    let (mut best, given) = timed(|| measured(side, &mut kit, request));
+    let (listing, answer) = told(given);
+    let calls = 1 + (ROUND.as_nanos() / (1 + best.as_nanos())) as u32;
+    let (mut round, mut total) = (1, best);
+    while !once && total < TOO_LONG && (total < ENOUGH || round < FEWEST) {
+        let mut again = || drop(black_box(measured(side, &mut kit, request)));
+        let (time, ()) = timed(|| (0..calls).for_each(|_| again()));
+        best = best.min(time / calls);
+        (round, total) = (round + 1, total + time);
     }
-    unreachable!("time goes on")
+    Found { best, listing, answer }
 }
 
 /// The call that callgrind counts, by this name.
