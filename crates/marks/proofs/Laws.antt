@@ -18,12 +18,9 @@ use Rattle.marks.proofs.Bits.{bit-none, bit-more, bit-room}
 
 -- ---- a byte
 
-abbrev powers : List ℕ
-powers = 1 ∷ 2 ∷ 4 ∷ 8 ∷ 16 ∷ 32 ∷ 64 ∷ 128 ∷ []
-
-pub power-is : (j : ℕ) → j < 8 → getD powers j 0 ≡ 2 ^ j
+pub power-is : (j : ℕ) → j < 8 → 1 * 2 ^ j % 256 ≡ 2 ^ j
 power-is j h =
-    eqb-true (getD powers j 0) (2 ^ j) (all-out (λ (i : ℕ). eqb (getD powers i 0) (2 ^ i)) (upTo 0 8) (unfold all upTo in refl) j (upTo-in 0 8 j zero-le h))
+    eqb-true (1 * 2 ^ j % 256) (2 ^ j) (all-out (λ (i : ℕ). eqb (1 * 2 ^ i % 256) (2 ^ i)) (upTo 0 8) (unfold all upTo in refl) j (upTo-in 0 8 j zero-le h))
 
 or-one-true : (a b : Bool) → (a ≡ true → b ≡ true) → b ≡ (a || b)
 or-one-true true b f = f refl

@@ -5,14 +5,12 @@ ghost use lib.ListN.{length};
 ghost use Rattle.rules.specs.AtMostOne.{bit};
 ghost use Rattle.marks.specs.Marks.{NextMember, EndOfMembers, isMarked, WithBit, Marked, Cleared};
 
-const POWERS: [u8; 8] = [1, 2, 4, 8, 16, 32, 64, 128];
-
 // 2 to the power j.
 fn power_of(j: usize) -> u8
     requires { ⌜ j < 8 ⌝ }
     ensures { λ x. ⌜ x ≡ 2 ^ j ⌝ }
 {
-    POWERS[j]
+    1 << j
 }
 
 // Is bit j of a byte set?

@@ -4,11 +4,14 @@ use Rattle.marks.proofs.Laws.{power-is}
 use Rattle.marks.proofs.power_of.Statement.{statement}
 use Rattle.marks.proofs.power_of.Tie as tie
 
-array-read-result : tie.Need-array-read-result
-array-read-result c = search needs
+cast-result : tie.Need-cast-result
+cast-result c = search needs
+
+shl-result : tie.Need-shl-result
+shl-result c = search needs
 
 returns : tie.Need-returns
 returns c = search (needs, power-is)
 
 pub power-of-spec : {M : Type 1} → statement M
-power-of-spec = tie.close (tie.spec array-read-result returns)
+power-of-spec = tie.close (tie.spec cast-result shl-result returns)
