@@ -115,6 +115,9 @@ module _ {c : Catalogue} {l : Limits} {n : Counters} {st : ℕ → List ℕ} (p 
       same : (cl wt : List ℕ) (v : Reading) → addVariable (partOrigin p) (stateOf c l v n st cl wt) ≡ stateOf c l v n st cl wt
       same cl wt v = unfold addVariable stateOf in rw (with-known (variables (n .variables) st) (partOrigin p) k)
 
+  pub tracked-known : {n′ : Counters} {st′ : ℕ → List ℕ} → StateDid c l (λ v. onOpening (nameForTracking c p)) n st n′ st′ → StateDid c l (λ v. namingOf c Tracked p) n st n′ st′
+  tracked-known d = state-same (state-then known-idle d) (λ v s. unfold namingOf in refl)
+
   settled : StateDid c l (λ v. onOpening (nameForTracking c p)) n st n st → StateDid c l (λ v. onOpening (openReady c p)) n st n st → Settled c l n st p
   settled d h = record { is = go }
     where

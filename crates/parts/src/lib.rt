@@ -128,6 +128,15 @@ pub fn next(marks: &[u8], unions: &[u8], t: &[u8], k: Counts, which: Parts, p: u
 
 // ---- naming
 
+// Part p has its variable.
+fn has_variable(s: &[u8], l: Limits, n: Counters, p: u16) -> bool
+    requires { ⌜ Fits l (length (now s)) ⌝ }
+    requires { ⌜ Mapped l (n .variables) (held l (now s)) × (p < 1024) ⌝ }
+    ensures { λ b. ⌜ (b ≡ true → known (variables (n .variables) (held l (now (s .entry)))) (partOrigin p) ≡ true) ⌝ }
+{
+    variable_map::variable(s, l, n.variables, variable_map::part(p)) > 0
+}
+
 fn open_ready(
     marks: &[u8],
     unions: &[u8],
@@ -166,6 +175,9 @@ fn name_tracked(
     requires { ⌜ p < 1024 ⌝ }
     ensures { λ m. ⌜ StateDid (catalogue k (now (marks .entry)) (now (unions .entry)) (now (t .entry))) l (λ v. namingOf (catalogue k (now (marks .entry)) (now (unions .entry)) (now (t .entry))) Tracked p) n (held l (now (s .entry))) m (held l (now (s .exit))) ⌝ }
 {
+    if has_variable(s, l, n, p) {
+        return opening::name_for_tracking(marks, unions, t, k, s, l, n, p);
+    }
     let m = opening::name_variable(s, l, n, variable_map::part(p));
     opening::name_for_tracking(marks, unions, t, k, s, l, m, p)
 }
@@ -212,15 +224,6 @@ fn name_part(
         Naming::Tracked => name_tracked(marks, unions, t, k, s, l, n, p),
         Naming::Candidate => name_candidate(marks, unions, t, k, s, l, n, p),
     }
-}
-
-// Part p has its variable.
-fn has_variable(s: &[u8], l: Limits, n: Counters, p: u16) -> bool
-    requires { ⌜ Fits l (length (now s)) ⌝ }
-    requires { ⌜ Mapped l (n .variables) (held l (now s)) × (p < 1024) ⌝ }
-    ensures { λ b. ⌜ (b ≡ true → known (variables (n .variables) (held l (now (s .entry)))) (partOrigin p) ≡ true) ⌝ }
-{
-    variable_map::variable(s, l, n.variables, variable_map::part(p)) > 0
 }
 
 // Part p is named for tracking, or its name was served with several allowed: naming it for tracking changes nothing.
