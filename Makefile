@@ -9,9 +9,9 @@ HOST_RUN = host/with-reference cargo run --quiet --release
 .PHONY: test host-test compare bench record demo
 
 # `rt ci` proves everything from nothing; the host tests link what it built, and its last line is said again at the end.
-# rt waits for each batch of crates or edits; docs/DECISIONS.md 60 says why there are four in one.
+# rt waits for each batch of crates or edits; docs/DECISIONS.md 60 says why there are eight in one.
 test:
-	@RT_JOBS=4 rt ci | tee ci.log
+	@RT_JOBS=8 rt ci | tee ci.log
 	@host/test
 	@tail -n 1 ci.log
 
