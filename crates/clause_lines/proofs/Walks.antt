@@ -1,15 +1,13 @@
 -- The literals of a union's candidates, range by range; and of a goal, by its form.
-use mathlib.Core.Path.{_≡_, refl, sym, _∙_}
+use mathlib.Core.Path.{_≡_, refl, _∙_}
 use mathlib.Core.Bool.{Bool, true}
-use mathlib.Core.List.{List, _++_, append-nil}
+use mathlib.Core.List.{List, append-nil}
 use Prim.Native.Nat.{ℕ, _+_, _<_, _≤_}
-use native.Mathlib.Decide.{decLt}
-use native.Mathlib.Omega.{arith}
 use lib.Dec.{ltb}
 use lib.ListN.{length, getD}
 use borrow.Author.Tests.{ne-eqb}
 use Rattle.rules.specs.Lists.{concatMap}
-use Rattle.rules.specs.Catalogue.{Catalogue, union}
+use Rattle.rules.specs.Catalogue.{Catalogue}
 use Rattle.rules.specs.Candidates.{sorted, goalRanges, candidates}
 use Rattle.rules.specs.Items.{goalOf}
 use Rattle.rules.specs.Variables.{Origin}
@@ -18,11 +16,12 @@ use Rattle.text.specs.Text.{Wrote, WroteBut}
 use Rattle.text.proofs.Written.{but-all, but-less, but-none, but-over, over-is}
 use Rattle.tables.specs.declared.Counts.{Counts}
 use Rattle.unions.specs.declared.Member.{Member}
-use Rattle.unions.specs.Unions.{Row, noRow, rows, rowOf, rangesOf, left, At, Next}
-use Rattle.unions.proofs.Laws.{walk-start}
+use Rattle.unions.specs.Unions.{Row, noRow, rows, rowOf, rangesOf, left}
+use Rattle.unions.proofs.Laws.{length-rows, left-here}
 use Rattle.cache.specs.Areas.{catalogue}
-use Rattle.cache.proofs.Laws.{union-ranges-held, union-missing}
+use Rattle.index.specs.Members.{At, Passes}
 use Rattle.index.specs.Indexed.{Indexed}
+use Rattle.index.proofs.Unions.{union-ranges, candidates-start, candidates-step, candidates-end, at-next}
 use Rattle.state.specs.declared.Limits.{Limits}
 use Rattle.variable_map.specs.Mapping.{AllKnown}
 use Rattle.encoder.specs.declared.Counters.{Counters}
@@ -31,58 +30,56 @@ use Rattle.clause_lines.proofs.Parts.{parts-append, parts-none}
 
 -- ---- a union
 
-union-ranges : (k : Counts) (m u t : List ℕ) (x : ℕ) → Indexed k m u t → goalRanges (catalogue k m u t) (union x) ≡ rangesOf x (rows (k .members) u)
-unfolding goalRanges
-union-ranges k m u t x f = elim (decLt x (k .unions)) [
-  | yes h ↦ union-ranges-held k m u t x h
-  | no h ↦ let g : k .unions ≤ x = omega arith in union-missing k m u t x g ∙ sym (f .given .none-yet x g)
-]
-
 union-candidates : (k : Counts) (m u t : List ℕ) (x : ℕ) → Indexed k m u t → candidates (catalogue k m u t) (goalOf 1 x) ≡ concatMap (sorted (catalogue k m u t)) (rangesOf x (rows (k .members) u))
 unfolding candidates goalOf
-union-candidates k m u t x f = rw (union-ranges k m u t x f)
+union-candidates k m u t x f = rw (union-ranges k m u t f x)
 
--- before the union's row at place i; A is what the walk leans on
-pub record Walking (A : Type 0) (c : Catalogue) (vs : List Origin) (n : ℕ) (rs : List Row) (u at a i room : ℕ) (o o1 : List ℕ) : Type 0 where
-  pub ready : A
+-- before the union's row at place i
+pub record Walking (k : Counts) (m us t : List ℕ) (l : Limits) (n : Counters) (b : List ℕ) (vs : List Origin) (u at a i room : ℕ) (o o1 : List ℕ) : Type 0 where
+  pub ready : Ready k m us t l n b room
   pub same : length o1 ≡ length o
-  pub place : At n rs u i
-  pub known : AllKnown vs (concatMap (sorted c) (left u i rs))
-  pub so-far : WroteBut at a (partText vs (concatMap (sorted c) (left u i rs))) (partText vs (candidates c (goalOf 1 u))) room o o1
+  pub place : At (k .members) (rows (k .members) us) u i
+  pub known : AllKnown vs (concatMap (sorted (catalogue k m us t)) (left u i (rows (k .members) us)))
+  pub so-far : WroteBut at a (partText vs (concatMap (sorted (catalogue k m us t)) (left u i (rows (k .members) us)))) (partText vs (candidates (catalogue k m us t) (goalOf 1 u))) room o o1
 
 pub walking-start : {k : Counts} {m us t : List ℕ} {vs : List Origin} {l : Limits} {n : Counters} {b : List ℕ} {u at r room : ℕ} {o : List ℕ} → Ready k m us t l n b room
-    → AllKnown vs (candidates (catalogue k m us t) (goalOf 1 u)) → Next (k .members) (rows (k .members) us) u 0 r
-    → Walking (Ready k m us t l n b room) (catalogue k m us t) vs (k .members) (rows (k .members) us) u at at r room o o
+    → AllKnown vs (candidates (catalogue k m us t) (goalOf 1 u)) → Passes k m (rows (k .members) us) u 0 r
+    → Walking k m us t l n b vs u at at r room o o
 walking-start {k} {m} {us} {t} {u = u} {r = r} f a x =
     let e : candidates (catalogue k m us t) (goalOf 1 u) ≡ concatMap (sorted (catalogue k m us t)) (left u r (rows (k .members) us)) =
-    union-candidates k m us t u (f .kept) ∙ rw (walk-start x) in
+    union-candidates k m us t u (f .kept) ∙ candidates-start k m us t (f .kept) x in
     record { ready = f; same = refl; place = x .at; known = rw e at a; so-far = rw (← e) but-all }
 
-module _ {A : Type 0} {c : Catalogue} {vs : List Origin} {n : ℕ} {rs : List Row} {u at a i room : ℕ} {o o1 : List ℕ} (f : Walking A c vs n rs u at a i room o o1) where
-  module _ (m : Member) (h : i < n) (e : rowOf m ≡ getD rs i noRow) where
-    opened : concatMap (sorted c) (left u i rs) ≡ sorted c (m .range) ++ concatMap (sorted c) (left u (i + 1) rs)
-    unfolding concatMap rowOf
-    opened = rw (f .place .here h, ← e)
+module _ {k : Counts} {m us t : List ℕ} {l : Limits} {n : Counters} {b : List ℕ} {vs : List Origin} {u at a i room : ℕ} {o o1 : List ℕ}
+    (f : Walking k m us t l n b vs u at a i room o o1) where
+  abbrev c : Catalogue
+  c = catalogue k m us t
 
-    pub walking-known : AllKnown vs (sorted c (m .range))
-    walking-known = record { known = each-left (sorted c (m .range)) (concatMap (sorted c) (left u (i + 1) rs)) (rw opened at (f .known .known)) }
+  abbrev rs : List Row
+  rs = rows (k .members) us
 
-    pub walking-step : {r b : ℕ} {o2 : List ℕ} → Wrote a b (partText vs (sorted c (m .range))) room o1 o2 → Next n rs u (i + 1) r → length o2 ≡ length o1
-        → Walking A c vs n rs u at b r room o o2
-    walking-step {r} w x l =
-        let q : concatMap (sorted c) (left u i rs) ≡ sorted c (m .range) ++ concatMap (sorted c) (left u r rs) = opened ∙ rw (x .same) in
+  module _ (x : Member) (h : i < k .members) (e : rowOf x ≡ getD rs i noRow) where
+    pub walking-known : AllKnown vs (sorted c (x .range))
+    unfolding rowOf concatMap
+    walking-known =
+        let q = rw (left-here u i rs (rw length-rows h) (f .place .here h), ← e) at (f .known .known) in
+        record { known = each-left (sorted c (x .range)) (concatMap (sorted c) (left u (i + 1) rs)) q }
+
+    pub walking-step : {r a′ : ℕ} {o2 : List ℕ} → Wrote a a′ (partText vs (sorted c (x .range))) room o1 o2
+        → Passes k m rs ((getD rs i noRow) .union) (i + 1) r → length o2 ≡ length o1 → Walking k m us t l n b vs u at a′ r room o o2
+    walking-step {r} w y z =
+        let q = candidates-step k m us t (f .ready .kept) (f .place) x h e y in
         record {
           ready = f .ready;
-          same = l ∙ f .same;
-          place = x .at;
-          known = record { known = each-right (sorted c (m .range)) (rw q at (f .known .known)) };
-          so-far = but-less (partText vs (concatMap (sorted c) (left u i rs))) (partText vs (sorted c (m .range))) (partText vs (concatMap (sorted c) (left u r rs)))
-              (f .so-far) (rw (q, parts-append vs (sorted c (m .range)) (concatMap (sorted c) (left u r rs)))) w;
+          same = z ∙ f .same;
+          place = at-next k m us t (f .ready .kept) (f .place) x h e y;
+          known = record { known = each-right (sorted c (x .range)) (rw q at (f .known .known)) };
+          so-far = but-less (partText vs (concatMap (sorted c) (left u i rs))) (partText vs (sorted c (x .range))) (partText vs (concatMap (sorted c) (left u r rs)))
+              (f .so-far) (rw (q, parts-append vs (sorted c (x .range)) (concatMap (sorted c) (left u r rs)))) w;
         }
 
-  pub walking-end : n ≤ i → Wrote at a (partText vs (candidates c (goalOf 1 u))) room o o1
-  unfolding concatMap
-  walking-end h = but-none (rw (f .place .none-left h, concatMap, parts-none vs) at (f .so-far))
+  pub walking-end : k .members ≤ i → Wrote at a (partText vs (candidates c (goalOf 1 u))) room o o1
+  walking-end h = but-none (rw (candidates-end k m us t (f .ready .kept) (f .place) h, parts-none vs) at (f .so-far))
 
   pub walking-over : {b : Bool} → b ≡ ltb room a → b ≡ true → Wrote at a (partText vs (candidates c (goalOf 1 u))) room o o1
   walking-over e d = but-over (f .so-far) (over-is room a e d)

@@ -152,7 +152,7 @@ fn union_literals(
     ensures { λ r. ⌜ Wrote at r (partText (variables (n .variables) (held l (now (s .entry)))) (candidates (catalogue k (now (marks .entry)) (now (unions .entry)) (now (t .entry))) (goalOf 1 u))) room (now (out .entry)) (now (out .exit)) ⌝ }
 {
     let mut a = at;
-    let mut i = unions::next_of(unions, k.members, u, 0);
+    let mut i = index::first_of_union(marks, unions, t, k, u);
     while i < k.members {
         if text::over(room, a) {
             return a;
@@ -171,7 +171,7 @@ fn union_literals(
             a,
             member.range as usize,
         );
-        i = unions::next_of(unions, k.members, u, i + 1);
+        i = index::next_of_union(marks, unions, t, k, i);
     }
     a
 }

@@ -1,5 +1,5 @@
 -- The list at hand against its code: one number more, and the ranges of a goal, each once.
-use mathlib.Core.Path.{_≡_, refl, sym, _∙_}
+use mathlib.Core.Path.{_≡_, refl, sym, ap, _∙_}
 use mathlib.Core.Bool.{Bool, true, false}
 use mathlib.Core.List.{List, [], _∷_}
 use Prim.Native.Nat.{ℕ, _+_, _<_, _≤_}
@@ -8,17 +8,18 @@ use lib.ListN.{length, getD}
 use Rattle.rules.specs.Lists.{fold, distinct}
 use Rattle.rules.specs.Catalogue.{Catalogue, union}
 use Rattle.rules.specs.Candidates.{goalRanges}
-use Rattle.rules.proofs.ListLaws.{All, all-weaken}
 use Rattle.rules.proofs.WellFormed.{GoalGiven}
 use Rattle.requirement.specs.declared.Requirement.{Requirement}
 use Rattle.requirement.specs.declared.Requirement.the-variants.{Single, Union}
 use Rattle.requirement.specs.Requirements.{goalOf}
 use Rattle.tables.specs.declared.Counts.{Counts}
 use Rattle.unions.specs.declared.Member.{Member}
-use Rattle.unions.specs.Unions.{Row, noRow, rows, rowOf, rangesOf, left, At, Next}
-use Rattle.unions.proofs.Laws.{walk-start, walk-step}
+use Rattle.unions.specs.Unions.{Row, noRow, rows, rowOf, before}
+use Rattle.unions.proofs.Laws.{range-low}
 use Rattle.cache.specs.Areas.{catalogue}
-use Rattle.cache.proofs.Laws.{ranges-held, unions-held, union-held, union-ranges-held}
+use Rattle.cache.proofs.Laws.{ranges-held, unions-held}
+use Rattle.index.specs.Members.{At, Passes}
+use Rattle.index.proofs.Unions.{union-ranges, distinct-start, distinct-step, ranges-end, at-next}
 use Rattle.state.specs.declared.Limits.{Limits}
 use Rattle.state.specs.Layout.{held, Fits}
 use Rattle.state.specs.Changed.{Changed}
@@ -44,58 +45,46 @@ module _ {m x : ℕ} {st : ℕ → List ℕ} (b : Bool) (k : Marked 14 15 m st) 
 
 -- ---- the ranges of a union
 
--- the loop at place i: what is left of the list's making is the whole of it
-pub record Gathering (n : ℕ) (rs : List Row) (u : ℕ) (l : Limits) (b₀ b : List ℕ) (m i : ℕ) : Type 0 where
+-- the loop at place i: the list at hand is that of the rows before
+pub record Gathering (k : Counts) (us : List ℕ) (u : ℕ) (l : Limits) (b₀ b : List ℕ) (m i : ℕ) : Type 0 where
   pub fits : Fits l (length b)
   pub same : length b ≡ length b₀
   pub marked : Marked 14 15 m (held l b)
   pub others : Changed (14 ∷ 15 ∷ []) (held l b₀) (held l b)
-  pub at : At n rs u i
-  pub low : All (λ r. r < 512) (left u i rs)
-  pub is : fold noted (left u i rs) (listed m 14 (held l b)) ≡ distinct (rangesOf u rs)
+  pub at : At (k .members) (rows (k .members) us) u i
+  pub is : listed m 14 (held l b) ≡ distinct (before u i (rows (k .members) us))
 
-module _ (k : Counts) (ms us t : List ℕ) (u : ℕ) where
-  ranges-low : Catalogued k ms us t → u < k .unions → All (λ r. r < 512) (rangesOf u (rows (k .members) us))
-  ranges-low c h =
-      let given = c .formed .unions u (rw (unions-held k ms us t) h) in
-      all-weaken _ _ (λ r g. omega (arith, ranges-held k ms us t)) (rangesOf u (rows (k .members) us)) (rw (union-held k ms us t u h) at given)
+module _ (k : Counts) (ms us t : List ℕ) (u : ℕ) (c : Catalogued k ms us t) where
+  pub gather-start : (l : Limits) (b : List ℕ) (i : ℕ) → Fits l (length b) → Marked 14 15 0 (held l b)
+      → Passes k ms (rows (k .members) us) u 0 i → Gathering k us u l b b 0 i
+  unfolding listed
+  gather-start l b i f d x =
+      record { fits = f; same = refl; marked = d; others = changed-none (14 ∷ 15 ∷ []) (held l b); at = x .at; is = sym (distinct-start k ms us t (c .kept) x) }
 
-  pub gather-start : (l : Limits) (b : List ℕ) (i : ℕ) → Catalogued k ms us t → Fits l (length b) → Marked 14 15 0 (held l b) → u < k .unions
-      → Next (k .members) (rows (k .members) us) u 0 i → Gathering (k .members) (rows (k .members) us) u l b b 0 i
-  unfolding listed distinct noted
-  gather-start l b i c f d h x =
-      let e = walk-start x in
-      record { fits = f; same = refl; marked = d; others = changed-none (14 ∷ 15 ∷ []) (held l b); at = x .at; low = rw e (ranges-low c h); is = rw e }
+  module _ {l : Limits} {b₀ b : List ℕ} {m i : ℕ} (x : Gathering k us u l b₀ b m i) where
+    pub gather-step : (a : Member) {b′ : List ℕ} {m′ i′ : ℕ} → i < k .members → rowOf a ≡ getD (rows (k .members) us) i noRow
+        → Notes (a .range) m (held l b) m′ (held l b′) → length b′ ≡ length b
+        → Passes k ms (rows (k .members) us) ((getD (rows (k .members) us) i noRow) .union) (i + 1) i′ → Gathering k us u l b₀ b′ m′ i′
+    unfolding noted
+    gather-step a h e q s y =
+        record {
+          fits = rw s (x .fits);
+          same = s ∙ x .same;
+          marked = q .marked;
+          others = changed-then (x .others) (q .others);
+          at = at-next k ms us t (c .kept) (x .at) a h e y;
+          is = rw (distinct-step k ms us t (c .kept) (x .at) a h e y) (rw (x .is) at (q .is));
+        }
 
-  pub gather-end : {l : Limits} {b₀ b : List ℕ} {m i : ℕ} → Gathering (k .members) (rows (k .members) us) u l b₀ b m i → k .members ≤ i → u < k .unions
-      → Gathers (distinct (goalRanges (catalogue k ms us t) (union u))) (held l b₀) m (held l b)
-  unfolding fold
-  gather-end x g h =
-      record { marked = x .marked; is = rw (union-ranges-held k ms us t u h) (rw (x .at .none-left g) at (x .is)); others = x .others }
+    pub gather-end : k .members ≤ i → Gathers (distinct (goalRanges (catalogue k ms us t) (union u))) (held l b₀) m (held l b)
+    gather-end g =
+        record { marked = x .marked; is = x .is ∙ rw (ranges-end k ms us t (c .kept) u i g, union-ranges k ms us t (c .kept) u); others = x .others }
 
-module _ {n : ℕ} {rs : List Row} {u : ℕ} {l : Limits} {b₀ b : List ℕ} {m i : ℕ} (a : Member) (x : Gathering n rs u l b₀ b m i) (h : i < n)
-    (e : rowOf a ≡ getD rs i noRow) where
-  pub gather-low : a .range < 512
-  unfolding rowOf
-  gather-low =
-      let all = rw (x .at .here h, ← e) at (x .low) in
-      all .0
-
-  pub gather-step : {b′ : List ℕ} {m′ i′ : ℕ} → Notes (a .range) m (held l b) m′ (held l b′) → length b′ ≡ length b → Next n rs u (i + 1) i′
-      → Gathering n rs u l b₀ b′ m′ i′
-  unfolding fold
-  gather-step q s y =
-      let w = walk-step a (x .at) h e y in
-      let low = rw w at (x .low) in
-      record {
-        fits = rw s (x .fits);
-        same = s ∙ x .same;
-        marked = q .marked;
-        others = changed-then (x .others) (q .others);
-        at = y .at;
-        low = low .1;
-        is = rw (q .is) (rw w at (x .is));
-      }
+pub gather-low : (k : Counts) (us : List ℕ) (i : ℕ) (a : Member) → i < k .members → rowOf a ≡ getD (rows (k .members) us) i noRow → a .range < 512
+unfolding rowOf
+gather-low k us i a h e =
+    let is : a .range ≡ (getD (rows (k .members) us) i noRow) .range = ap (λ (r : Row). r .range) e in
+    omega (arith, range-low (k .members) us i h)
 
 -- ---- the ranges of a goal
 

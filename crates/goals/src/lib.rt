@@ -58,11 +58,11 @@ fn gather_union(
         (held l (now (s .entry))) r (held l (now (s .exit))) ⌝ }
 {
     let mut m = 0;
-    let mut i = unions::next_of(unions, k.members, u, 0);
+    let mut i = index::first_of_union(marks, unions, t, k, u);
     while i < k.members {
         let member = unions::member_at(unions, k.members, i);
         m = note(s, l, m, member.range);
-        i = unions::next_of(unions, k.members, u, i + 1);
+        i = index::next_of_union(marks, unions, t, k, i);
     }
     m
 }
@@ -108,14 +108,14 @@ fn count_union(marks: &[u8], unions: &[u8], t: &[u8], k: Counts, u: u16, most: u
     ensures { λ n. ⌜ n ≡ min (length (candidates (catalogue k (now (marks .entry)) (now (unions .entry)) (now (t .entry))) (union u))) most ⌝ }
 {
     let mut total = 0;
-    let mut i = unions::next_of(unions, k.members, u, 0);
+    let mut i = index::first_of_union(marks, unions, t, k, u);
     while i < k.members {
         let member = unions::member_at(unions, k.members, i);
         total += index::matching_count(marks, unions, t, k, member.range as usize);
         if total >= most {
             return most;
         }
-        i = unions::next_of(unions, k.members, u, i + 1);
+        i = index::next_of_union(marks, unions, t, k, i);
     }
     total
 }

@@ -13,7 +13,7 @@ use Rattle.words.specs.Words.{words}
 use Rattle.marks.specs.Marks.{NextMember, EndOfMembers}
 use Rattle.tables.specs.declared.Counts.{Counts}
 use Rattle.tables.specs.Tables.{tablesIn, tables, Laid}
-use Rattle.index.specs.Chains.{First, Chain, ownerRow, partsByName, requirementsByOwner, constraintsByOwner, keyOf, Linked, Key, Keyed, Only, rangeBounds, Bounded, Chains, Keys, Linking, Heading, BoundSet, boundSet, Bounding, Built, Skips}
+use Rattle.index.specs.Chains.{First, Chain, ownerRow, partsByName, requirementsByOwner, constraintsByOwner, keyOf, Linked, Key, Keyed, Only, rangeBounds, Bounded, Chains, Keys, Linking, Heading, BoundSet, boundSet, Bounding, Chained, Skips}
 use Rattle.index.proofs.Chaining.{Apart, only-none, only-then, only-head, only-link, linked-only, linked-more, linked-none, keyed-kept, keyed-beside, linked-beside}
 use Rattle.index.proofs.Places as places
 
@@ -170,7 +170,7 @@ constraints-more-linked a b = record { same = b .same ∙ a .same; only = only-t
 -- what each stage leaves of the others
 pub all-built : {k : Counts} {m t u v w x : List ℕ} → Laid k (length t) → Linking partsByName k (k .parts) (k .names) 0 t u
     → Linking requirementsByOwner k (k .requirements) (k .parts + 1) 0 u v → Linking constraintsByOwner k (k .constraints) (k .parts + 1) 0 v w
-    → Bounding k m (k .ranges) w x → Built k m t x
+    → Bounding k m (k .ranges) w x → Chained k m t x
 all-built {k} {m} {t} l a b c d =
     record {
       same = d .same ∙ (c .same ∙ (b .same ∙ a .same));

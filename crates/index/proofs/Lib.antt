@@ -5,3 +5,5 @@ pub mod Selecting
 pub mod Owners
 pub mod Walking
 pub mod Counting
+pub mod Members
+pub mod Unions

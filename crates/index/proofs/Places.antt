@@ -1,4 +1,4 @@
--- The places of the three chains: apart from each other, and none of them read in a table.
+-- The places of the chains: apart from each other, and none of them read in a table.
 use mathlib.Core.Path.{_≡_, refl}
 use mathlib.Core.List.{List}
 use Prim.Native.Nat.{ℕ, _+_, _*_, _<_, _≤_}
@@ -11,6 +11,7 @@ use Rattle.tables.proofs.Rows.{Free}
 use Rattle.tables.proofs.Stores.{first}
 use Rattle.tables.proofs.Rows.{free-kept}
 use Rattle.index.specs.Chains.{partsByName, requirementsByOwner, constraintsByOwner, rangeBounds}
+use Rattle.index.specs.Members.{unionHeads}
 use Rattle.index.proofs.Chaining.{Apart, Beside}
 
 module _ (k : Counts) (t : List ℕ) (l : Laid k (length t)) where
@@ -132,6 +133,13 @@ module _ (k : Counts) (t : List ℕ) (l : Laid k (length t)) where
       let n = l .ranges in
       free (9604 + 4 * i + 3) (record { names = λ a b c d e g. omega arith; parts = λ a b c d e g. omega arith; ranges = λ a b c d e g. omega arith; conditions = λ a b c d e g. omega arith; requirements = λ a b c d e g. omega arith; constraints = λ a b c d e g. omega arith }) w v
 
+  pub unions-head-free : (x v : ℕ) (w : List ℕ) → x < k .unions → tablesIn k (set w (11652 + 3 * x) v) ≡ tablesIn k w
+  unions-head-free x v w h =
+      let p = l .parts in
+      let r = l .ranges in
+      let n = l .unions in
+      free (11652 + 3 * x) (record { names = λ a b c d e g. omega arith; parts = λ a b c d e g. omega arith; ranges = λ a b c d e g. omega arith; conditions = λ a b c d e g. omega arith; requirements = λ a b c d e g. omega arith; constraints = λ a b c d e g. omega arith }) w v
+
   -- ---- each chain lies beside the others
 
   pub parts-beside-requirements : Beside partsByName (k .parts) (k .names) requirementsByOwner (k .requirements) (k .parts + 1)
@@ -239,6 +247,45 @@ module _ (k : Counts) (t : List ℕ) (l : Laid k (length t)) where
       let q = l .requirements in
       let c = l .constraints in
       let r = l .ranges in
+      record {
+        heads = λ x h. ((λ y g e. omega arith), (λ j g e. omega arith));
+        links = λ i h. ((λ y g e. omega arith), (λ j g e. omega arith));
+        keys = λ i h. ((λ y g e. omega arith), (λ j g e. omega arith));
+      }
+
+  pub parts-beside-unions : Beside partsByName (k .parts) (k .names) unionHeads 0 (k .unions)
+  parts-beside-unions =
+      let p = l .parts in
+      let n = l .names in
+      let q = l .requirements in
+      let c = l .constraints in
+      let u = l .unions in
+      record {
+        heads = λ x h. ((λ y g e. omega arith), (λ j g e. omega arith));
+        links = λ i h. ((λ y g e. omega arith), (λ j g e. omega arith));
+        keys = λ i h. ((λ y g e. omega arith), (λ j g e. omega arith));
+      }
+
+  pub requirements-beside-unions : Beside requirementsByOwner (k .requirements) (k .parts + 1) unionHeads 0 (k .unions)
+  requirements-beside-unions =
+      let p = l .parts in
+      let n = l .names in
+      let q = l .requirements in
+      let c = l .constraints in
+      let u = l .unions in
+      record {
+        heads = λ x h. ((λ y g e. omega arith), (λ j g e. omega arith));
+        links = λ i h. ((λ y g e. omega arith), (λ j g e. omega arith));
+        keys = λ i h. ((λ y g e. omega arith), (λ j g e. omega arith));
+      }
+
+  pub constraints-beside-unions : Beside constraintsByOwner (k .constraints) (k .parts + 1) unionHeads 0 (k .unions)
+  constraints-beside-unions =
+      let p = l .parts in
+      let n = l .names in
+      let q = l .requirements in
+      let c = l .constraints in
+      let u = l .unions in
       record {
         heads = λ x h. ((λ y g e. omega arith), (λ j g e. omega arith));
         links = λ i h. ((λ y g e. omega arith), (λ j g e. omega arith));

@@ -109,7 +109,7 @@ pub record Bounding (k : Counts) (m : List ℕ) (x : ℕ) (t t′ : List ℕ) : 
   pub bounded : Bounded k m x (words t′)
 
 -- the tables with their chains
-pub record Built (k : Counts) (m t t′ : List ℕ) : Type 0 where
+pub record Chained (k : Counts) (m t t′ : List ℕ) : Type 0 where
   pub same : tables k t′ ≡ tables k t
   pub chains : Chains k m t′
 

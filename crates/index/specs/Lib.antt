@@ -1,2 +1,3 @@
 pub mod Chains
+pub mod Members
 pub mod Indexed

@@ -1,5 +1,5 @@
-// Chains through the catalogue's tables, made once when the catalogue is read: the parts of a name, the requirements and the constraints of an owner.
-// A walk along a chain meets the rows of one key, in file order, and no others.
+// Chains through the catalogue's areas, made once when the catalogue is read: the parts of a name, the requirements and the constraints of an owner,
+// the members of a union. A walk along a chain meets the rows of one key, in file order, and no others; idle rows of a union it passes over.
 use cache::Choice;
 use tables::Counts;
 ghost use mathlib.Core.Path.{_≡_};
@@ -9,6 +9,8 @@ ghost use lib.ListN.{length, getD, set};
 ghost use Rattle.rules.specs.Lists.{listIf};
 ghost use Rattle.rules.specs.Candidates.{matching, nonMatching};
 ghost use Rattle.words.specs.Words.{words};
+ghost use Rattle.unions.specs.Unions.{noRow, rows};
+ghost use Rattle.kept.specs.Kept.{Given};
 ghost use Rattle.marks.specs.Marks.{NextMember, EndOfMembers};
 ghost use Rattle.cache.specs.Areas.{catalogue, Held};
 ghost use Rattle.cache.specs.Lists.{chosen, choice, Counted};
@@ -29,9 +31,23 @@ ghost use Rattle.index.specs.Chains.{
   BoundSet,
   Bounding,
   Chains,
-  Built,
+  Chained,
   Skips,
 };
+ghost use Rattle.index.specs.Members.{
+  EmptyIf,
+  IdleIf,
+  Passes,
+  Threaded,
+  UnionOf,
+  Unlinked,
+  Threading,
+  Relinked,
+  Shortened,
+  Passed,
+  Built,
+};
+ghost use Rattle.index.specs.Indexed.{Indexed};
 
 // ---- making the chains
 
@@ -210,16 +226,193 @@ fn bound_ranges(marks: &[u8], t: &mut [u8], k: Counts)
     }
 }
 
-// The chains of a catalogue that was read.
-pub fn build(marks: &[u8], t: &mut [u8], k: Counts)
+// The chains through the tables.
+fn chain_tables(marks: &[u8], t: &mut [u8], k: Counts)
     requires { ⌜ Laid k (length (now t)) × (65536 ≤ length (now marks)) ⌝ }
     requires { ⌜ Keys k (now t) ⌝ }
-    ensures { λ _. ⌜ Built k (now (marks .entry)) (now (t .entry)) (now (t .exit)) ⌝ }
+    ensures { λ _. ⌜ Chained k (now (marks .entry)) (now (t .entry)) (now (t .exit)) ⌝ }
 {
     link_parts(t, k);
     link_requirements(t, k);
     link_constraints(t, k);
     bound_ranges(marks, t, k);
+}
+
+// ---- the members of unions
+
+// No union has a row yet.
+fn start_unions(t: &mut [u8], k: Counts)
+    requires { ⌜ Laid k (length (now t)) ⌝ }
+    ensures { λ _. ⌜ Unlinked k (k .unions) (now (t .entry)) (now (t .exit)) ⌝ }
+{
+    let mut x = 0;
+    while x < k.unions {
+        words::put(t, 11652 + 3 * x, k.members as u16);
+        x += 1;
+    }
+}
+
+// The union of row i.
+fn union_of(unions: &[u8], k: Counts, i: usize) -> usize
+    requires { ⌜ (k .members ≤ 13107) × (52428 ≤ length (now unions)) × Given (k .unions) (rows (k .members) (now unions)) × (i < k .members) ⌝ }
+    ensures { λ x. ⌜ UnionOf k (rows (k .members) (now (unions .entry))) i x ⌝ }
+{
+    let m = unions::member_at(unions, k.members, i);
+    m.union as usize
+}
+
+// Row i, those behind it being linked.
+fn link_member(marks: &[u8], unions: &mut [u8], t: &mut [u8], k: Counts, i: usize)
+    requires { ⌜ Held k (length (now marks)) (length (now unions)) (length (now t)) ⌝ }
+    requires { ⌜ Given (k .unions) (rows (k .members) (now unions)) ⌝ }
+    requires { ⌜ Threaded k (now marks) (rows (k .members) (now unions)) (i + 1) (words (now t)) (words (now unions)) × (i < k .members) ⌝ }
+    ensures { λ _. ⌜ Threading k (now (marks .entry)) i (now (unions .entry)) (now (t .entry)) (now (unions .exit)) (now (t .exit)) ⌝ }
+{
+    let union = union_of(unions, k, i);
+    let first = words::get(t, 11652 + 3 * union);
+    unions::set_next(unions, i, first);
+    words::put(t, 11652 + 3 * union, i as u16);
+}
+
+// All rows by their unions.
+fn link_members(marks: &[u8], unions: &mut [u8], t: &mut [u8], k: Counts)
+    requires { ⌜ Held k (length (now marks)) (length (now unions)) (length (now t)) ⌝ }
+    requires { ⌜ Given (k .unions) (rows (k .members) (now unions)) ⌝ }
+    ensures { λ _. ⌜ Threading k (now (marks .entry)) 0 (now (unions .entry)) (now (t .entry)) (now (unions .exit)) (now (t .exit)) ⌝ }
+{
+    start_unions(t, k);
+    let mut i = k.members;
+    while 0 < i {
+        i -= 1;
+        link_member(marks, unions, t, k, i);
+    }
+}
+
+// Range r is given, and has no members.
+fn is_empty(marks: &[u8], t: &[u8], k: Counts, r: usize) -> bool
+    requires { ⌜ Laid k (length (now t)) × Chains k (now marks) (now t) ⌝ }
+    ensures { λ b. ⌜ EmptyIf b k (now (marks .entry)) r ⌝ }
+{
+    if r < k.ranges {
+        return first_member(marks, t, k, r) == k.parts;
+    }
+    false
+}
+
+// Row i is idle: it repeats row e, which is earlier, and its range has no members.
+fn is_idle(marks: &[u8], unions: &[u8], t: &[u8], k: Counts, e: usize, i: usize) -> bool
+    requires { ⌜ Held k (length (now marks)) (length (now unions)) (length (now t)) × Chains k (now marks) (now t) × (i < k .members) ⌝ }
+    ensures { λ b. ⌜ IdleIf b k (now (marks .entry)) (rows (k .members) (now (unions .entry))) i ⌝ }
+{
+    if e < i {
+        if unions::same(unions, k.members, e, i) {
+            let m = unions::member_at(unions, k.members, i);
+            return is_empty(marks, t, k, m.range as usize);
+        }
+    }
+    false
+}
+
+// The chain from row `last` leads to row i: if that is idle, on to the one behind it. The last row that the chain keeps.
+fn pass_row(
+    marks: &[u8],
+    unions: &mut [u8],
+    t: &[u8],
+    k: Counts,
+    e: u16,
+    last: usize,
+    i: usize,
+) -> usize
+    requires { ⌜ Held k (length (now marks)) (length (now unions)) (length (now t)) × Chains k (now marks) (now t) × (i < k .members) ⌝ }
+    requires { ⌜ Shortened k (now marks) (now unions) (now t) last i (now unions) ⌝ }
+    ensures { λ r. ⌜ Passed k (now (marks .entry)) (now (unions .entry)) (now (t .entry)) i r (now (unions .exit)) ⌝ }
+{
+    if is_idle(marks, unions, t, k, e as usize, i) {
+        unions::set_next(unions, last, unions::next(unions, i));
+        return last;
+    }
+    i
+}
+
+// The range of row i, below the ceiling of ranges.
+fn range_of(unions: &[u8], k: Counts, i: usize) -> usize
+    requires { ⌜ (k .members ≤ 13107) × (52428 ≤ length (now unions)) ⌝ }
+    ensures { λ r. ⌜ r < 512 ⌝ }
+{
+    let m = unions::member_at(unions, k.members, i);
+    (m.range % 512) as usize
+}
+
+// The same, an idle row being one that repeats the row where its range was last seen.
+fn pass_seen(
+    marks: &[u8],
+    unions: &mut [u8],
+    t: &[u8],
+    k: Counts,
+    seen: &mut [u16; 512],
+    last: usize,
+    i: usize,
+) -> usize
+    requires { ⌜ Held k (length (now marks)) (length (now unions)) (length (now t)) × Chains k (now marks) (now t) × (i < k .members) ⌝ }
+    requires { ⌜ Shortened k (now marks) (now unions) (now t) last i (now unions) ⌝ }
+    ensures { λ r. ⌜ Passed k (now (marks .entry)) (now (unions .entry)) (now (t .entry)) i r (now (unions .exit)) ⌝ }
+{
+    let r = range_of(unions, k, i);
+    let e = seen[r];
+    seen[r] = i as u16;
+    pass_row(marks, unions, t, k, e, last, i)
+}
+
+// The chain from its first row on passes idle rows.
+fn shorten(marks: &[u8], unions: &mut [u8], t: &[u8], k: Counts, first: u16)
+    requires { ⌜ Held k (length (now marks)) (length (now unions)) (length (now t)) × Chains k (now marks) (now t) × (first < k .members) ⌝ }
+    requires { ⌜ Threaded k (now marks) (rows (k .members) (now unions)) 0 (words (now t)) (words (now unions)) ⌝ }
+    ensures { λ _. ⌜ Relinked k (now (marks .entry)) (now (unions .entry)) (now (t .entry)) (now (unions .exit)) ⌝ }
+{
+    let mut seen = [first; 512];
+    let mut last = first as usize;
+    let mut i = unions::next(unions, last) as usize;
+    while i < k.members {
+        last = pass_seen(marks, unions, t, k, &mut seen, last, i);
+        i = unions::next(unions, last) as usize;
+    }
+}
+
+// The chain of union x.
+fn shorten_union(marks: &[u8], unions: &mut [u8], t: &[u8], k: Counts, x: usize)
+    requires { ⌜ Held k (length (now marks)) (length (now unions)) (length (now t)) × Chains k (now marks) (now t) × (x < k .unions) ⌝ }
+    requires { ⌜ Threaded k (now marks) (rows (k .members) (now unions)) 0 (words (now t)) (words (now unions)) ⌝ }
+    ensures { λ _. ⌜ Relinked k (now (marks .entry)) (now (unions .entry)) (now (t .entry)) (now (unions .exit)) ⌝ }
+{
+    let first = words::get(t, 11652 + 3 * x);
+    if (first as usize) < k.members {
+        shorten(marks, unions, t, k, first);
+    }
+}
+
+// The chains of all unions.
+fn shorten_unions(marks: &[u8], unions: &mut [u8], t: &[u8], k: Counts)
+    requires { ⌜ Held k (length (now marks)) (length (now unions)) (length (now t)) × Chains k (now marks) (now t) ⌝ }
+    requires { ⌜ Threaded k (now marks) (rows (k .members) (now unions)) 0 (words (now t)) (words (now unions)) ⌝ }
+    ensures { λ _. ⌜ Relinked k (now (marks .entry)) (now (unions .entry)) (now (t .entry)) (now (unions .exit)) ⌝ }
+{
+    let mut x = 0;
+    while x < k.unions {
+        shorten_union(marks, unions, t, k, x);
+        x += 1;
+    }
+}
+
+// The chains of a catalogue that was read.
+pub fn build(marks: &[u8], unions: &mut [u8], t: &mut [u8], k: Counts)
+    requires { ⌜ Held k (length (now marks)) (length (now unions)) (length (now t)) ⌝ }
+    requires { ⌜ Keys k (now t) ⌝ }
+    requires { ⌜ Given (k .unions) (rows (k .members) (now unions)) ⌝ }
+    ensures { λ _. ⌜ Built k (now (marks .entry)) (now (unions .entry)) (now (t .entry)) (now (unions .exit)) (now (t .exit)) ⌝ }
+{
+    chain_tables(marks, t, k);
+    link_members(marks, unions, t, k);
+    shorten_unions(marks, unions, t, k);
 }
 
 // ---- walking along them
@@ -323,6 +516,27 @@ fn next_member(marks: &[u8], t: &[u8], k: Counts, r: usize, i: usize) -> usize
     }
     let x = marks::next(marks, r, i + 1, end);
     if x < end { x } else { k.parts }
+}
+
+// The first row of a union, or one behind it if that is idle; or how many rows there are.
+pub fn first_of_union(marks: &[u8], unions: &[u8], t: &[u8], k: Counts, u: u16) -> usize
+    requires { ⌜ Indexed k (now marks) (now unions) (now t) ⌝ }
+    ensures { λ r. ⌜ Passes k (now (marks .entry)) (rows (k .members) (now (unions .entry))) u 0 r ⌝ }
+{
+    if (u as usize) < k.unions {
+        words::get(t, 11652 + 3 * u as usize) as usize
+    } else {
+        k.members
+    }
+}
+
+// The next one of the union of row i.
+pub fn next_of_union(marks: &[u8], unions: &[u8], t: &[u8], k: Counts, i: usize) -> usize
+    requires { ⌜ Indexed k (now marks) (now unions) (now t) ⌝ }
+    requires { ⌜ i < k .members ⌝ }
+    ensures { λ r. ⌜ Passes k (now (marks .entry)) (rows (k .members) (now (unions .entry))) ((getD (rows (k .members) (now (unions .entry))) i noRow) .union) (i + 1) r ⌝ }
+{
+    unions::next(unions, i) as usize
 }
 
 // ---- the chosen parts of a range, one after another

@@ -17,10 +17,13 @@ use Rattle.rules.proofs.WalkLaws.{walk-record, walk-end, walk-still, run-reads,
 use Rattle.refusal.specs.declared.Refusal.{Refusal}
 use Rattle.refusal.specs.Refusing.{refusalOf}
 use Rattle.tables.specs.declared.Counts.{Counts}
-use Rattle.cache.specs.Areas.{catalogue}
+use Rattle.cache.specs.Areas.{catalogue, Held}
+use Rattle.words.specs.Words.{words}
+use Rattle.unions.specs.Unions.{rows}
 use Rattle.kept.specs.Kept.{Kept}
-use Rattle.tables.specs.Tables.{Laid}
-use Rattle.index.specs.Chains.{Chains, Keys, Built}
+use Rattle.kept.specs.Kept as kept
+use Rattle.index.specs.Chains.{Chains, Keys}
+use Rattle.index.specs.Members.{Threaded, Built}
 use Rattle.index.proofs.Owners.{keys-given}
 use Rattle.catalogue.specs.declared.Read.{Read}
 use Rattle.catalogue.specs.declared.Read.the-variants as Read
@@ -71,21 +74,24 @@ module _ {job : List ℕ} {at : ℕ} {k : Counts} {m u t : List ℕ} {x : Read} 
   pub keys-read : Keys k t
   keys-read = keys-given k m u t (well-formed given-read)
 
-  pub laid-read : Laid k (length t)
-  laid-read = read-up .ended .kept .held .laid
+  pub held-read : Held k (length m) (length u) (length t)
+  held-read = read-up .ended .kept .held
+
+  pub given-members : kept.Given (k .unions) (rows (k .members) u)
+  given-members = read-up .ended .kept .given
 
   -- with its chains made it is the same catalogue
-  module _ {t′ : List ℕ} (b : Built k m t t′) (z : length t′ ≡ length t) where
-    same-catalogue : catalogue k m u t′ ≡ catalogue k m u t
+  module _ {u′ t′ : List ℕ} (b : Built k m u t u′ t′) (y : length u′ ≡ length u) (z : length t′ ≡ length t) where
+    same-catalogue : catalogue k m u′ t′ ≡ catalogue k m u t
     unfolding catalogue
-    same-catalogue = rw (b .same)
+    same-catalogue = rw (b .same, b .kept)
 
-    still-kept : Kept k m u t′
+    still-kept : Kept k m u′ t′
     still-kept =
         let a = read-up .ended .kept in
-        record { held = rw z (a .held); given = a .given; sized = rw (b .same) (a .sized) }
+        record { held = rw (y, z) (a .held); given = rw (b .kept) (a .given); sized = rw (b .same) (a .sized) }
 
-    pub read-built : ReadWhole job (Read.Sheet at k) m u t′
+    pub read-built : ReadWhole job (Read.Sheet at k) m u′ t′
     unfolding placeOf progressOf
     read-built =
         let a = read-up in
@@ -94,14 +100,17 @@ module _ {job : List ℕ} {at : ℕ} {k : Counts} {m u t : List ℕ} {x : Read} 
             same = rw same-catalogue (a .same);
             ended = record { kept = still-kept; inside = a .ended .inside; starts = a .ended .starts };
           };
-          chains = b .chains;
+          chains = (b .chains, rw (b .kept) (b .members));
         }
 
   -- what the sheet asks for, with the rest
-  sheet-asks : {A : Type 0} → Chains k m t → A → Catalogued k m u t × (UpToSheet job at k m u t × (Given (catalogue k m u t) × A))
+  sheet-asks : {A : Type 0} → Chains k m t × Threaded k m (rows (k .members) u) 0 (words t) (words u) → A
+      → Catalogued k m u t × (UpToSheet job at k m u t × (Given (catalogue k m u t) × A))
   sheet-asks d a =
-      let b = read-up .ended .kept in
-      (record { kept = record { held = b .held; given = b .given; sized = b .sized; chains = d }; formed = well-formed given-read }, (read-up .ended, (given-read, a)))
+      let b = read-up .ended .kept in (
+        record { kept = record { held = b .held; given = b .given; sized = b .sized; chains = d .0; members = d .1 }; formed = well-formed given-read },
+        (read-up .ended, (given-read, a)),
+      )
 
   -- what comes of the job is what comes of it from the sheet on
   pub from-sheet : {l : Limits} {r : Outcome} {out out′ : List ℕ} → RunsFrom l job at (reading (catalogue k m u t)) r out out′ → RunsFrom l job 0 (reading emptyCatalogue) r out out′

@@ -5,10 +5,13 @@ use Prim.Native.Nat.{ℕ}
 use lib.ListN.{length}
 use Rattle.rules.specs.Limits.{Terms}
 use Rattle.rules.specs.Job.{Progress}
+use Rattle.words.specs.Words.{words}
+use Rattle.unions.specs.Unions.{rows}
 use Rattle.catalogue.specs.declared.Read.{Read}
 use Rattle.catalogue.specs.declared.Read.the-variants as Read
 use Rattle.catalogue.specs.Walking.{ReadUp}
 use Rattle.index.specs.Chains.{Chains}
+use Rattle.index.specs.Members.{Threaded}
 use Rattle.state.specs.declared.Limits.{Limits}
 use Rattle.encoder.specs.Did.{limitsOf}
 use Rattle.carried.specs.Carrying.{endFrom}
@@ -20,11 +23,11 @@ pub record RunsFrom (l : Limits) (job : List ℕ) (at : ℕ) (p : Progress) (r :
   pub is : (t : Terms) → t .limits ≡ limitsOf l → t .listing ≡ length out → Comes job (endFrom t job at p) r out out′
 
 -- the chains of a catalogue that was read whole
-abbrev pub ChainsOf : Read → (m t : List ℕ) → Type 0
-ChainsOf (Read.Sheet at k) m t = Chains k m t
-ChainsOf (Read.Refused f at) m t = Unit {0}
+abbrev pub ChainsOf : Read → (m u t : List ℕ) → Type 0
+ChainsOf (Read.Sheet at k) m u t = Chains k m t × Threaded k m (rows (k .members) u) 0 (words t) (words u)
+ChainsOf (Read.Refused f at) m u t = Unit {0}
 
 -- the catalogue was read, and its chains are made
 pub record ReadWhole (job : List ℕ) (r : Read) (m u t : List ℕ) : Type 0 where
   pub read : ReadUp job r m u t
-  pub chains : ChainsOf r m t
+  pub chains : ChainsOf r m u t

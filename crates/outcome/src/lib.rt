@@ -55,7 +55,7 @@ fn read_whole(job: &[u8], marks: &mut [u8], unions: &mut [u8], t: &mut [u8]) -> 
 {
     match catalogue::read_catalogue(job, marks, unions, t) {
         Read::Sheet { at, counts } => {
-            index::build(marks, t, counts);
+            index::build(marks, unions, t, counts);
             Read::Sheet { at, counts }
         }
         Read::Refused { refusal, at } => Read::Refused { refusal, at },

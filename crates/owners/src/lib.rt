@@ -69,11 +69,11 @@ fn open_union(
     ensures { λ m. ⌜ StateDid (catalogue k (now (marks .entry)) (now (unions .entry)) (now (t .entry))) l (λ v. onOpening (openNames (catalogue k (now (marks .entry)) (now (unions .entry)) (now (t .entry))) (goalRanges (catalogue k (now (marks .entry)) (now (unions .entry)) (now (t .entry))) (union u)))) n (held l (now (s .entry))) m (held l (now (s .exit))) ⌝ }
 {
     let mut m = n;
-    let mut i = unions::next_of(unions, k.members, u, 0);
+    let mut i = index::first_of_union(marks, unions, t, k, u);
     while i < k.members {
         let member = unions::member_at(unions, k.members, i);
         m = open_range(marks, unions, t, k, s, l, m, member.range);
-        i = unions::next_of(unions, k.members, u, i + 1);
+        i = index::next_of_union(marks, unions, t, k, i);
     }
     m
 }

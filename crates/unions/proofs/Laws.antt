@@ -1,19 +1,23 @@
--- Unions against their code: a law for each way out of each function, the loop of `next_of`, and a walk along a union for callers.
+-- Unions against their code: a law for each way out of each function, and a union's ranges from a row on and before it.
 use mathlib.Core.Path.{_≡_, refl, sym, _∙_, ap}
-use mathlib.Core.List.{List, [], _∷_, _++_, map, append-assoc, append-nil}
-use Prim.Native.Nat.{ℕ, zero, suc, _+_, _*_, _<_, _≤_}
-use native.Mathlib.Nat.{le-refl, le-of-suc-le-suc, not-suc-le-zero, add-zero}
+use mathlib.Core.Bool.{Bool, true}
+use mathlib.Core.List.{List, [], _∷_, _++_, map, append-nil}
+use Prim.Native.Nat.{ℕ, zero, suc, _+_, _*_, _/_, _%_, _<_, _≤_}
+use native.Mathlib.Nat.{le-of-suc-le-suc, not-suc-le-zero, add-zero}
 use native.Mathlib.Numerals.{add-one}
 use native.Mathlib.Decide.{decLt, ℕ-discrete}
 use native.Mathlib.Omega.{arith}
-use lib.ListN.{length, getD, set, drop, length-map, length-set, drop-of-length-le, List·getD-eq-default, List·getD-append}
-use lib.Seq.{getD-at, getD-set-same, getD-set-other, drop-cons, ext-getD}
-use borrow.Author.Tests.{eq-eqb, ne-eqb}
+use lib.Dec.{eqb}
+use lib.ListN.{length, getD, set, take, drop, length-map, take-append-drop, drop-of-length-le, List·getD-eq-default, List·getD-append}
+use lib.Seq.{getD-at, getD-set-same, getD-set-other, drop-cons, take-suc, take-all, ext-getD}
+use borrow.Author.Tests.{eq-eqb, ne-eqb, eqb-true}
+use Rattle.rules.specs.Called.{_∈_}
 use Rattle.rules.specs.Lists.{filter, snoc, upTo}
 use Rattle.rules.proofs.ListLaws.{length-upTo, length-snoc}
+use Rattle.rules.proofs.Membership.{at-end, in-left}
 use Rattle.words.specs.Words.{words, words-in}
 use Rattle.unions.specs.declared.Member.{Member}
-use Rattle.unions.specs.Unions.{Row, noRow, rowIn, rows, rowOf, pushed, rangesOf, left, At, Next}
+use Rattle.unions.specs.Unions.{Row, noRow, rowFrom, rowIn, rows, rowOf, pushed, rangesOf, left, before, SameIf}
 
 -- ---- rows
 
@@ -35,10 +39,9 @@ row-at n b i h =
     let e : 0 + i ≡ i = omega arith in
     numbered (rowIn (words b)) 0 n i h ∙ ap (rowIn (words b)) e
 
-pub member-in : (n i x y : ℕ) (b : List ℕ) → i < n → x ≡ getD (words b) (2 * i) 0 → y ≡ getD (words b) (2 * i + 1) 0
-    → rowOf (record { union = x; range = y }) ≡ getD (rows n b) i noRow
-unfolding rowOf rowIn
-member-in n i x y b h e f = rw (row-at n b i h, e, f)
+pub member-in : (n i x : ℕ) (b : List ℕ) → i < n → x ≡ getD (words b) (2 * i) 0 → rowOf (record { union = x / 512; range = x % 512 }) ≡ getD (rows n b) i noRow
+unfolding rowOf rowIn rowFrom
+member-in n i x b h e = rw (row-at n b i h, e)
 
 pub member-past : (n i : ℕ) (b : List ℕ) → n ≤ i → rowOf (record { union = 0; range = 0 }) ≡ getD (rows n b) i noRow
 unfolding rowOf
@@ -46,49 +49,56 @@ member-past n i b h =
     let g : length (rows n b) ≤ i = rw length-rows h in
     sym (List·getD-eq-default (rows n b) noRow g)
 
+pub same-if : (n i j x y : ℕ) (b : Bool) (bytes : List ℕ) → i < n → j < n → x ≡ getD (words bytes) (2 * i) 0 → y ≡ getD (words bytes) (2 * j) 0 → b ≡ eqb x y
+    → SameIf b (rows n bytes) i j
+same-if n i j x y b bytes h g e f d = record { so = λ q. (row-at n bytes i h ∙ (alike q ∙ sym (row-at n bytes j g))) }
+  where
+    alike : b ≡ true → rowIn (words bytes) i ≡ rowIn (words bytes) j
+    alike q = unfold rowIn in rw (← e, ← f, eqb-true x y (sym d ∙ q))
+
 -- ---- one row more
 
--- two numbers stored side by side
-module _ (w : List ℕ) (k x y : ℕ) where
-  pair-before : (i : ℕ) → i < k → getD (set (set w k x) (k + 1) y) i 0 ≡ getD w i 0
-  pair-before i h = getD-set-other (set w k x) (k + 1) i y 0 (λ e. omega arith) ∙ getD-set-other w k i x 0 (λ e. omega arith)
-
-  pair-first : k + 1 < length w → getD (set (set w k x) (k + 1) y) k 0 ≡ x
-  pair-first h = getD-set-other (set w k x) (k + 1) k y 0 (λ e. omega arith) ∙ getD-set-same w k x 0 (omega arith)
-
-  pair-second : k + 1 < length w → getD (set (set w k x) (k + 1) y) (k + 1) 0 ≡ y
-  pair-second h = getD-set-same (set w k x) (k + 1) y 0 (rw length-set h)
-
-module _ (n : ℕ) (b b₁ b₂ : List ℕ) (m : Member) (h : n < 13107) (l : 52428 ≤ length b)
-    (e : words b₁ ≡ set (words b) (2 * n) (m .union)) (f : words b₂ ≡ set (words b₁) (2 * n + 1) (m .range)) where
-  stored : words b₂ ≡ set (set (words b) (2 * n) (m .union)) (2 * n + 1) (m .range)
-  stored = f ∙ rw e
-
-  row-before : (i : ℕ) → i < n → rowIn (words b₂) i ≡ rowIn (words b) i
+module _ (n : ℕ) (b b₁ : List ℕ) (m : Member) (h : n < 13107) (l : 52428 ≤ length b) (low : m .union < 128) (small : m .range < 512)
+    (e : words b₁ ≡ set (words b) (2 * n) (m .union * 512 + m .range)) where
+  row-before : (i : ℕ) → i < n → rowIn (words b₁) i ≡ rowIn (words b) i
   unfolding rowIn
-  row-before i g = rw (stored, pair-before (words b) (2 * n) _ _ (2 * i) (omega arith), pair-before (words b) (2 * n) _ _ (2 * i + 1) (omega arith))
+  row-before i g = rw (e, getD-set-other (words b) (2 * n) (2 * i) (m .union * 512 + m .range) 0 (λ q. omega arith))
 
-  row-new : rowIn (words b₂) n ≡ rowOf m
-  unfolding rowIn rowOf
+  row-new : rowIn (words b₁) n ≡ rowOf m
+  unfolding rowIn rowFrom rowOf
   row-new =
-      let g : 2 * n + 1 < length (words b) = words-in b (2 * n + 1) (omega arith) in
-      rw (stored, pair-first (words b) (2 * n) _ _ g, pair-second (words b) (2 * n) _ _ g)
+      let g : 2 * n < length (words b) = words-in b (2 * n) (omega arith) in
+      let x : (m .union * 512 + m .range) / 512 ≡ m .union = omega arith in
+      let y : (m .union * 512 + m .range) % 512 ≡ m .range = omega arith in
+      rw (e, getD-set-same (words b) (2 * n) (m .union * 512 + m .range) 0 g, x, y)
 
-  row-after : (i : ℕ) → i < n + 1 → getD (rows (n + 1) b₂) i noRow ≡ getD (rows n b ++ (rowOf m ∷ [])) i noRow
+  row-after : (i : ℕ) → i < n + 1 → getD (rows (n + 1) b₁) i noRow ≡ getD (rows n b ++ (rowOf m ∷ [])) i noRow
   row-after i g = elim (decLt i n) [
     | yes k ↦
         let q : i < length (rows n b) = rw length-rows k in
-        rw (row-at (n + 1) b₂ i g, row-before i k, List·getD-append (rows n b) (rowOf m ∷ []) noRow i q, row-at n b i k)
+        rw (row-at (n + 1) b₁ i g, row-before i k, List·getD-append (rows n b) (rowOf m ∷ []) noRow i q, row-at n b i k)
     | no k ↦
         let q : i ≡ n = omega arith in
-        row-at (n + 1) b₂ i g ∙ rw (q, row-new) (sym (getD-at (rows n b) (rowOf m) [] noRow n (length-rows n b)))
+        row-at (n + 1) b₁ i g ∙ rw (q, row-new) (sym (getD-at (rows n b) (rowOf m) [] noRow n (length-rows n b)))
   ]
 
-  pub push-is : rows (n + 1) b₂ ≡ pushed (rows n b) (rowOf m)
+  pub push-is : rows (n + 1) b₁ ≡ pushed (rows n b) (rowOf m)
   unfolding pushed snoc
   push-is =
-      let q : length (rows (n + 1) b₂) ≡ length (snoc (rows n b) (rowOf m)) = rw (length-snoc, length-rows (n + 1) b₂, length-rows n b) (add-one n) in
-      ext-getD noRow (rows (n + 1) b₂) (rows n b ++ (rowOf m ∷ [])) q (λ i g. row-after i (rw length-rows at g))
+      let q : length (rows (n + 1) b₁) ≡ length (snoc (rows n b) (rowOf m)) = rw (length-snoc, length-rows (n + 1) b₁, length-rows n b) (add-one n) in
+      ext-getD noRow (rows (n + 1) b₁) (rows n b ++ (rowOf m ∷ [])) q (λ i g. row-after i (rw length-rows at g))
+
+-- a link stored changes no row
+pub rows-linked : (n : ℕ) (b b₁ : List ℕ) (i v : ℕ) → words b₁ ≡ set (words b) (2 * i + 1) v → rows n b₁ ≡ rows n b
+rows-linked n b b₁ i v e =
+    let q : length (rows n b₁) ≡ length (rows n b) = rw (length-rows n b₁, length-rows n b) in
+    ext-getD noRow (rows n b₁) (rows n b) q (λ j g. same j (rw length-rows at g))
+  where
+    kept : (j : ℕ) → rowIn (words b₁) j ≡ rowIn (words b) j
+    kept j = unfold rowIn in rw (e, getD-set-other (words b) (2 * i + 1) (2 * j) v 0 (λ q. omega arith))
+
+    same : (j : ℕ) → j < n → getD (rows n b₁) j noRow ≡ getD (rows n b) j noRow
+    same j g = row-at n b₁ j g ∙ (kept j ∙ sym (row-at n b j g))
 
 -- ---- the ranges of a union
 
@@ -120,67 +130,83 @@ pub ranges-pushed-other : (u : ℕ) (x : Row) (rs : List Row) → (x .union ≡ 
 unfolding pushed snoc
 ranges-pushed-other u x rs e = rw (ranges-append u rs (x ∷ []), ranges-other u x [] e, ranges-none u) (append-nil (rangesOf u rs))
 
-left-past : (u i : ℕ) (rs : List Row) → length rs ≤ i → left u i rs ≡ []
+-- a union with a row has a range
+pub row-of-none : (i : ℕ) (rs : List Row) → i < length rs → rangesOf ((getD rs i noRow) .union) rs ≡ [] → ⊥
+row-of-none i [] h e = absurd (not-suc-le-zero h)
+row-of-none zero (x ∷ rs) h e =
+    let q : x .range ∷ rangesOf (x .union) rs ≡ [] = sym (ranges-here (x .union) x rs refl) ∙ e in
+    let z : _≡_ {A = ℕ} 0 1 = cc in
+    omega arith
+row-of-none (suc i) (x ∷ rs) h e = elim (ℕ-discrete (x .union) ((getD rs i noRow) .union)) [
+  | yes q ↦
+      let c : x .range ∷ rangesOf ((getD rs i noRow) .union) rs ≡ [] = sym (ranges-here ((getD rs i noRow) .union) x rs q) ∙ e in
+      let z : _≡_ {A = ℕ} 0 1 = cc in
+      omega arith
+  | no q ↦ row-of-none i rs (le-of-suc-le-suc h) (sym (ranges-other ((getD rs i noRow) .union) x rs q) ∙ e)
+]
+
+pub left-past : (u i : ℕ) (rs : List Row) → length rs ≤ i → left u i rs ≡ []
 unfolding left
 left-past u i rs h = ap (rangesOf u) (drop-of-length-le rs h) ∙ ranges-none u
 
--- the loop at place i: no row of the union was passed since `from`
-pub record Passed (n : ℕ) (rs : List Row) (u from i : ℕ) : Type 0 where
-  pub count : length rs ≡ n
-  pub onward : from ≤ i
-  pub most : i ≤ n
-  pub same : left u from rs ≡ left u i rs
+-- ---- a row more of those that are left, and of those before
 
-pub next-start : (n u from : ℕ) (b : List ℕ) → from ≤ n → Passed n (rows n b) u from from
-next-start n u from b h = record { count = length-rows n b; onward = le-refl from; most = h; same = refl }
+module _ (u i : ℕ) (rs : List Row) (h : i < length rs) where
+  opened : drop i rs ≡ getD rs i noRow ∷ drop (i + 1) rs
+  opened = rw add-one (drop-cons rs i noRow h)
 
-module _ {n u from i : ℕ} {rs : List Row} (m : Member) (p : Passed n rs u from i) (e : rowOf m ≡ getD rs i noRow) (h : i < n) where
-  opened : drop i rs ≡ rowOf m ∷ drop (i + 1) rs
-  opened = rw (e, add-one) (drop-cons rs i noRow (omega arith))
+  pub left-here : (getD rs i noRow) .union ≡ u → left u i rs ≡ (getD rs i noRow) .range ∷ left u (i + 1) rs
+  unfolding left
+  left-here e = ap (rangesOf u) opened ∙ ranges-here u (getD rs i noRow) (drop (i + 1) rs) e
 
-  pub next-step : (m .union ≡ u → ⊥) → Passed n rs u from (i + 1)
-  unfolding left rowOf
-  next-step f =
-      let q : left u i rs ≡ left u (i + 1) rs = ap (rangesOf u) opened ∙ ranges-other u (rowOf m) (drop (i + 1) rs) f in
-      record { count = p .count; onward = omega arith; most = omega arith; same = p .same ∙ q }
+  pub left-other : ((getD rs i noRow) .union ≡ u → ⊥) → left u i rs ≡ left u (i + 1) rs
+  unfolding left
+  left-other e = ap (rangesOf u) opened ∙ ranges-other u (getD rs i noRow) (drop (i + 1) rs) e
 
-  pub next-found : m .union ≡ u → Next n rs u from i
-  unfolding left rowOf
-  next-found f =
-      let q : left u i rs ≡ (getD rs i noRow) .range ∷ left u (i + 1) rs = ap (rangesOf u) opened ∙ ranges-here u (rowOf m) (drop (i + 1) rs) f ∙ rw e in
-      let a : At n rs u i = record { most = p .most; here = λ _. q; none-left = λ l. let no-such : ⊥ = omega arith in absurd no-such } in
-      record { onward = p .onward; same = p .same; at = a }
+  taken : take (i + 1) rs ≡ pushed (take i rs) (getD rs i noRow)
+  unfolding pushed snoc
+  taken = rw add-one (take-suc rs i noRow h)
 
-pub next-none : {n u from i : ℕ} {rs : List Row} → Passed n rs u from i → n ≤ i → Next n rs u from n
-next-none {n} {u} {from} {i} {rs} p h =
-    let e : i ≡ n = omega arith in
-    let g : length rs ≤ n = omega arith in
-    let a : At n rs u n = record { most = le-refl n; here = λ l. let no-such : ⊥ = omega arith in absurd no-such; none-left = λ _. left-past u n rs g } in
-    record { onward = omega arith; same = rw e at (p .same); at = a }
+  pub before-here : (getD rs i noRow) .union ≡ u → before u (i + 1) rs ≡ snoc (before u i rs) ((getD rs i noRow) .range)
+  unfolding before
+  before-here e = ap (rangesOf u) taken ∙ ranges-pushed u (getD rs i noRow) (take i rs) e
 
--- ---- a caller's walk: from the first place of a union to the next, and on
+  pub before-other : ((getD rs i noRow) .union ≡ u → ⊥) → before u (i + 1) rs ≡ before u i rs
+  unfolding before
+  before-other e = ap (rangesOf u) taken ∙ ranges-pushed-other u (getD rs i noRow) (take i rs) e
 
-pub walk-start : {n u r : ℕ} {rs : List Row} → Next n rs u 0 r → left u r rs ≡ rangesOf u rs
+pub left-all : (u : ℕ) (rs : List Row) → left u 0 rs ≡ rangesOf u rs
 unfolding left
-walk-start x = sym (x .same)
+left-all u rs = refl
 
-pub walk-step : {n u i r : ℕ} {rs : List Row} (m : Member) → At n rs u i → i < n → rowOf m ≡ getD rs i noRow → Next n rs u (i + 1) r
-    → left u i rs ≡ m .range ∷ left u r rs
-unfolding rowOf
-walk-step m a h e x = a .here h ∙ rw (← e, x .same)
+pub before-none : (u : ℕ) (rs : List Row) → before u 0 rs ≡ []
+unfolding before
+before-none u rs = ranges-none u
 
--- by the list of the ranges seen
-pub record Seen (n : ℕ) (rs : List Row) (u i : ℕ) (seen : List ℕ) : Type 0 where
-  pub at : At n rs u i
-  pub is : seen ++ left u i rs ≡ rangesOf u rs
+pub before-all : (u i : ℕ) (rs : List Row) → length rs ≤ i → before u i rs ≡ rangesOf u rs
+unfolding before
+before-all u i rs h = ap (rangesOf u) (take-all i rs h)
 
-pub seen-start : {n u r : ℕ} {rs : List Row} → Next n rs u 0 r → Seen n rs u r []
-seen-start x = record { at = x .at; is = walk-start x }
+-- a row of the union among the first i
+pub before-in : (u j i : ℕ) (rs : List Row) → j < i → i ≤ length rs → (getD rs j noRow) .union ≡ u → (getD rs j noRow) .range ∈ before u i rs
+before-in u j zero rs h l e = absurd (not-suc-le-zero h)
+before-in u j (suc i) rs h l e = rw (← add-one i) (elim (ℕ-discrete j i) [
+  | yes q ↦ rw (before-here u i rs l (rw q at e), q) (unfold snoc in at-end (before u i rs) ((getD rs i noRow) .range))
+  | no q ↦ further (before-in u j i rs (omega arith) (omega arith) e)
+])
+  where
+    further : (getD rs j noRow) .range ∈ before u i rs → (getD rs j noRow) .range ∈ before u (i + 1) rs
+    further m = elim (ℕ-discrete ((getD rs i noRow) .union) u) [
+      | yes q ↦ rw (before-here u i rs l q) (unfold snoc in in-left (((getD rs i noRow) .range) ∷ []) m)
+      | no q ↦ rw (before-other u i rs l q) m
+    ]
 
-pub seen-step : {n u i r : ℕ} {rs : List Row} {seen : List ℕ} (m : Member) → Seen n rs u i seen → i < n → rowOf m ≡ getD rs i noRow
-    → Next n rs u (i + 1) r → Seen n rs u r (snoc seen (m .range))
-unfolding snoc
-seen-step m s h e x = record { at = x .at; is = rw append-assoc (rw (walk-step m (s .at) h e x) at (s .is)) }
+pub before-left : (u i : ℕ) (rs : List Row) → before u i rs ++ left u i rs ≡ rangesOf u rs
+unfolding before left
+before-left u i rs = sym (ranges-append u (take i rs) (drop i rs)) ∙ ap (rangesOf u) (take-append-drop i rs)
 
-pub seen-end : {n u i : ℕ} {rs : List Row} {seen : List ℕ} → Seen n rs u i seen → n ≤ i → seen ≡ rangesOf u rs
-seen-end {seen = seen} s h = sym (append-nil seen) ∙ rw (s .at .none-left h) at (s .is)
+-- ---- a range is below its ceiling
+
+pub range-low : (n : ℕ) (b : List ℕ) (i : ℕ) → i < n → (getD (rows n b) i noRow) .range < 512
+unfolding rowIn rowFrom
+range-low n b i h = rw (row-at n b i h) (omega arith)

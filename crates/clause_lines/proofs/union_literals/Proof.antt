@@ -3,21 +3,18 @@ use borrow.Author.Needs.{needs}
 use Prim.Native.Nat.{_-_}
 use Rattle.state.specs.Layout.{held}
 use Rattle.variable_map.specs.Mapping.{variables}
-use Rattle.cache.specs.Areas.{catalogue}
-use Rattle.unions.specs.Unions.{rows}
-use Rattle.line_fields.specs.Listed.{Ready}
 use Rattle.clause_lines.proofs.Walks.{Walking, walking-start, walking-known, walking-step, walking-end, walking-over}
 use Rattle.clause_lines.proofs.union_literals.Statement.{statement}
 use Rattle.clause_lines.proofs.union_literals.Tie as tie
 
 abbrev Inv-loop : tie.InvT-loop
-Inv-loop marks unions t k s l n out₀ room at u a₀ i₀ out a i = Walking (Ready k marks unions t l n s room) (catalogue k marks unions t) (variables (n .variables) (held l s)) (k .members) (rows (k .members) unions) u at a i room out₀ out
+Inv-loop marks unions t k s l n out₀ room at u a₀ i₀ out a i = Walking k marks unions t l n s (variables (n .variables) (held l s)) u at a i room out₀ out
 
 abbrev μ-loop : tie.MeasureT-loop
 μ-loop marks unions t k s l n out₀ room at u a₀ i₀ out a i = k .members - i
 
-next-of-requires : tie.Need-next-of-requires Inv-loop μ-loop
-next-of-requires c κs = search needs
+first-of-union-requires : tie.Need-first-of-union-requires Inv-loop μ-loop
+first-of-union-requires c κs = search needs
 
 loop-holds : tie.Need-loop-holds Inv-loop μ-loop
 loop-holds c = search (needs, walking-start)
@@ -40,11 +37,8 @@ cast-range-literals c = search needs
 range-literals-requires : tie.Need-range-literals-requires Inv-loop μ-loop
 range-literals-requires c κs = (search needs, search (needs, walking-known))
 
-add-next-of : tie.Need-add-next-of Inv-loop μ-loop
-add-next-of c = search needs
-
-next-of-requires-2 : tie.Need-next-of-requires-2 Inv-loop μ-loop
-next-of-requires-2 c κs = search needs
+next-of-union-requires : tie.Need-next-of-union-requires Inv-loop μ-loop
+next-of-union-requires c κs = search needs
 
 loop-less : tie.Need-loop-less Inv-loop μ-loop
 loop-less c = search needs
@@ -64,7 +58,7 @@ union-literals-spec =
     (tie.spec
     Inv-loop
     μ-loop
-    next-of-requires
+    first-of-union-requires
     loop-holds
     over-requires
     same-length
@@ -72,8 +66,7 @@ union-literals-spec =
     member-at-requires
     cast-range-literals
     range-literals-requires
-    add-next-of
-    next-of-requires-2
+    next-of-union-requires
     loop-less
     loop-again
     same-length-2

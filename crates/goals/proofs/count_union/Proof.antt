@@ -1,20 +1,18 @@
 -- `goals::count_union` counts the candidates of a union, and stops at `most`. The invariant: what was counted and what is left are the whole.
 use borrow.Author.Needs.{needs}
 use Prim.Native.Nat.{_-_}
-use Rattle.unions.specs.Unions.{rows}
-use Rattle.cache.specs.Areas.{catalogue}
 use Rattle.goals.proofs.Counting.{Totalling, total-start, total-step, total-full, total-end}
 use Rattle.goals.proofs.count_union.Statement.{statement}
 use Rattle.goals.proofs.count_union.Tie as tie
 
 abbrev Inv-loop : tie.InvT-loop
-Inv-loop marks unions t k u most total₀ i₀ total i = Totalling (catalogue k marks unions t) (k .members) (rows (k .members) unions) u most total i
+Inv-loop marks unions t k u most total₀ i₀ total i = Totalling k marks unions t u most total i
 
 abbrev μ-loop : tie.MeasureT-loop
 μ-loop marks unions t k u most total₀ i₀ total i = k .members - i
 
-next-of-requires : tie.Need-next-of-requires Inv-loop μ-loop
-next-of-requires c κs = search needs
+first-of-union-requires : tie.Need-first-of-union-requires Inv-loop μ-loop
+first-of-union-requires c κs = search needs
 
 loop-holds : tie.Need-loop-holds Inv-loop μ-loop
 loop-holds c = search (needs, total-start)
@@ -34,11 +32,8 @@ add-total c = search needs
 returns : tie.Need-returns Inv-loop μ-loop
 returns c = search (needs, total-full)
 
-add-next-of : tie.Need-add-next-of Inv-loop μ-loop
-add-next-of c = search needs
-
-next-of-requires-2 : tie.Need-next-of-requires-2 Inv-loop μ-loop
-next-of-requires-2 c κs = search needs
+next-of-union-requires : tie.Need-next-of-union-requires Inv-loop μ-loop
+next-of-union-requires c κs = search needs
 
 loop-less : tie.Need-loop-less Inv-loop μ-loop
 loop-less c = search needs
@@ -55,15 +50,14 @@ count-union-spec =
     (tie.spec
     Inv-loop
     μ-loop
-    next-of-requires
+    first-of-union-requires
     loop-holds
     member-at-requires
     cast-matching-count
     matching-count-requires
     add-total
     returns
-    add-next-of
-    next-of-requires-2
+    next-of-union-requires
     loop-less
     loop-again
     returns-2)

@@ -1,19 +1,18 @@
--- `goals::gather_union` lists the ranges of a union, each once. The invariant: what is left of the list's making is the whole of it.
+-- `goals::gather_union` lists the ranges of a union, each once. The invariant: the list at hand is that of the rows before.
 use borrow.Author.Needs.{needs}
 use Prim.Native.Nat.{_-_}
-use Rattle.unions.specs.Unions.{rows}
 use Rattle.goals.proofs.Hand.{Gathering, gather-start, gather-low, gather-step, gather-end}
 use Rattle.goals.proofs.gather_union.Statement.{statement}
 use Rattle.goals.proofs.gather_union.Tie as tie
 
 abbrev Inv-loop : tie.InvT-loop
-Inv-loop marks unions t k s₀ l u m₀ i₀ s m i = Gathering (k .members) (rows (k .members) unions) u l s₀ s m i
+Inv-loop marks unions t k s₀ l u m₀ i₀ s m i = Gathering k unions u l s₀ s m i
 
 abbrev μ-loop : tie.MeasureT-loop
 μ-loop marks unions t k s₀ l u m₀ i₀ s m i = k .members - i
 
-next-of-requires : tie.Need-next-of-requires Inv-loop μ-loop
-next-of-requires c κs = search needs
+first-of-union-requires : tie.Need-first-of-union-requires Inv-loop μ-loop
+first-of-union-requires c κs = search needs
 
 loop-holds : tie.Need-loop-holds Inv-loop μ-loop
 loop-holds c = search (needs, gather-start)
@@ -24,11 +23,8 @@ member-at-requires c κs = search needs
 note-requires : tie.Need-note-requires Inv-loop μ-loop
 note-requires c κs = search (needs, gather-low)
 
-add-next-of : tie.Need-add-next-of Inv-loop μ-loop
-add-next-of c = search needs
-
-next-of-requires-2 : tie.Need-next-of-requires-2 Inv-loop μ-loop
-next-of-requires-2 c κs = search needs
+next-of-union-requires : tie.Need-next-of-union-requires Inv-loop μ-loop
+next-of-union-requires c κs = search needs
 
 loop-less : tie.Need-loop-less Inv-loop μ-loop
 loop-less c = search needs
@@ -48,12 +44,11 @@ gather-union-spec =
     (tie.spec
     Inv-loop
     μ-loop
-    next-of-requires
+    first-of-union-requires
     loop-holds
     member-at-requires
     note-requires
-    add-next-of
-    next-of-requires-2
+    next-of-union-requires
     loop-less
     loop-again
     same-length

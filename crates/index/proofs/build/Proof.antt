@@ -1,34 +1,34 @@
 -- `index::build` makes the chains one after another; each leaves the others.
 use borrow.Author.Needs.{needs}
-use Rattle.index.proofs.Laws.{requirements-keyed, constraints-keyed, all-built}
+use Rattle.index.proofs.Members.{chains-still, threaded-now, all-linked}
 use Rattle.index.proofs.build.Statement.{statement}
 use Rattle.index.proofs.build.Tie as tie
 
-link-parts-requires : tie.Need-link-parts-requires
-link-parts-requires c κs = search needs
+chain-tables-requires : tie.Need-chain-tables-requires
+chain-tables-requires c κs = search needs
 
-link-requirements-requires : tie.Need-link-requirements-requires
-link-requirements-requires c κs = (search needs, search (needs, requirements-keyed))
+link-members-requires : tie.Need-link-members-requires
+link-members-requires c κs = search needs
 
-link-constraints-requires : tie.Need-link-constraints-requires
-link-constraints-requires c κs = (search needs, search (needs, constraints-keyed))
-
-bound-ranges-requires : tie.Need-bound-ranges-requires
-bound-ranges-requires c κs = search needs
+shorten-unions-requires : tie.Need-shorten-unions-requires
+shorten-unions-requires c κs = ((search needs, chains-still (c .before .before .before .before .before .before .before .before .before .before .before .before .before .before .before .before .pre .0 .laid) (search needs) (c .before .before .before .before .before .before .before .before .before .before .before .chain-tables .ensures) (c .before .before .before .before .before .before .link-members .ensures)), threaded-now (c .before .before .before .before .before .before .link-members .ensures))
 
 same-length : tie.Need-same-length
 same-length c = search needs
 
+same-length-2 : tie.Need-same-length-2
+same-length-2 c = search needs
+
 returns : tie.Need-returns
-returns c = search (needs, all-built)
+returns c = search (needs, all-linked)
 
 pub build-spec : {M : Type 1} → statement M
 build-spec =
     tie.close
     (tie.spec
-    link-parts-requires
-    link-requirements-requires
-    link-constraints-requires
-    bound-ranges-requires
+    chain-tables-requires
+    link-members-requires
+    shorten-unions-requires
     same-length
+    same-length-2
     returns)

@@ -1,6 +1,6 @@
 -- `outcome::read_whole`: the catalogue is read, and its chains are made.
 use borrow.Author.Needs.{needs}
-use Rattle.outcome.proofs.Walked.{keys-read, laid-read, read-built, not-read}
+use Rattle.outcome.proofs.Walked.{keys-read, held-read, given-members, read-built, not-read}
 use Rattle.outcome.proofs.read_whole.Statement.{statement}
 use Rattle.outcome.proofs.read_whole.Tie as tie
 
@@ -11,7 +11,7 @@ enum-known-at : tie.Need-enum-known-at
 enum-known-at c = search needs
 
 build-requires : tie.Need-build-requires
-build-requires c κs = ((search (needs, laid-read), search needs), search (needs, keys-read))
+build-requires c κs = (search (needs, held-read), (search (needs, keys-read), search (needs, given-members)))
 
 enum-known-refusal : tie.Need-enum-known-refusal
 enum-known-refusal c = search needs

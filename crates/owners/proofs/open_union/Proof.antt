@@ -5,7 +5,6 @@ use Prim.Native.Nat.{_-_}
 use lib.ListN.{length}
 use Rattle.state.specs.Layout.{held}
 use Rattle.owners.proofs.Names.{Opened, opened-start, union-range, opened-step, opened-end}
-use native.Mathlib.Omega.{arith}
 use Rattle.state.proofs.Sizes.{fits-same}
 use Rattle.owners.proofs.open_union.Statement.{statement}
 use Rattle.owners.proofs.open_union.Tie as tie
@@ -16,8 +15,8 @@ Inv-loop marks unions t k s₀ l u m₀ i₀ s m i = (length s ≡ length s₀) 
 abbrev μ-loop : tie.MeasureT-loop
 μ-loop marks unions t k s₀ l u m₀ i₀ s m i = k .members - i
 
-next-of-requires : tie.Need-next-of-requires Inv-loop μ-loop
-next-of-requires c κs = search needs
+first-of-union-requires : tie.Need-first-of-union-requires Inv-loop μ-loop
+first-of-union-requires c κs = search needs
 
 loop-holds : tie.Need-loop-holds Inv-loop μ-loop
 loop-holds c = (search needs, search (needs, opened-start))
@@ -28,11 +27,8 @@ member-at-requires c κs = search needs
 open-range-requires : tie.Need-open-range-requires Inv-loop μ-loop
 open-range-requires c κs = ((c .before .before .before .before .before .before .before .before .before .before .pre .0), ((c .before .before .before .before .before .before .before .before .before .before .pre .1 .0), (fits-same (c .before .before .before .before .loop .inv .0) (c .before .before .before .before .before .before .before .before .before .before .pre .1 .1 .0), ((c .before .before .before .before .loop .inv .1 .good), union-range (c .before .before .before .before .loop .inv .1) _ (c .before .before .before .before .before .before .before .before .before .before .pre .1 .0) (c .before .before .before .before .before .before .before .before .before .before .pre .1 .1 .1 .1) (c .before .before .if1 .taken) (c .before .member-at .ensures)))))
 
-add-next-of : tie.Need-add-next-of Inv-loop μ-loop
-add-next-of c = search needs
-
-next-of-requires-2 : tie.Need-next-of-requires-2 Inv-loop μ-loop
-next-of-requires-2 c κs = ((c .before .before .before .before .before .before .before .before .before .before .before .before .before .pre .0 .held .laid .members), (c .before .before .before .before .before .before .before .before .before .before .before .before .before .pre .0 .held .unions-fit), omega (arith, (c .before .before .before .before .before .if1 .taken)))
+next-of-union-requires : tie.Need-next-of-union-requires Inv-loop μ-loop
+next-of-union-requires c κs = (c .before .before .before .before .before .before .before .before .before .before .before .before .before .pre .0, c .before .before .before .before .before .if1 .taken)
 
 loop-less : tie.Need-loop-less Inv-loop μ-loop
 loop-less c = search needs
@@ -44,7 +40,7 @@ same-length : tie.Need-same-length Inv-loop μ-loop
 same-length c = search needs
 
 returns : tie.Need-returns Inv-loop μ-loop
-returns c = opened-end (c .before .before .loop .inv .1) (c .if1 .left) (c .before .before .before .before .before .before .before .before .pre .1 .1 .1 .1)
+returns c = opened-end (c .before .before .loop .inv .1) (c .if1 .left)
 
 pub open-union-spec : {M : Type 1} → statement M
 open-union-spec =
@@ -52,12 +48,11 @@ open-union-spec =
     (tie.spec
     Inv-loop
     μ-loop
-    next-of-requires
+    first-of-union-requires
     loop-holds
     member-at-requires
     open-range-requires
-    add-next-of
-    next-of-requires-2
+    next-of-union-requires
     loop-less
     loop-again
     same-length

@@ -10,15 +10,6 @@ mul-get c = search needs
 get-requires : tie.Need-get-requires
 get-requires c κs = search needs
 
-mul-get-2 : tie.Need-mul-get-2
-mul-get-2 c = search needs
-
-add-get : tie.Need-add-get
-add-get c = search needs
-
-get-requires-2 : tie.Need-get-requires-2
-get-requires-2 c κs = search needs
-
 returns : tie.Need-returns
 returns c = search (needs, member-in)
 
@@ -26,5 +17,4 @@ returns-2 : tie.Need-returns-2
 returns-2 c = search (needs, member-past)
 
 pub member-at-spec : {M : Type 1} → statement M
-member-at-spec =
-    tie.close (tie.spec mul-get get-requires mul-get-2 add-get get-requires-2 returns returns-2)
+member-at-spec = tie.close (tie.spec mul-get get-requires returns returns-2)

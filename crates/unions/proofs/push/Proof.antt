@@ -7,17 +7,14 @@ use Rattle.unions.proofs.push.Tie as tie
 mul-put : tie.Need-mul-put
 mul-put c = search needs
 
-put-requires : tie.Need-put-requires
-put-requires c κs = search needs
-
 mul-put-2 : tie.Need-mul-put-2
 mul-put-2 c = search needs
 
 add-put : tie.Need-add-put
 add-put c = search needs
 
-put-requires-2 : tie.Need-put-requires-2
-put-requires-2 c κs = search needs
+put-requires : tie.Need-put-requires
+put-requires c κs = search needs
 
 add-result : tie.Need-add-result
 add-result c = search needs
@@ -30,5 +27,4 @@ returns c = search (needs, push-is)
 
 pub push-spec : {M : Type 1} → statement M
 push-spec =
-    tie.close
-    (tie.spec mul-put put-requires mul-put-2 add-put put-requires-2 add-result same-length returns)
+    tie.close (tie.spec mul-put mul-put-2 add-put put-requires add-result same-length returns)

@@ -1,0 +1,316 @@
+-- Chains of the members of unions: rows are linked last to first, then idle rows are passed over.
+use mathlib.Core.Path.{_≡_, refl, sym, ap, _∙_}
+use mathlib.Core.Bool.{Bool, true, false}
+use mathlib.Core.List.{List}
+use Prim.Native.Nat.{ℕ, _+_, _*_, _-_, _<_, _≤_}
+use native.Mathlib.Nat.{le-refl}
+use native.Mathlib.Omega.{arith}
+use native.Mathlib.Decide.{ℕ-discrete, decLt}
+use lib.Dec.{eqb}
+use lib.ListN.{length, getD, set}
+use lib.Seq.{getD-set-same, getD-set-other}
+use borrow.Author.Tests.{eqb-true}
+use Rattle.words.specs.Words.{words, words-in}
+use Rattle.tables.specs.declared.Counts.{Counts}
+use Rattle.tables.specs.Tables.{tables, Laid}
+use Rattle.marks.specs.Marks.{NextMember}
+use Rattle.unions.specs.declared.Member.{Member}
+use Rattle.unions.specs.Unions.{Row, noRow, rows, rowOf, SameIf}
+use Rattle.unions.proofs.Laws.{length-rows, row-of-none, rows-linked}
+use Rattle.cache.specs.Areas.{Held}
+use Rattle.kept.specs.Kept.{Given}
+use Rattle.index.specs.Chains.{Chains, Chained}
+use Rattle.index.specs.Members.{EmptyIf, Idle, IdleIf, Passes, Threaded, UnionOf, unionHeads, HeadsOnly, Unlinked, Threading, Relinked, Shortened, Passed, Built}
+use Rattle.index.specs.Indexed.{Indexed}
+use Rattle.index.proofs.Chaining.{only-none, only-then, only-head, linked-beside}
+use Rattle.index.proofs.Places as places
+
+-- ---- from a row to another
+
+module _ {k : Counts} {m : List ℕ} {rs : List Row} {x : ℕ} where
+  -- the row itself
+  passes-here : {i : ℕ} → i ≤ k .members → (i < k .members → (getD rs i noRow) .union ≡ x) → Passes k m rs x i i
+  passes-here l e = record { onward = le-refl _; at = record { most = l; here = e }; idle = λ j a b q. (let none : ⊥ = omega arith in absurd none) }
+
+  passes-none : Passes k m rs x (k .members) (k .members)
+  passes-none = passes-here (le-refl _) (λ l. (let none : ⊥ = omega arith in absurd none))
+
+  -- a row of another union before it
+  passes-earlier : {i r : ℕ} → ((getD rs i noRow) .union ≡ x → ⊥) → Passes k m rs x (i + 1) r → Passes k m rs x i r
+  passes-earlier {i} {r} other p =
+      record { onward = let o = p .onward in omega arith; at = p .at; idle = passed }
+    where
+      passed : (j : ℕ) → i ≤ j → j < r → (getD rs j noRow) .union ≡ x → Idle k m rs j
+      passed j a b e = elim (ℕ-discrete j i) [
+        | yes q ↦ absurd (other (ap (λ (y : ℕ). (getD rs y noRow) .union) (sym q) ∙ e))
+        | no q ↦ p .idle j (behind j a q) b e
+      ]
+        where
+          behind : (j : ℕ) → i ≤ j → (j ≡ i → ⊥) → i + 1 ≤ j
+          behind j a q = omega arith
+
+  -- past an idle row
+  passes-over : {from i r : ℕ} → Passes k m rs x from i → Idle k m rs i → Passes k m rs x (i + 1) r → Passes k m rs x from r
+  passes-over {from} {i} {r} p d q =
+      record { onward = (let a = p .onward in let b = q .onward in omega arith); at = q .at; idle = passed }
+    where
+      passed : (j : ℕ) → from ≤ j → j < r → (getD rs j noRow) .union ≡ x → Idle k m rs j
+      passed j a b e = elim (decLt j i) [
+        | yes l ↦ p .idle j a l e
+        | no l ↦ elim (ℕ-discrete j i) [
+          | yes z ↦ rw z d
+          | no z ↦ q .idle j (behind j l z) b e
+        ]
+      ]
+        where
+          behind : (j : ℕ) → (j < i → ⊥) → (j ≡ i → ⊥) → i + 1 ≤ j
+          behind j l z = omega arith
+
+-- the union of a row is given
+pub union-of-row : (k : Counts) (u : List ℕ) (i : ℕ) (m : Member) → Given (k .unions) (rows (k .members) u) → i < k .members
+    → rowOf m ≡ getD (rows (k .members) u) i noRow → UnionOf k (rows (k .members) u) i (m .union)
+unfolding rowOf
+union-of-row k u i m g h e =
+    let is : m .union ≡ (getD (rows (k .members) u) i noRow) .union = ap (λ (r : Row). r .union) e in
+    record { is = is; low = low is }
+  where
+    inside : i < length (rows (k .members) u)
+    inside = rw length-rows h
+
+    low : m .union ≡ (getD (rows (k .members) u) i noRow) .union → m .union < k .unions
+    low is = elim (decLt (m .union) (k .unions)) [
+      | yes l ↦ l
+      | no l ↦ absurd (row-of-none i (rows (k .members) u) inside (g .none-yet _ (let q = is in omega arith)))
+    ]
+
+-- ---- idle rows
+
+nothing : {A : Type 0} → false ≡ true → A
+nothing e =
+    let z : _≡_ {A = ℕ} 0 1 = cc in
+    let none : ⊥ = omega arith in
+    absurd none
+
+pub empty-not : (k : Counts) (m : List ℕ) (r : ℕ) → EmptyIf false k m r
+empty-not k m r = record { so = nothing }
+
+pub empty-if : (k : Counts) {m : List ℕ} {r x : ℕ} (b : Bool) → r < k .ranges → NextMember m r 0 (k .parts) x → b ≡ eqb x (k .parts) → EmptyIf b k m r
+empty-if k {x = x} b h n e = record { so = λ q. record { given = h; none = rw (eqb-true x (k .parts) (sym e ∙ q)) at n } }
+
+pub idle-not : (k : Counts) (m : List ℕ) (rs : List Row) (i : ℕ) → IdleIf false k m rs i
+idle-not k m rs i = record { so = nothing }
+
+pub idle-if : {k : Counts} {m : List ℕ} {rs : List Row} {s b : Bool} {e i : ℕ} (a : Member) → e < i → SameIf s rs e i → s ≡ true → rowOf a ≡ getD rs i noRow
+    → EmptyIf b k m (a .range) → IdleIf b k m rs i
+unfolding rowOf
+idle-if {k} {m} {rs} {e = e} {i = i} a l s d f n =
+    let is : a .range ≡ (getD rs i noRow) .range = ap (λ (r : Row). r .range) f in
+    record { so = λ q. record { place = e; earlier = l; again = s .so d; empty = rw is at (n .so q) } }
+
+-- ---- heads
+
+heads-none : (k : Counts) (t : List ℕ) → HeadsOnly k t t
+heads-none k t = record { same = refl; only = only-none unionHeads 0 (k .unions) (words t) }
+
+heads-then : {k : Counts} {s t u : List ℕ} → HeadsOnly k s t → HeadsOnly k t u → HeadsOnly k s u
+heads-then a b = record { same = b .same ∙ a .same; only = only-then (a .only) (b .only) }
+
+head-set : (k : Counts) (x v : ℕ) (t u : List ℕ) → Laid k (length t) → x < k .unions → words u ≡ set (words t) (11652 + 3 * x) v → HeadsOnly k t u
+unfolding tables
+head-set k x v t u l h e =
+    record { same = rw e (places.unions-head-free k t l x v (words t) h); only = rw e (only-head unionHeads 0 (k .unions) x v (words t) h) }
+
+head-place : (k : Counts) (t : List ℕ) (x : ℕ) → Laid k (length t) → x < k .unions → 11652 + 3 * x < length (words t)
+head-place k t x l h = words-in t (11652 + 3 * x) (let a = l .fits in let b = l .unions in omega arith)
+
+pub unlinked-start : (k : Counts) (t : List ℕ) → Unlinked k 0 t t
+unlinked-start k t = record { heads = heads-none k t; set = λ u l. (let none : ⊥ = omega arith in absurd none) }
+
+pub unlinked-more : {k : Counts} {x : ℕ} {t u : List ℕ} (v : List ℕ) → Laid k (length t) → length u ≡ length t → Unlinked k x t u → x < k .unions
+    → words v ≡ set (words u) (11652 + 3 * x) (k .members) → Unlinked k (x + 1) t v
+unlinked-more {k} {x} {t} {u} v l z g h e =
+    let l′ : Laid k (length u) = rw z l in
+    record { heads = heads-then (g .heads) (head-set k x (k .members) u v l′ h e); set = λ y q. rw e (there l′ y q) }
+  where
+    there : Laid k (length u) → (y : ℕ) → y < x + 1 → getD (set (words u) (11652 + 3 * x) (k .members)) (11652 + 3 * y) 0 ≡ k .members
+    there l′ y q = elim (ℕ-discrete y x) [
+      | yes d ↦ rw d (getD-set-same (words u) (11652 + 3 * x) (k .members) 0 (head-place k u x l′ h))
+      | no d ↦ getD-set-other (words u) (11652 + 3 * x) (11652 + 3 * y) (k .members) 0 (λ r. omega arith) ∙ g .set y (omega arith)
+    ]
+
+pub unlinked-end : {k : Counts} {x : ℕ} {t u : List ℕ} → Unlinked k x t u → k .unions ≤ x → Unlinked k (k .unions) t u
+unlinked-end g h = record { heads = g .heads; set = λ y q. g .set y (omega arith) }
+
+-- the tables' chains lie beside them
+pub chains-beside : {k : Counts} {m t u : List ℕ} → Laid k (length t) → HeadsOnly k t u → Chains k m t → Chains k m u
+chains-beside {k} {m} {t} {u} l h c =
+    let o = h .only in
+    record {
+      parts = linked-beside (places.parts-beside-unions k t l) o (c .parts);
+      requirements = linked-beside (places.requirements-beside-unions k t l) o (c .requirements);
+      constraints = linked-beside (places.constraints-beside-unions k t l) o (c .constraints);
+      ranges = record { firsts = λ r q. rw (first r q) (c .ranges .firsts r q); ends = λ r q. rw (end r q) (c .ranges .ends r q) };
+    }
+  where
+    first : (r : ℕ) → r < k .ranges → getD (words u) (9604 + 4 * r + 2) 0 ≡ getD (words t) (9604 + 4 * r + 2) 0
+    first r q = h .only .others _ (λ x a e. (let y = l .ranges in omega arith)) (λ i a e. omega arith)
+
+    end : (r : ℕ) → r < k .ranges → getD (words u) (9604 + 4 * r + 3) 0 ≡ getD (words t) (9604 + 4 * r + 3) 0
+    end r q = h .only .others _ (λ x a e. (let y = l .ranges in omega arith)) (λ i a e. omega arith)
+
+-- ---- one row more
+
+link-place : (n : ℕ) (u : List ℕ) (i : ℕ) → n ≤ 13107 → 52428 ≤ length u → i < n → 2 * i + 1 < length (words u)
+link-place n u i l f h = words-in u (2 * i + 1) (omega arith)
+
+module _ (k : Counts) (m t u : List ℕ) (i : ℕ) (t′ u′ : List ℕ) (x first a : ℕ) (held : Held k a (length u) (length t)) (here : i < k .members)
+    (o : UnionOf k (rows (k .members) u) i x) (d : Threaded k m (rows (k .members) u) (i + 1) (words t) (words u))
+    (f : first ≡ getD (words t) (11652 + 3 * x) 0) (e : words u′ ≡ set (words u) (2 * i + 1) first) (g : words t′ ≡ set (words t) (11652 + 3 * x) i) where
+  abbrev all : List Row
+  all = rows (k .members) u
+
+  more-heads : (y : ℕ) → y < k .unions → Passes k m all y i (getD (words t′) (11652 + 3 * y) 0)
+  more-heads y h = elim (ℕ-discrete y x) [
+    | yes q ↦ rw (q, g, getD-set-same (words t) (11652 + 3 * x) i 0 (head-place k t x (held .laid) (o .low))) (passes-here (let z = here in omega arith) (λ _. sym (o .is)))
+    | no q ↦ rw (g, getD-set-other (words t) (11652 + 3 * x) (11652 + 3 * y) i 0 (λ r. q (omega arith))) (passes-earlier (λ r. q (sym r ∙ sym (o .is))) (d .heads y h))
+  ]
+
+  more-links : (j : ℕ) → i ≤ j → j < k .members → Passes k m all ((getD all j noRow) .union) (j + 1) (getD (words u′) (2 * j + 1) 0)
+  more-links j b h = elim (ℕ-discrete j i) [
+    | yes q ↦ rw (q, e, getD-set-same (words u) (2 * i + 1) first 0 (link-place (k .members) u i (held .laid .members) (held .unions-fit) here), f, ← o .is) (d .heads x (o .low))
+    | no q ↦ rw (e, getD-set-other (words u) (2 * i + 1) (2 * j + 1) first 0 (λ r. q (omega arith))) (d .links j (behind j b q) h)
+  ]
+    where
+      behind : (j : ℕ) → i ≤ j → (j ≡ i → ⊥) → i + 1 ≤ j
+      behind j a q = omega arith
+
+  pub row-linked : Threading k m i u t u′ t′
+  row-linked =
+      record {
+        heads = head-set k x i t t′ (held .laid) (o .low) g;
+        kept = rows-linked (k .members) u u′ i first e;
+        threaded = record { heads = more-heads; links = more-links };
+      }
+
+-- ---- all rows
+
+pub threading-start : {k : Counts} {s t : List ℕ} (m u : List ℕ) → Unlinked k (k .unions) s t → Threading k m (k .members) u t u t
+threading-start {k} {s} {t} m u g =
+    record {
+      heads = heads-none k t;
+      kept = refl;
+      threaded = record { heads = λ x l. rw (g .set x l) passes-none; links = λ i a b. (let none : ⊥ = omega arith in absurd none) };
+    }
+
+pub still-given : {k : Counts} {m u t u′ t′ : List ℕ} {i : ℕ} → Given (k .unions) (rows (k .members) u) → Threading k m i u t u′ t′ → Given (k .unions) (rows (k .members) u′)
+still-given g d = rw (d .kept) g
+
+pub threading-ready : {k : Counts} {m u t u′ t′ : List ℕ} {i : ℕ} → 0 < i → Threading k m i u t u′ t′
+    → Threaded k m (rows (k .members) u′) (i - 1 + 1) (words t′) (words u′)
+threading-ready {i = i} h d =
+    let e : i - 1 + 1 ≡ i = omega arith in
+    rw (d .kept, e) (d .threaded)
+
+pub threading-more : {k : Counts} {m u t u′ t′ u″ t″ : List ℕ} {i j : ℕ} → Threading k m i u t u′ t′ → Threading k m j u′ t′ u″ t″ → Threading k m j u t u″ t″
+threading-more a b = record { heads = heads-then (a .heads) (b .heads); kept = b .kept ∙ a .kept; threaded = rw (a .kept) at (b .threaded) }
+
+pub threading-end : {k : Counts} {m u s t u′ t′ : List ℕ} {i : ℕ} → Unlinked k (k .unions) s t → Threading k m i u t u′ t′ → i ≤ 0 → Threading k m 0 u s u′ t′
+threading-end {i = i} g d h =
+    let e : i ≡ 0 = omega arith in
+    record { heads = heads-then (g .heads) (d .heads); kept = d .kept; threaded = rw e at (d .threaded) }
+
+-- ---- a chain is shortened
+
+pub relinked-none : {k : Counts} {m t u : List ℕ} → Threaded k m (rows (k .members) u) 0 (words t) (words u) → Relinked k m u t u
+relinked-none d = record { kept = refl; threaded = d }
+
+pub relinked-now : {k : Counts} {m u t u′ : List ℕ} → Relinked k m u t u′ → Threaded k m (rows (k .members) u′) 0 (words t) (words u′)
+relinked-now d = rw (d .kept) (d .threaded)
+
+pub relinked-then : {k : Counts} {m u t u′ u″ : List ℕ} → Relinked k m u t u′ → Relinked k m u′ t u″ → Relinked k m u t u″
+relinked-then a b = record { kept = b .kept ∙ a .kept; threaded = rw (a .kept) at (b .threaded) }
+
+pub shortened-start : {k : Counts} {m t u : List ℕ} (first i : ℕ) → Threaded k m (rows (k .members) u) 0 (words t) (words u) → first < k .members
+    → i ≡ getD (words u) (2 * first + 1) 0 → Shortened k m u t first i u
+shortened-start first i d h e = record { relinked = relinked-none d; low = h; next = sym e }
+
+pub shortened-now : {k : Counts} {m u t u′ : List ℕ} {last i : ℕ} → Shortened k m u t last i u′ → Shortened k m u′ t last i u′
+shortened-now d = record { relinked = relinked-none (relinked-now (d .relinked)); low = d .low; next = d .next }
+
+pub shortened-step : {k : Counts} {m u t u′ u″ : List ℕ} {last last′ i : ℕ} (i′ : ℕ) → Shortened k m u t last i u′ → Passed k m u′ t i last′ u″
+    → i′ ≡ getD (words u″) (2 * last′ + 1) 0 → Shortened k m u t last′ i′ u″
+shortened-step i′ a b e = record { relinked = relinked-then (a .relinked) (b .relinked); low = b .low; next = sym e }
+
+pub shortened-end : {k : Counts} {m u t u′ : List ℕ} {last i : ℕ} → Shortened k m u t last i u′ → Relinked k m u t u′
+shortened-end d = d .relinked
+
+-- the chain leads to row i
+module _ {k : Counts} {m t u : List ℕ} {last i : ℕ} (d : Shortened k m u t last i u) (here : i < k .members) where
+  abbrev rs : List Row
+  rs = rows (k .members) u
+
+  behind : Passes k m rs ((getD rs i noRow) .union) (i + 1) (getD (words u) (2 * i + 1) 0)
+  behind = d .relinked .threaded .links i (omega arith) here
+
+  pub row-stays : Passed k m u t i i u
+  row-stays = record { relinked = d .relinked; low = here; more = let o = behind .onward in omega arith }
+
+  module _ (u′ : List ℕ) (x a c : ℕ) {b : Bool} (held : Held k a (length u) c) (q : IdleIf b k m rs i) (y : b ≡ true) (e : x ≡ getD (words u) (2 * i + 1) 0)
+      (f : words u′ ≡ set (words u) (2 * last + 1) x) where
+    to-row : Passes k m rs ((getD rs last noRow) .union) (last + 1) i
+    to-row = rw (d .next) at (d .relinked .threaded .links last (omega arith) (d .low))
+
+    past-row : Passes k m rs ((getD rs last noRow) .union) (last + 1) x
+    past-row = passes-over to-row (q .so y) (rw (to-row .at .here here, ← e) at behind)
+
+    at-last : getD (words u′) (2 * last + 1) 0 ≡ x
+    at-last = rw f (getD-set-same (words u) (2 * last + 1) x 0 (link-place (k .members) u last (held .laid .members) (held .unions-fit) (d .low)))
+
+    new-links : (j : ℕ) → 0 ≤ j → j < k .members → Passes k m rs ((getD rs j noRow) .union) (j + 1) (getD (words u′) (2 * j + 1) 0)
+    new-links j z h = elim (ℕ-discrete j last) [
+      | yes p ↦ rw (p, at-last) past-row
+      | no p ↦ rw (f, getD-set-other (words u) (2 * last + 1) (2 * j + 1) x 0 (λ r. p (omega arith))) (d .relinked .threaded .links j z h)
+    ]
+
+    pub row-passed : Passed k m u t i last u′
+    row-passed =
+        record {
+          relinked = record { kept = rows-linked (k .members) u u′ last x f; threaded = record { heads = d .relinked .threaded .heads; links = new-links } };
+          low = d .low;
+          more = rw at-last (let o = behind .onward in omega arith);
+        }
+
+-- ---- all chains
+
+pub chains-still : {k : Counts} {m t s u u′ t′ : List ℕ} → Laid k (length t) → length s ≡ length t → Chained k m t s → Threading k m 0 u s u′ t′ → Chains k m t′
+chains-still l z a b = chains-beside (rw z l) (b .heads) (a .chains)
+
+pub threaded-now : {k : Counts} {m s u u′ t′ : List ℕ} → Threading k m 0 u s u′ t′ → Threaded k m (rows (k .members) u′) 0 (words t′) (words u′)
+threaded-now d = rw (d .kept) (d .threaded)
+
+pub all-linked : {k : Counts} {m t s u u′ t′ u″ : List ℕ} → Laid k (length t) → length s ≡ length t → Chained k m t s → Threading k m 0 u s u′ t′ → Relinked k m u′ t′ u″
+    → Built k m u t u″ t′
+all-linked l z a b c =
+    record {
+      same = b .heads .same ∙ a .same;
+      kept = c .kept ∙ b .kept;
+      chains = chains-still l z a b;
+      members = rw (b .kept) at (c .threaded);
+    }
+
+-- ---- walking
+
+pub first-row : {k : Counts} {m us t : List ℕ} (u r : ℕ) → Indexed k m us t → u < k .unions → r ≡ getD (words t) (11652 + 3 * u) 0 → Passes k m (rows (k .members) us) u 0 r
+first-row u r d h e = rw e (d .members .heads u h)
+
+pub no-row : {k : Counts} {m us t : List ℕ} (u : ℕ) → Indexed k m us t → k .unions ≤ u → Passes k m (rows (k .members) us) u 0 (k .members)
+no-row {k} {m} {us} u d h =
+    record {
+      onward = omega arith;
+      at = record { most = le-refl _; here = λ l. (let none : ⊥ = omega arith in absurd none) };
+      idle = λ i a b e. absurd (row-of-none i (rows (k .members) us) (rw length-rows b) (rw e (d .given .none-yet u h)));
+    }
+
+pub next-row : {k : Counts} {m us t : List ℕ} (i r : ℕ) → Indexed k m us t → i < k .members → r ≡ getD (words us) (2 * i + 1) 0
+    → Passes k m (rows (k .members) us) ((getD (rows (k .members) us) i noRow) .union) (i + 1) r
+next-row i r d h e = rw e (d .members .links i (omega arith) h)

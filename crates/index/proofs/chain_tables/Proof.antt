@@ -1,0 +1,34 @@
+-- `index::chain_tables` makes the chains one after another; each leaves the others.
+use borrow.Author.Needs.{needs}
+use Rattle.index.proofs.Laws.{requirements-keyed, constraints-keyed, all-built}
+use Rattle.index.proofs.chain_tables.Statement.{statement}
+use Rattle.index.proofs.chain_tables.Tie as tie
+
+link-parts-requires : tie.Need-link-parts-requires
+link-parts-requires c κs = search needs
+
+link-requirements-requires : tie.Need-link-requirements-requires
+link-requirements-requires c κs = (search needs, search (needs, requirements-keyed))
+
+link-constraints-requires : tie.Need-link-constraints-requires
+link-constraints-requires c κs = (search needs, search (needs, constraints-keyed))
+
+bound-ranges-requires : tie.Need-bound-ranges-requires
+bound-ranges-requires c κs = search needs
+
+same-length : tie.Need-same-length
+same-length c = search needs
+
+returns : tie.Need-returns
+returns c = search (needs, all-built)
+
+pub chain-tables-spec : {M : Type 1} → statement M
+chain-tables-spec =
+    tie.close
+    (tie.spec
+    link-parts-requires
+    link-requirements-requires
+    link-constraints-requires
+    bound-ranges-requires
+    same-length
+    returns)
