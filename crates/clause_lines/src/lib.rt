@@ -1,5 +1,7 @@
 // The listing's lines of clauses and of the variables that a clause asserts false, whose candidates the catalogue has.
 // The same functions measure and write (`text`).
+mod spans;
+
 use cache::Choice;
 use clause::Literal;
 use encoder::Counters;
@@ -27,6 +29,7 @@ ghost use Rattle.state.specs.Layout.{held, Fits};
 ghost use Rattle.variable_map.specs.Mapping.{variables, AllKnown};
 ghost use Rattle.solver.specs.Rows.{rowOf};
 ghost use Rattle.encoder.specs.Held.{literalsIn, clauseIn, Sound};
+ghost use Rattle.clause_lines.specs.Spans.{Spans};
 ghost use Rattle.line_fields.specs.Listed.{texts, partText, chosenText, literalText, clauseText, assertsIn, assertionText, clausesOf, Ready, GoodRows};
 
 // ---- clauses
@@ -134,6 +137,70 @@ fn range_literals(
     )
 }
 
+// The literals of a range; and where they stand, if they fitted.
+fn new_literals(
+    marks: &[u8],
+    unions: &[u8],
+    t: &[u8],
+    k: Counts,
+    s: &[u8],
+    l: Limits,
+    n: Counters,
+    out: &mut [u8],
+    spans: &mut [usize; 1024],
+    room: usize,
+    at: usize,
+    r: usize,
+) -> usize
+    requires { ⌜ Ready k (now marks) (now unions) (now t) l n (now s) room ⌝ }
+    requires { ⌜ AllKnown (variables (n .variables) (held l (now s))) (sorted (catalogue k (now marks) (now unions) (now t)) r) ⌝ }
+    requires { ⌜ Spans (catalogue k (now marks) (now unions) (now t)) (variables (n .variables) (held l (now s))) at (now spans) (now out) ⌝ }
+    ensures { λ x. ⌜ Wrote at x (partText (variables (n .variables) (held l (now (s .entry)))) (sorted (catalogue k (now (marks .entry)) (now (unions .entry)) (now (t .entry))) r)) room (now (out .entry)) (now (out .exit)) ⌝ }
+    ensures { λ x. ⌜ Spans (catalogue k (now (marks .entry)) (now (unions .entry)) (now (t .entry))) (variables (n .variables) (held l (now (s .entry)))) x (now (spans .exit)) (now (out .exit)) ⌝ }
+{
+    let a = range_literals(marks, unions, t, k, s, l, n, out, room, at, r);
+    if room < a {
+        return a;
+    }
+    if 511 < r {
+        return a;
+    }
+    let i = 2 * r;
+    spans[i] = at;
+    spans[i + 1] = a - at;
+    a
+}
+
+// The literals of a range, copied if they stand in the listing already.
+fn shared_literals(
+    marks: &[u8],
+    unions: &[u8],
+    t: &[u8],
+    k: Counts,
+    s: &[u8],
+    l: Limits,
+    n: Counters,
+    out: &mut [u8],
+    spans: &mut [usize; 1024],
+    room: usize,
+    at: usize,
+    r: usize,
+) -> usize
+    requires { ⌜ Ready k (now marks) (now unions) (now t) l n (now s) room ⌝ }
+    requires { ⌜ AllKnown (variables (n .variables) (held l (now s))) (sorted (catalogue k (now marks) (now unions) (now t)) r) ⌝ }
+    requires { ⌜ Spans (catalogue k (now marks) (now unions) (now t)) (variables (n .variables) (held l (now s))) at (now spans) (now out) ⌝ }
+    ensures { λ x. ⌜ Wrote at x (partText (variables (n .variables) (held l (now (s .entry)))) (sorted (catalogue k (now (marks .entry)) (now (unions .entry)) (now (t .entry))) r)) room (now (out .entry)) (now (out .exit)) ⌝ }
+    ensures { λ x. ⌜ Spans (catalogue k (now (marks .entry)) (now (unions .entry)) (now (t .entry))) (variables (n .variables) (held l (now (s .entry)))) x (now (spans .exit)) (now (out .exit)) ⌝ }
+{
+    let count = spans::standing(spans, room, at, r);
+    if 0 < count {
+        let begin = spans[2 * r];
+        spans::copy(out, begin, count, at);
+        return at + count;
+    }
+    new_literals(marks, unions, t, k, s, l, n, out, spans, room, at, r)
+}
+
 fn union_literals(
     marks: &[u8],
     unions: &[u8],
@@ -143,13 +210,16 @@ fn union_literals(
     l: Limits,
     n: Counters,
     out: &mut [u8],
+    spans: &mut [usize; 1024],
     room: usize,
     at: usize,
     u: u16,
 ) -> usize
     requires { ⌜ Ready k (now marks) (now unions) (now t) l n (now s) room ⌝ }
     requires { ⌜ AllKnown (variables (n .variables) (held l (now s))) (candidates (catalogue k (now marks) (now unions) (now t)) (goalOf 1 u)) ⌝ }
+    requires { ⌜ Spans (catalogue k (now marks) (now unions) (now t)) (variables (n .variables) (held l (now s))) at (now spans) (now out) ⌝ }
     ensures { λ r. ⌜ Wrote at r (partText (variables (n .variables) (held l (now (s .entry)))) (candidates (catalogue k (now (marks .entry)) (now (unions .entry)) (now (t .entry))) (goalOf 1 u))) room (now (out .entry)) (now (out .exit)) ⌝ }
+    ensures { λ r. ⌜ Spans (catalogue k (now (marks .entry)) (now (unions .entry)) (now (t .entry))) (variables (n .variables) (held l (now (s .entry)))) r (now (spans .exit)) (now (out .exit)) ⌝ }
 {
     let mut a = at;
     let mut i = index::first_of_union(marks, unions, t, k, u);
@@ -158,7 +228,7 @@ fn union_literals(
             return a;
         }
         let member = unions::member_at(unions, k.members, i);
-        a = range_literals(
+        a = shared_literals(
             marks,
             unions,
             t,
@@ -167,6 +237,7 @@ fn union_literals(
             l,
             n,
             out,
+            spans,
             room,
             a,
             member.range as usize,
@@ -185,6 +256,7 @@ fn candidate_literals(
     l: Limits,
     n: Counters,
     out: &mut [u8],
+    spans: &mut [usize; 1024],
     room: usize,
     at: usize,
     form: u16,
@@ -192,12 +264,27 @@ fn candidate_literals(
 ) -> usize
     requires { ⌜ Ready k (now marks) (now unions) (now t) l n (now s) room ⌝ }
     requires { ⌜ AllKnown (variables (n .variables) (held l (now s))) (candidates (catalogue k (now marks) (now unions) (now t)) (goalOf form number)) ⌝ }
+    requires { ⌜ Spans (catalogue k (now marks) (now unions) (now t)) (variables (n .variables) (held l (now s))) at (now spans) (now out) ⌝ }
     ensures { λ r. ⌜ Wrote at r (partText (variables (n .variables) (held l (now (s .entry)))) (candidates (catalogue k (now (marks .entry)) (now (unions .entry)) (now (t .entry))) (goalOf form number))) room (now (out .entry)) (now (out .exit)) ⌝ }
+    ensures { λ r. ⌜ Spans (catalogue k (now (marks .entry)) (now (unions .entry)) (now (t .entry))) (variables (n .variables) (held l (now (s .entry)))) r (now (spans .exit)) (now (out .exit)) ⌝ }
 {
     if form == 0 {
-        return range_literals(marks, unions, t, k, s, l, n, out, room, at, number as usize);
+        return shared_literals(
+            marks,
+            unions,
+            t,
+            k,
+            s,
+            l,
+            n,
+            out,
+            spans,
+            room,
+            at,
+            number as usize,
+        );
     }
-    union_literals(marks, unions, t, k, s, l, n, out, room, at, number)
+    union_literals(marks, unions, t, k, s, l, n, out, spans, room, at, number)
 }
 
 // The j-th condition literal from `start` on.
@@ -276,6 +363,7 @@ fn requires_fields(
     l: Limits,
     n: Counters,
     out: &mut [u8],
+    spans: &mut [usize; 1024],
     room: usize,
     at: usize,
     row: Stored,
@@ -284,7 +372,9 @@ fn requires_fields(
     requires { ⌜ Sound (catalogue k (now marks) (now unions) (now t)) (variables (n .variables) (held l (now s))) (n .literals) (rowOf row) ⌝ }
     requires { ⌜ n .literals ≤ l .literals ⌝ }
     requires { ⌜ row .kind ≡ 1 ⌝ }
+    requires { ⌜ Spans (catalogue k (now marks) (now unions) (now t)) (variables (n .variables) (held l (now s))) at (now spans) (now out) ⌝ }
     ensures { λ r. ⌜ Wrote at r (fields (clauseFields (catalogue k (now (marks .entry)) (now (unions .entry)) (now (t .entry))) (clauseIn (catalogue k (now (marks .entry)) (now (unions .entry)) (now (t .entry))) (variables (n .variables) (held l (now (s .entry)))) ((held l (now (s .entry))) 19) (rowOf row)))) room (now (out .entry)) (now (out .exit)) ⌝ }
+    ensures { λ r. ⌜ Spans (catalogue k (now (marks .entry)) (now (unions .entry)) (now (t .entry))) (variables (n .variables) (held l (now (s .entry)))) r (now (spans .exit)) (now (out .exit)) ⌝ }
 {
     let a = conditional_head(s, l, out, room, at, row);
     candidate_literals(
@@ -296,6 +386,7 @@ fn requires_fields(
         l,
         n,
         out,
+        spans,
         room,
         a,
         row.form,
@@ -312,6 +403,7 @@ fn gated_fields(
     l: Limits,
     n: Counters,
     out: &mut [u8],
+    spans: &mut [usize; 1024],
     room: usize,
     at: usize,
     row: Stored,
@@ -320,7 +412,9 @@ fn gated_fields(
     requires { ⌜ Sound (catalogue k (now marks) (now unions) (now t)) (variables (n .variables) (held l (now s))) (n .literals) (rowOf row) ⌝ }
     requires { ⌜ n .literals ≤ l .literals ⌝ }
     requires { ⌜ row .kind ≡ 2 ⌝ }
+    requires { ⌜ Spans (catalogue k (now marks) (now unions) (now t)) (variables (n .variables) (held l (now s))) at (now spans) (now out) ⌝ }
     ensures { λ r. ⌜ Wrote at r (fields (clauseFields (catalogue k (now (marks .entry)) (now (unions .entry)) (now (t .entry))) (clauseIn (catalogue k (now (marks .entry)) (now (unions .entry)) (now (t .entry))) (variables (n .variables) (held l (now (s .entry)))) ((held l (now (s .entry))) 19) (rowOf row)))) room (now (out .entry)) (now (out .exit)) ⌝ }
+    ensures { λ r. ⌜ Spans (catalogue k (now (marks .entry)) (now (unions .entry)) (now (t .entry))) (variables (n .variables) (held l (now (s .entry)))) r (now (spans .exit)) (now (out .exit)) ⌝ }
 {
     let a = line_fields::requires_head(out, room, at, row.first);
     candidate_literals(
@@ -332,6 +426,7 @@ fn gated_fields(
         l,
         n,
         out,
+        spans,
         room,
         a,
         row.form,
@@ -348,6 +443,7 @@ fn clause_fields(
     l: Limits,
     n: Counters,
     out: &mut [u8],
+    spans: &mut [usize; 1024],
     room: usize,
     at: usize,
     row: Stored,
@@ -355,7 +451,9 @@ fn clause_fields(
     requires { ⌜ Ready k (now marks) (now unions) (now t) l n (now s) room ⌝ }
     requires { ⌜ Sound (catalogue k (now marks) (now unions) (now t)) (variables (n .variables) (held l (now s))) (n .literals) (rowOf row) ⌝ }
     requires { ⌜ n .literals ≤ l .literals ⌝ }
+    requires { ⌜ Spans (catalogue k (now marks) (now unions) (now t)) (variables (n .variables) (held l (now s))) at (now spans) (now out) ⌝ }
     ensures { λ r. ⌜ Wrote at r (fields (clauseFields (catalogue k (now (marks .entry)) (now (unions .entry)) (now (t .entry))) (clauseIn (catalogue k (now (marks .entry)) (now (unions .entry)) (now (t .entry))) (variables (n .variables) (held l (now (s .entry)))) ((held l (now (s .entry))) 19) (rowOf row)))) room (now (out .entry)) (now (out .exit)) ⌝ }
+    ensures { λ r. ⌜ Spans (catalogue k (now (marks .entry)) (now (unions .entry)) (now (t .entry))) (variables (n .variables) (held l (now (s .entry)))) r (now (spans .exit)) (now (out .exit)) ⌝ }
 {
     let kind = row.kind;
     match kind {
@@ -363,8 +461,8 @@ fn clause_fields(
             let a = text::field_word(out, room, at, &[b'i', b'n', b's', b't', b'a', b'l', b'l']);
             text::field_literal(out, room, a, 0, true)
         }
-        1 => requires_fields(marks, unions, t, k, s, l, n, out, room, at, row),
-        2 => gated_fields(marks, unions, t, k, s, l, n, out, room, at, row),
+        1 => requires_fields(marks, unions, t, k, s, l, n, out, spans, room, at, row),
+        2 => gated_fields(marks, unions, t, k, s, l, n, out, spans, room, at, row),
         3 => line_fields::excluded_fields(
             out,
             room,
@@ -455,6 +553,7 @@ fn row_fields(
     l: Limits,
     n: Counters,
     out: &mut [u8],
+    spans: &mut [usize; 1024],
     room: usize,
     at: usize,
     i: usize,
@@ -462,10 +561,12 @@ fn row_fields(
     requires { ⌜ Ready k (now marks) (now unions) (now t) l n (now s) room ⌝ }
     requires { ⌜ GoodRows (catalogue k (now marks) (now unions) (now t)) l n (held l (now s)) (now clauses) ⌝ }
     requires { ⌜ i < n .clauses ⌝ }
+    requires { ⌜ Spans (catalogue k (now marks) (now unions) (now t)) (variables (n .variables) (held l (now s))) at (now spans) (now out) ⌝ }
     ensures { λ r. ⌜ Wrote at r (fields (clauseFields (catalogue k (now (marks .entry)) (now (unions .entry)) (now (t .entry))) (getD (clausesOf (catalogue k (now (marks .entry)) (now (unions .entry)) (now (t .entry))) n (held l (now (s .entry))) (now (clauses .entry))) i install))) room (now (out .entry)) (now (out .exit)) ⌝ }
+    ensures { λ r. ⌜ Spans (catalogue k (now (marks .entry)) (now (unions .entry)) (now (t .entry))) (variables (n .variables) (held l (now (s .entry)))) r (now (spans .exit)) (now (out .exit)) ⌝ }
 {
     let row = solver::row_at(clauses, n.clauses, i);
-    clause_fields(marks, unions, t, k, s, l, n, out, room, at, row)
+    clause_fields(marks, unions, t, k, s, l, n, out, spans, room, at, row)
 }
 
 fn clause_line(
@@ -478,6 +579,7 @@ fn clause_line(
     l: Limits,
     n: Counters,
     out: &mut [u8],
+    spans: &mut [usize; 1024],
     room: usize,
     at: usize,
     i: usize,
@@ -485,14 +587,78 @@ fn clause_line(
     requires { ⌜ Ready k (now marks) (now unions) (now t) l n (now s) room ⌝ }
     requires { ⌜ GoodRows (catalogue k (now marks) (now unions) (now t)) l n (held l (now s)) (now clauses) ⌝ }
     requires { ⌜ i < n .clauses ⌝ }
+    requires { ⌜ Spans (catalogue k (now marks) (now unions) (now t)) (variables (n .variables) (held l (now s))) at (now spans) (now out) ⌝ }
     ensures { λ r. ⌜ Wrote at r (clauseText (catalogue k (now (marks .entry)) (now (unions .entry)) (now (t .entry))) (clausesOf (catalogue k (now (marks .entry)) (now (unions .entry)) (now (t .entry))) n (held l (now (s .entry))) (now (clauses .entry))) i) room (now (out .entry)) (now (out .exit)) ⌝ }
+    ensures { λ r. ⌜ Spans (catalogue k (now (marks .entry)) (now (unions .entry)) (now (t .entry))) (variables (n .variables) (held l (now (s .entry)))) r (now (spans .exit)) (now (out .exit)) ⌝ }
 {
     let a = text::put(out, room, at, b'c');
     let b = text::field_number(out, room, a, i);
-    let c = row_fields(marks, unions, t, k, s, clauses, l, n, out, room, b, i);
+    let c = row_fields(
+        marks,
+        unions,
+        t,
+        k,
+        s,
+        clauses,
+        l,
+        n,
+        out,
+        spans,
+        room,
+        b,
+        i,
+    );
     text::line_feed(out, room, c)
 }
 
+// A line for each clause.
+fn all_lines(
+    marks: &[u8],
+    unions: &[u8],
+    t: &[u8],
+    k: Counts,
+    s: &[u8],
+    clauses: &[u8],
+    l: Limits,
+    n: Counters,
+    out: &mut [u8],
+    spans: &mut [usize; 1024],
+    room: usize,
+    at: usize,
+) -> usize
+    requires { ⌜ Ready k (now marks) (now unions) (now t) l n (now s) room ⌝ }
+    requires { ⌜ GoodRows (catalogue k (now marks) (now unions) (now t)) l n (held l (now s)) (now clauses) ⌝ }
+    requires { ⌜ Spans (catalogue k (now marks) (now unions) (now t)) (variables (n .variables) (held l (now s))) at (now spans) (now out) ⌝ }
+    ensures { λ r. ⌜ Wrote at r (texts (clauseText (catalogue k (now (marks .entry)) (now (unions .entry)) (now (t .entry))) (clausesOf (catalogue k (now (marks .entry)) (now (unions .entry)) (now (t .entry))) n (held l (now (s .entry))) (now (clauses .entry)))) (n .clauses)) room (now (out .entry)) (now (out .exit)) ⌝ }
+    ensures { λ r. ⌜ Spans (catalogue k (now (marks .entry)) (now (unions .entry)) (now (t .entry))) (variables (n .variables) (held l (now (s .entry)))) r (now (spans .exit)) (now (out .exit)) ⌝ }
+{
+    let mut a = at;
+    let mut i = 0;
+    while i < n.clauses {
+        if text::over(room, a) {
+            return a;
+        }
+        a = clause_line(
+            marks,
+            unions,
+            t,
+            k,
+            s,
+            clauses,
+            l,
+            n,
+            out,
+            spans,
+            room,
+            a,
+            i,
+        );
+        i += 1;
+    }
+    a
+}
+
+// The same; at first no literals stand anywhere.
 pub fn clause_lines(
     marks: &[u8],
     unions: &[u8],
@@ -510,16 +676,21 @@ pub fn clause_lines(
     requires { ⌜ GoodRows (catalogue k (now marks) (now unions) (now t)) l n (held l (now s)) (now clauses) ⌝ }
     ensures { λ r. ⌜ Wrote at r (texts (clauseText (catalogue k (now (marks .entry)) (now (unions .entry)) (now (t .entry))) (clausesOf (catalogue k (now (marks .entry)) (now (unions .entry)) (now (t .entry))) n (held l (now (s .entry))) (now (clauses .entry)))) (n .clauses)) room (now (out .entry)) (now (out .exit)) ⌝ }
 {
-    let mut a = at;
-    let mut i = 0;
-    while i < n.clauses {
-        if text::over(room, a) {
-            return a;
-        }
-        a = clause_line(marks, unions, t, k, s, clauses, l, n, out, room, a, i);
-        i += 1;
-    }
-    a
+    let mut spans = [0; 1024];
+    all_lines(
+        marks,
+        unions,
+        t,
+        k,
+        s,
+        clauses,
+        l,
+        n,
+        out,
+        &mut spans,
+        room,
+        at,
+    )
 }
 
 // ---- conflicts and asserted variables

@@ -4,29 +4,29 @@ use Rattle.clause_lines.proofs.Walks.{known-range, known-union, range-t
 use Rattle.clause_lines.proofs.candidate_literals.Statement.{statement}
 use Rattle.clause_lines.proofs.candidate_literals.Tie as tie
 
-range-literals-requires : tie.Need-range-literals-requires
-range-literals-requires c κs = (search needs, search (needs, known-range))
+shared-literals-requires : tie.Need-shared-literals-requires
+shared-literals-requires c κs = (search needs, (search (needs, known-range), search needs))
 
 same-length : tie.Need-same-length
 same-length c = search needs
 
 returns : tie.Need-returns
-returns c = search (needs, range-text)
+returns c = (search (needs, range-text), search needs)
 
 union-literals-requires : tie.Need-union-literals-requires
-union-literals-requires c κs = (search needs, search (needs, known-union))
+union-literals-requires c κs = (search needs, (search (needs, known-union), search needs))
 
 same-length-2 : tie.Need-same-length-2
 same-length-2 c = search needs
 
 returns-2 : tie.Need-returns-2
-returns-2 c = search (needs, union-text)
+returns-2 c = (search (needs, union-text), search needs)
 
 pub candidate-literals-spec : {M : Type 1} → statement M
 candidate-literals-spec =
     tie.close
     (tie.spec
-    range-literals-requires
+    shared-literals-requires
     same-length
     returns
     union-literals-requires

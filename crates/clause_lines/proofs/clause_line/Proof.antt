@@ -1,6 +1,7 @@
 -- `clause_lines::clause_line` prints the line of clause i.
 use borrow.Author.Needs.{needs}
 use Rattle.clause_lines.proofs.Clauses.{clause-line}
+use Rattle.clause_lines.proofs.Copying.{spans-kept}
 use Rattle.clause_lines.proofs.clause_line.Statement.{statement}
 use Rattle.clause_lines.proofs.clause_line.Tie as tie
 
@@ -11,7 +12,13 @@ field-number-requires : tie.Need-field-number-requires
 field-number-requires c κs = search needs
 
 row-fields-requires : tie.Need-row-fields-requires
-row-fields-requires c κs = search needs
+row-fields-requires c κs = (
+  search needs,
+  (
+    search needs,
+    (search needs, spans-kept (c .before .before .before .before .field-number .ensures) (spans-kept (c .before .before .before .before .before .before .before .before .put .ensures) (search needs))),
+  ),
+)
 
 line-feed-requires : tie.Need-line-feed-requires
 line-feed-requires c κs = search needs
@@ -20,7 +27,7 @@ same-length : tie.Need-same-length
 same-length c = search needs
 
 returns : tie.Need-returns
-returns c = search (needs, clause-line)
+returns c = (search (needs, clause-line), search (needs, spans-kept))
 
 pub clause-line-spec : {M : Type 1} → statement M
 clause-line-spec =

@@ -8,13 +8,13 @@ row-at-requires : tie.Need-row-at-requires
 row-at-requires c κs = search needs
 
 clause-fields-requires : tie.Need-clause-fields-requires
-clause-fields-requires c κs = (search needs, (search (needs, row-sound), search needs))
+clause-fields-requires c κs = (search needs, (search (needs, row-sound), (search needs, search needs)))
 
 same-length : tie.Need-same-length
 same-length c = search needs
 
 returns : tie.Need-returns
-returns c = search (needs, row-fields)
+returns c = (search (needs, row-fields), search needs)
 
 pub row-fields-spec : {M : Type 1} → statement M
 row-fields-spec = tie.close (tie.spec row-at-requires clause-fields-requires same-length returns)
