@@ -156,6 +156,7 @@ fn slow_jobs() -> Vec<Job> {
     jobs.push(job("wide conditions", drawing(PARTS, 2_048, 0)));
     jobs.push(job("10 draws", drawing(PARTS, 2_048, 10)));
     jobs.push(job("18,000 draws", drawing(PARTS, 2_048, 18_000)));
+    jobs.push(job("alternating draws", alternating_draws(3_600)));
     jobs.push(job("draws with runs", draws_with_runs()));
     jobs.push(job("waiting of all conditions", waiting_of_all_conditions()));
     // What follows makes no clause: a branch's limits do.
@@ -266,8 +267,8 @@ fn many_owners() -> Vec<Record> {
 }
 
 /// So many entries wait for a condition, 64 for a requirement, each on 16 ranges of a name of so many
-/// parts. Fifteen of them hold by the name's last part, the last does not. Then so many draws.
-fn drawing(parts: usize, entries: usize, draws: usize) -> Vec<Record> {
+/// parts. Fifteen of them hold by the name's last part, the last does not. With the condition's number.
+fn waiting_on_one(parts: usize, entries: usize) -> (Vec<Record>, u16) {
     let mut records = vec![Record::Name { flags: 1 }];
     records.extend(repeat_n(part(0, 0), parts));
     records.extend([Record::Range { name: 0 }; 2]);
@@ -283,7 +284,26 @@ fn drawing(parts: usize, entries: usize, draws: usize) -> Vec<Record> {
     // Variable 1 is the root's only candidate, the last part.
     records.push(Record::Decide { variable: 1, value: 1, level: 1 });
     records.extend([Record::Add { owner: 0 }, Record::Run { level: 1 }]);
+    (records, condition)
+}
+
+/// Then so many draws.
+fn drawing(parts: usize, entries: usize, draws: usize) -> Vec<Record> {
+    let (mut records, condition) = waiting_on_one(parts, entries);
     records.extend(repeat_n(Record::Draw { condition }, draws));
+    records
+}
+
+/// Or so many times a decision, a draw, an undo and a draw.
+fn alternating_draws(times: usize) -> Vec<Record> {
+    let (mut records, condition) = waiting_on_one(PARTS, 2_048);
+    let round = [
+        Record::Decide { variable: 1, value: 1, level: 1 },
+        Record::Draw { condition },
+        Record::Undo { level: 0 },
+        Record::Draw { condition },
+    ];
+    records.extend(repeat_n(round, times).flatten());
     records
 }
 
