@@ -1,6 +1,7 @@
 // The sheet's commands but run: add, draw, decide, undo.
 use clause::Literal;
 use clause::Value;
+use conditions::Source;
 use decision_tracker::Decision;
 use encoder::Counters;
 use refusal::Contradiction;
@@ -10,7 +11,6 @@ use state::Limits;
 use tables::Counts;
 ghost use mathlib.Core.Path.{_≡_};
 ghost use mathlib.Core.Bool.{_||_};
-ghost use mathlib.Core.List.{[]};
 ghost use Prim.Native.Nat.{_+_, _<_, _≤_};
 ghost use lib.Dec.{eqb, ltb};
 ghost use lib.ListN.{length, getD, set};
@@ -18,7 +18,6 @@ ghost use Rattle.rules.specs.Decisions.{lastLevel};
 ghost use Rattle.rules.specs.Lists.{any};
 ghost use Rattle.rules.specs.Candidates.{matching};
 ghost use Rattle.rules.specs.Conditions.{disjuncts};
-ghost use Rattle.rules.specs.Opening.{holdsNow};
 ghost use Rattle.rules.specs.Opening as rules;
 ghost use Rattle.rules.specs.Records.{Command};
 ghost use Rattle.rules.proofs.Levels.{Rising};
@@ -33,7 +32,7 @@ ghost use Rattle.entries.specs.Entries.{noEntry, waitingIn, Long};
 ghost use Rattle.entries.specs.Deferred.{flagOf, isHeld, Flags};
 ghost use Rattle.encoder.specs.Did.{onOpening};
 ghost use Rattle.goals.specs.Goals.{Catalogued, trueOf, AllGiven};
-ghost use Rattle.commands.specs.Commands.{Changes, verdictOf, Verdicts, Answers, Judged, NoneSet, isFlagged, Draws, DecidesLiteral, PlainOutcomes, PartOutcomes};
+ghost use Rattle.commands.specs.Commands.{Changes, verdictOf, Verdicts, Answers, AsksDisjunct, AnswersDisjunct, Judged, NoneSet, isFlagged, Draws, DecidesLiteral, PlainOutcomes, PartOutcomes};
 
 // What a command gives.
 pub enum Outcome {
@@ -73,9 +72,9 @@ pub fn add(k: Counts, s: &mut [u8], l: Limits, n: Counters, owner: u16) -> Outco
     Outcome::Refused(Refusal::Missing(Thing::Part, 1))
 }
 
-// ---- verdicts of ranges: 1, it holds, 2, it does not, and 0, it was not asked
+// ---- verdicts of ranges and disjuncts: 1, it holds, 2, it does not, and 0, it was not asked
 
-// The verdict of range r.
+// The verdict at r.
 fn verdict_at(verdicts: &[u8], r: usize) -> u8
     ensures { λ v. ⌜ v ≡ getD (now (verdicts .entry)) r 0 ⌝ }
 {
@@ -85,7 +84,7 @@ fn verdict_at(verdicts: &[u8], r: usize) -> u8
     0
 }
 
-// The verdict of a range, by whether it holds.
+// The verdict by whether something holds.
 fn verdict(holds: bool) -> u8
     ensures { λ r. ⌜ r ≡ verdictOf holds ⌝ }
 {
@@ -95,7 +94,7 @@ fn verdict(holds: bool) -> u8
     2
 }
 
-// The verdict of range r is kept.
+// The verdict at r is kept.
 fn keep_verdict(verdicts: &mut [u8], r: usize, holds: bool)
     ensures { λ _. ⌜ now (verdicts .exit) ≡ set (now (verdicts .entry)) r (verdictOf holds) ⌝ }
 {
@@ -134,7 +133,7 @@ fn range_holds(
     holds
 }
 
-// Each range of disjunct i of condition c has a matching part decided true.
+// Each range of disjunct i of condition c has a matching part decided true: by the verdicts of what it comes from. It is asked once.
 fn disjunct_holds(
     marks: &[u8],
     unions: &[u8],
@@ -144,27 +143,67 @@ fn disjunct_holds(
     l: Limits,
     n: Counters,
     verdicts: &mut [u8],
+    judged: &mut [u8],
     c: usize,
     i: usize,
 ) -> bool
-    requires { ⌜ Catalogued k (now marks) (now unions) (now t) ⌝ }
-    requires { ⌜ Fits l (length (now s)) ⌝ }
-    requires { ⌜ Mapped l (n .variables) (held l (now s)) × Kept l (n .decisions) (held l (now s)) ⌝ }
-    requires { ⌜ Verdicts (catalogue k (now marks) (now unions) (now t)) (trueOf (variables (n .variables) (held l (now s))) (decisions (n .decisions) (held l (now s)))) (now verdicts) ⌝ }
-    requires { ⌜ (c < k .conditions) × (i < length (disjuncts (tables k (now t) .conditions) c)) ⌝ }
-    ensures { λ b. ⌜ Answers (catalogue k (now (marks .entry)) (now (unions .entry)) (now (t .entry))) (trueOf (variables (n .variables) (held l (now (s .entry)))) (decisions (n .decisions) (held l (now (s .entry))))) (holdsNow (catalogue k (now (marks .entry)) (now (unions .entry)) (now (t .entry))) (trueOf (variables (n .variables) (held l (now (s .entry)))) (decisions (n .decisions) (held l (now (s .entry))))) (getD (disjuncts (tables k (now (t .entry)) .conditions) c) i [])) b (now (verdicts .exit)) ⌝ }
+    requires { ⌜ AsksDisjunct k (now marks) (now unions) (now t) l n (now s) (now verdicts) (now judged) c i ⌝ }
+    ensures { λ b. ⌜ AnswersDisjunct (catalogue k (now (marks .entry)) (now (unions .entry)) (now (t .entry))) (tables k (now (t .entry)) .conditions) (trueOf (variables (n .variables) (held l (now (s .entry)))) (decisions (n .decisions) (held l (now (s .entry))))) c i b (now (verdicts .exit)) (now (judged .exit)) ⌝ }
 {
-    let d = conditions::disjunct_of(t, k, c, i);
-    let mut j = 0;
-    while j < d.len {
-        let r = d.ranges[j];
-        if range_holds(marks, unions, t, k, s, l, n, verdicts, r as usize) {
-            j += 1;
-        } else {
-            return false;
+    let place = c * 64 + i;
+    let known = verdict_at(judged, place);
+    if known == 1 {
+        return true;
+    }
+    if known == 2 {
+        return false;
+    }
+    match conditions::source_of(t, k, c, i) {
+        Source::Range(r) => range_holds(marks, unions, t, k, s, l, n, verdicts, r as usize),
+        Source::Half { condition, index } => {
+            let holds = disjunct_holds(
+                marks,
+                unions,
+                t,
+                k,
+                s,
+                l,
+                n,
+                verdicts,
+                judged,
+                condition,
+                index,
+            );
+            keep_verdict(judged, place, holds);
+            holds
+        }
+        Source::Halves {
+            left,
+            first,
+            right,
+            second,
+        } => {
+            if disjunct_holds(marks, unions, t, k, s, l, n, verdicts, judged, left, first) {
+                let holds = disjunct_holds(
+                    marks,
+                    unions,
+                    t,
+                    k,
+                    s,
+                    l,
+                    n,
+                    verdicts,
+                    judged,
+                    right,
+                    second,
+                );
+                keep_verdict(judged, place, holds);
+                return holds;
+            }
+            keep_verdict(judged, place, false);
+            false
         }
     }
-    true
 }
 
 // ---- draw
@@ -179,7 +218,7 @@ fn flag(holds: bool) -> u8
     0
 }
 
-// Which disjuncts of condition c hold: a flag for each. A range that stands in several of them is asked once.
+// Which disjuncts of condition c hold: a flag for each. What stands in several of them, a range or a disjunct of a half, is asked once.
 fn holding(
     marks: &[u8],
     unions: &[u8],
@@ -198,10 +237,23 @@ fn holding(
 {
     let count = conditions::count(t, k, c);
     let mut verdicts = [0u8; 512];
+    let mut judged = [0u8; 16384];
     let mut flags = [0u8; 64];
     let mut i = 0;
     while i < count {
-        let holds = disjunct_holds(marks, unions, t, k, s, l, n, &mut verdicts, c, i);
+        let holds = disjunct_holds(
+            marks,
+            unions,
+            t,
+            k,
+            s,
+            l,
+            n,
+            &mut verdicts,
+            &mut judged,
+            c,
+            i,
+        );
         flags[i] = flag(holds);
         i += 1;
     }

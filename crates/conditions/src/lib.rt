@@ -85,7 +85,7 @@ fn pushed(d: Disjunct, range: u16) -> Disjunct
 }
 
 // Where a disjunct comes from: it is one range, or a disjunct of one half, or one of each.
-enum Source {
+pub enum Source {
     Range(u16),
     Half {
         condition: usize,
@@ -101,7 +101,7 @@ enum Source {
 
 // Disjunct i of condition c: an `or` has those of its left half and then those of its right one, an `and` all those of its right half behind
 // each of its left one.
-fn source_of(t: &[u8], k: Counts, c: usize, i: usize) -> Source
+pub fn source_of(t: &[u8], k: Counts, c: usize, i: usize) -> Source
     requires { ⌜ Laid k (length (now t)) ⌝ }
     requires { ⌜ Sized (tables k (now t)) ⌝ }
     requires { ⌜ c < k .conditions ⌝ }

@@ -1,22 +1,21 @@
 -- `commands::holding` says of each disjunct of a condition whether it holds. The invariant: the flags of the first i disjuncts are set.
 use borrow.Author.Needs.{needs}
 use Prim.Native.Nat.{_-_}
-use Rattle.rules.specs.Conditions.{disjuncts}
 use Rattle.tables.specs.Tables.{tables}
 use Rattle.cache.specs.Areas.{catalogue}
 use Rattle.state.specs.Layout.{held}
 use Rattle.variable_map.specs.Mapping.{variables}
 use Rattle.decision_tracker.specs.Tracking.{decisions}
 use Rattle.goals.specs.Goals.{trueOf}
-use Rattle.commands.proofs.Judging.{Judging, judging-start, judging-there, judging-step, judging-end}
+use Rattle.commands.proofs.Judging.{Judging, judging-start, judging-asks, judging-step, judging-end}
 use Rattle.commands.proofs.holding.Statement.{statement}
 use Rattle.commands.proofs.holding.Tie as tie
 
 abbrev Inv-loop : tie.InvT-loop
-Inv-loop marks unions t k s l n c count verdicts₀ flags₀ i₀ verdicts flags i = Judging (catalogue k marks unions t) (trueOf (variables (n .variables) (held l s)) (decisions (n .decisions) (held l s))) (disjuncts (tables k t .conditions) c) count i verdicts flags
+Inv-loop marks unions t k s l n c count verdicts₀ judged₀ flags₀ i₀ verdicts judged flags i = Judging (catalogue k marks unions t) (tables k t .conditions) (trueOf (variables (n .variables) (held l s)) (decisions (n .decisions) (held l s))) c count i verdicts judged flags
 
 abbrev μ-loop : tie.MeasureT-loop
-μ-loop marks unions t k s l n c count verdicts₀ flags₀ i₀ verdicts flags i = count - i
+μ-loop marks unions t k s l n c count verdicts₀ judged₀ flags₀ i₀ verdicts judged flags i = count - i
 
 count-requires : tie.Need-count-requires Inv-loop μ-loop
 count-requires c κs = search needs
@@ -27,8 +26,11 @@ loop-holds c = search (needs, judging-start)
 slice-aggregate-disjunct-holds : tie.Need-slice-aggregate-disjunct-holds Inv-loop μ-loop
 slice-aggregate-disjunct-holds c = search needs
 
+slice-aggregate-disjunct-holds-2 : tie.Need-slice-aggregate-disjunct-holds-2 Inv-loop μ-loop
+slice-aggregate-disjunct-holds-2 c = search needs
+
 disjunct-holds-requires : tie.Need-disjunct-holds-requires Inv-loop μ-loop
-disjunct-holds-requires c κs = (search needs, (search needs, (search needs, (search needs, (search needs, search (needs, judging-there))))))
+disjunct-holds-requires c κs = search (needs, judging-asks)
 
 flag-requires : tie.Need-flag-requires Inv-loop μ-loop
 flag-requires c κs = search needs
@@ -57,6 +59,7 @@ holding-spec =
     count-requires
     loop-holds
     slice-aggregate-disjunct-holds
+    slice-aggregate-disjunct-holds-2
     disjunct-holds-requires
     flag-requires
     array-write-flags
