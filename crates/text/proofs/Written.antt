@@ -8,8 +8,8 @@ use native.Mathlib.Nat.{add-zero}
 use native.Mathlib.Decide.{decLt}
 use lib.Dec.{ltb}
 use borrow.Author.Tests.{ltb-true}
-use lib.ListN.{length, set, take, drop, length-append}
-use lib.Seq.{sets, sets-eq, take-all, length-take-le, take-nil}
+use lib.ListN.{length, getD, set, take, drop, length-append, length-set}
+use lib.Seq.{sets, sets-eq, length-sets, set-out, getD-set-same, getD-set-other, take-all, length-take-le, take-nil}
 use Rattle.rules.specs.Lists.{concatMap}
 use Rattle.rules.specs.Listing.{line}
 use Rattle.text.specs.Text.{Wrote, wrote, WroteBut, wroteBut, fields}
@@ -23,11 +23,25 @@ take-append (suc n) (u ∷ us) vs =
     let e : suc n - suc (length us) ≡ n - length us = omega arith in
     rw e (ap (λ (l : List ℕ). u ∷ l) (take-append n us vs))
 
-sets-append : (o : List ℕ) (at : ℕ) (us vs : List ℕ) → sets o at (us ++ vs) ≡ sets (sets o at us) (at + length us) vs
+pub sets-append : (o : List ℕ) (at : ℕ) (us vs : List ℕ) → sets o at (us ++ vs) ≡ sets (sets o at us) (at + length us) vs
 sets-append o at [] vs = rw add-zero
 sets-append o at (u ∷ us) vs =
     let e : at + suc (length us) ≡ suc at + length us = omega arith in
     rw e (sets-append (set o at u) (suc at) us vs)
+
+pub sets-past : (o : List ℕ) (at : ℕ) (bs : List ℕ) → length o ≤ at → sets o at bs ≡ o
+sets-past o at [] h = refl
+sets-past o at (b ∷ bs) h = rw (set-out o at b h) (sets-past o (suc at) bs (omega arith))
+
+pub sets-before : (o : List ℕ) (at : ℕ) (bs : List ℕ) (i : ℕ) → i < at → getD (sets o at bs) i 0 ≡ getD o i 0
+sets-before o at [] i h = refl
+sets-before o at (b ∷ bs) i h = sets-before (set o at b) (suc at) bs i (omega arith) ∙ getD-set-other o at i b 0 (λ e. omega arith)
+
+sets-at : (o : List ℕ) (at : ℕ) (bs : List ℕ) (i : ℕ) → i < length bs → at + i < length o → getD (sets o at bs) (at + i) 0 ≡ getD bs i 0
+sets-at o at (b ∷ bs) zero h g = rw add-zero (sets-before (set o at b) (suc at) bs at (omega arith) ∙ getD-set-same o at b 0 (omega arith))
+sets-at o at (b ∷ bs) (suc i) h g =
+    let e : at + suc i ≡ suc at + i = omega arith in
+    rw e (sets-at (set o at b) (suc at) bs i (omega arith) (rw length-set (omega arith)))
 
 -- what is left of n places behind a list
 left : (n : ℕ) (l : List ℕ) → n - length (take n l) ≡ n - length l
@@ -63,6 +77,25 @@ module _ {room at r : ℕ} {o bs o′ : List ℕ} where
 
   pub is : Wrote at r bs room o o′ → o′ ≡ sets o at (take (room - at) bs)
   is (wrote e f) = f
+
+  pub onward : Wrote at r bs room o o′ → at ≤ r
+  onward f = omega (arith, next f)
+
+  pub same-length : Wrote at r bs room o o′ → length o′ ≡ length o
+  same-length f = rw (is f) (length-sets o at (take (room - at) bs))
+
+  pub before-kept : (i : ℕ) → Wrote at r bs room o o′ → i < at → getD o′ i 0 ≡ getD o i 0
+  before-kept i f h = rw (is f) (sets-before o at (take (room - at) bs) i h)
+
+  -- not over: all of the bytes are there
+  pub fitted : Wrote at r bs room o o′ → r ≤ room → r ≡ at + length bs
+  fitted f h = omega (arith, next f, left (suc room - at) bs)
+
+  pub there : (i : ℕ) → Wrote at r bs room o o′ → r ≤ room → i < length bs → at + i < length o → getD o′ (at + i) 0 ≡ getD bs i 0
+  there i f h g j = rw (is f, take-all (room - at) bs (omega (arith, fitted f h))) (sets-at o at bs i g j)
+
+pub whole : {room at : ℕ} {bs o : List ℕ} → at + length bs ≤ room → Wrote at (at + length bs) bs room o (sets o at bs)
+whole {room} {at} {bs} {o} h = wrote (rw (take-all (suc room - at) bs (omega arith))) (rw (take-all (room - at) bs (omega arith)))
 
 module _ {room at r : ℕ} {o o1 us : List ℕ} where
   pub then : {s : ℕ} {o2 vs : List ℕ} → Wrote at r us room o o1 → Wrote r s vs room o1 o2 → Wrote at s (us ++ vs) room o o2
