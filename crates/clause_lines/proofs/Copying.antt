@@ -115,17 +115,16 @@ module _ {c : Catalogue} {vs : List Origin} {at room : ℕ} {sp o : List ℕ} (f
 
     -- ---- a copy
 
-    module _ {n : ℕ} (s : Standing sp room at r n) (h : 0 < n) where
-      here : Span (partText vs (sorted c r)) at (getD sp (2 * r) 0) n o
-      here = rw (s .count h) (f .each r (s .range h))
+    module _ {n begin : ℕ} (s : Standing sp room at r n) (h : 0 < n) (b : begin ≡ getD sp (2 * r) 0) where
+      here : Span (partText vs (sorted c r)) at begin n o
+      here = rw (s .count h, b) (f .each r (s .range h))
 
-      pub copy-before : getD sp (2 * r) 0 + n ≤ at
+      pub copy-before : begin + n ≤ at
       copy-before = here .before
 
-      copied-is : copied o (getD sp (2 * r) 0) n at ≡ sets o at (partText vs (sorted c r))
+      copied-is : copied o begin n at ≡ sets o at (partText vs (sorted c r))
       unfolding copied
       copied-is =
-          let begin : ℕ = getD sp (2 * r) 0 in
           let bs : List ℕ = partText vs (sorted c r) in
           elim (decLt at (length o)) [
             | yes d ↦
@@ -136,8 +135,8 @@ module _ {c : Catalogue} {vs : List Origin} {at room : ℕ} {sp o : List ℕ} (f
             | no d ↦ sets-past o at (take n (drop begin o)) (omega arith) ∙ sym (sets-past o at bs (omega arith))
           ]
 
-      pub copied-text : {o1 : List ℕ} → o1 ≡ copied o (getD sp (2 * r) 0) n at → Wrote at (at + n) (partText vs (sorted c r)) room o o1
+      pub copied-text : {o1 : List ℕ} → o1 ≡ copied o begin n at → Wrote at (at + n) (partText vs (sorted c r)) room o o1
       copied-text e = rw (e, copied-is, here .all h) (whole (omega (arith, s .fits h, here .all h)))
 
-      pub copied-spans : {o1 : List ℕ} → o1 ≡ copied o (getD sp (2 * r) 0) n at → Spans c vs (at + n) sp o1
+      pub copied-spans : {o1 : List ℕ} → o1 ≡ copied o begin n at → Spans c vs (at + n) sp o1
       copied-spans e = spans-kept (copied-text e) f

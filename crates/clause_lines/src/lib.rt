@@ -137,7 +137,7 @@ fn range_literals(
     )
 }
 
-// The literals of a range; and where they stand, if they fitted.
+// The literals of a range; and where they stand is kept, if they fitted.
 fn new_literals(
     marks: &[u8],
     unions: &[u8],
@@ -147,7 +147,7 @@ fn new_literals(
     l: Limits,
     n: Counters,
     out: &mut [u8],
-    spans: &mut [usize; 1024],
+    spans: &mut [u32; 1024],
     room: usize,
     at: usize,
     r: usize,
@@ -165,9 +165,13 @@ fn new_literals(
     if 511 < r {
         return a;
     }
+    // beyond the places that the spans can hold
+    if 4294967295 < a {
+        return a;
+    }
     let i = 2 * r;
-    spans[i] = at;
-    spans[i + 1] = a - at;
+    spans[i] = at as u32;
+    spans[i + 1] = (a - at) as u32;
     a
 }
 
@@ -181,7 +185,7 @@ fn shared_literals(
     l: Limits,
     n: Counters,
     out: &mut [u8],
-    spans: &mut [usize; 1024],
+    spans: &mut [u32; 1024],
     room: usize,
     at: usize,
     r: usize,
@@ -194,7 +198,7 @@ fn shared_literals(
 {
     let count = spans::standing(spans, room, at, r);
     if 0 < count {
-        let begin = spans[2 * r];
+        let begin = spans::wide(spans[2 * r]);
         spans::copy(out, begin, count, at);
         return at + count;
     }
@@ -210,7 +214,7 @@ fn union_literals(
     l: Limits,
     n: Counters,
     out: &mut [u8],
-    spans: &mut [usize; 1024],
+    spans: &mut [u32; 1024],
     room: usize,
     at: usize,
     u: u16,
@@ -256,7 +260,7 @@ fn candidate_literals(
     l: Limits,
     n: Counters,
     out: &mut [u8],
-    spans: &mut [usize; 1024],
+    spans: &mut [u32; 1024],
     room: usize,
     at: usize,
     form: u16,
@@ -363,7 +367,7 @@ fn requires_fields(
     l: Limits,
     n: Counters,
     out: &mut [u8],
-    spans: &mut [usize; 1024],
+    spans: &mut [u32; 1024],
     room: usize,
     at: usize,
     row: Stored,
@@ -403,7 +407,7 @@ fn gated_fields(
     l: Limits,
     n: Counters,
     out: &mut [u8],
-    spans: &mut [usize; 1024],
+    spans: &mut [u32; 1024],
     room: usize,
     at: usize,
     row: Stored,
@@ -443,7 +447,7 @@ fn clause_fields(
     l: Limits,
     n: Counters,
     out: &mut [u8],
-    spans: &mut [usize; 1024],
+    spans: &mut [u32; 1024],
     room: usize,
     at: usize,
     row: Stored,
@@ -553,7 +557,7 @@ fn row_fields(
     l: Limits,
     n: Counters,
     out: &mut [u8],
-    spans: &mut [usize; 1024],
+    spans: &mut [u32; 1024],
     room: usize,
     at: usize,
     i: usize,
@@ -579,7 +583,7 @@ fn clause_line(
     l: Limits,
     n: Counters,
     out: &mut [u8],
-    spans: &mut [usize; 1024],
+    spans: &mut [u32; 1024],
     room: usize,
     at: usize,
     i: usize,
@@ -622,7 +626,7 @@ fn all_lines(
     l: Limits,
     n: Counters,
     out: &mut [u8],
-    spans: &mut [usize; 1024],
+    spans: &mut [u32; 1024],
     room: usize,
     at: usize,
 ) -> usize

@@ -31,8 +31,15 @@ pub fn copy(out: &mut [u8], begin: usize, n: usize, at: usize)
     }
 }
 
+// A number of the spans, as a place.
+pub fn wide(x: u32) -> usize
+    ensures { λ r. ⌜ r ≡ x ⌝ }
+{
+    x as usize
+}
+
 // How many bytes of range r's literals stand in the listing already, if they fit at place `at` too; else 0.
-pub fn standing(spans: &[usize; 1024], room: usize, at: usize, r: usize) -> usize
+pub fn standing(spans: &[u32; 1024], room: usize, at: usize, r: usize) -> usize
     ensures { λ n. ⌜ Standing (now (spans .entry)) room at r n ⌝ }
 {
     if 511 < r {
@@ -41,7 +48,7 @@ pub fn standing(spans: &[usize; 1024], room: usize, at: usize, r: usize) -> usiz
     if room < at {
         return 0;
     }
-    let n = spans[2 * r + 1];
+    let n = wide(spans[2 * r + 1]);
     if room - at < n {
         return 0;
     }

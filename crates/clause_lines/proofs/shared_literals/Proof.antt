@@ -8,26 +8,32 @@ use Rattle.clause_lines.proofs.shared_literals.Tie as tie
 standing-requires : tie.Need-standing-requires
 standing-requires c κs = search needs
 
-mul-begin : tie.Need-mul-begin
-mul-begin c = omega (arith, c .before .standing .ensures .range (c .if1 .taken))
+mul-wide : tie.Need-mul-wide
+mul-wide c = omega (arith, c .before .standing .ensures .range (c .if1 .taken))
 
-mul-begin-2 : tie.Need-mul-begin-2
-mul-begin-2 c = omega (arith, c .before .standing .ensures .range (c .if1 .taken))
+mul-wide-2 : tie.Need-mul-wide-2
+mul-wide-2 c = omega (arith, c .before .standing .ensures .range (c .if1 .taken))
 
-element-copy-out-begin : tie.Need-element-copy-out-begin
-element-copy-out-begin c = omega (arith, c .before .standing .ensures .range (c .if1 .taken))
+element-copy-out-wide : tie.Need-element-copy-out-wide
+element-copy-out-wide c = omega (arith, c .before .standing .ensures .range (c .if1 .taken))
+
+wide-requires : tie.Need-wide-requires
+wide-requires c κs = search needs
 
 copy-requires : tie.Need-copy-requires
 copy-requires c κs = search (needs, copy-before)
 
 add-result : tie.Need-add-result
-add-result c = omega (arith, c .before .before .before .before .before .before .standing .ensures .fits (c .before .before .before .before .before .if1 .taken))
+add-result c = omega (arith, c .before .before .before .before .before .before .before .standing .ensures .fits (c .before .before .before .before .before .before .if1 .taken))
 
 same-length : tie.Need-same-length
 same-length c = search needs
 
 returns : tie.Need-returns
-returns c = (search (needs, copied-text), search (needs, copied-spans))
+returns c = (
+  search (needs, copied-text),
+  copied-spans (search needs) _ (c .before .before .before .before .before .before .before .standing .ensures) (c .before .before .before .before .before .before .if1 .taken) (c .before .before .before .before .wide .ensures) (c .before .before .copy .ensures),
+)
 
 new-literals-requires : tie.Need-new-literals-requires
 new-literals-requires c κs = (search needs, (search needs, search needs))
@@ -43,9 +49,10 @@ shared-literals-spec =
     tie.close
     (tie.spec
     standing-requires
-    mul-begin
-    mul-begin-2
-    element-copy-out-begin
+    mul-wide
+    mul-wide-2
+    element-copy-out-wide
+    wide-requires
     copy-requires
     add-result
     same-length

@@ -39,7 +39,8 @@ cast-shared-literals c = search needs
 shared-literals-requires : tie.Need-shared-literals-requires Inv-loop μ-loop
 shared-literals-requires c κs = (search needs, (search (needs, walking-known), search needs))
 
-Inv-loop marks unions t k s l n out₀ spans₀ room at u a₀ i₀ out spans a i = Walking k marks unions t l n s (variables (n .variables) (held l s)) u at a i room out₀ out × Spans (catalogue k marks unions t) (variables (n .variables) (held l s)) a spans out
+next-of-union-requires : tie.Need-next-of-union-requires Inv-loop μ-loop
+next-of-union-requires c κs = search needs
 
 loop-less : tie.Need-loop-less Inv-loop μ-loop
 loop-less c = search needs
