@@ -1,4 +1,5 @@
 pub mod Starting
+pub mod Undoing
 pub mod Settling
 pub mod Records
 pub mod Sheets

@@ -19,7 +19,7 @@ use Rattle.rules.specs.Limits as rules
 use Rattle.rules.specs.Sheet.{commandRefusals, carriedOut, carryOut}
 use Rattle.rules.proofs.Bools.{by-cases}
 use Rattle.rules.proofs.KindTable.{not-one}
-use Rattle.rules.proofs.Reached.{unlessAny-ok}
+use Rattle.rules.proofs.Reached.{Reached, unlessAny-ok}
 use Rattle.reader.specs.declared.Command as code
 use Rattle.reader.specs.declared.Command.the-variants as C
 use Rattle.reader.specs.Reading.{commandOf}
@@ -28,6 +28,7 @@ use Rattle.entries.proofs.Places.{is-free}
 use Rattle.commands.proofs.Judging.{zeros}
 use Rattle.commands.proofs.Idling.{idle-draw, idle-after, idle-kept}
 use Rattle.carried.specs.Carrying.{Settled, Idles, Notes}
+use Rattle.carried.proofs.Undoing.{idle-undone}
 
 -- ---- by the definitions
 
@@ -55,6 +56,10 @@ module _ (l : rules.Limits) (c : Catalogue) (s : State) where
     settled-added : (o : ℕ) → Settled c flags (carriedOut l c (Command.add o) s)
     unfolding carriedOut opening.add decidedTrue
     settled-added o = record { given = h .given; idle = λ k e. record { none = h .idle k e .none } }
+
+    settled-undone : Reached l c s → (level : ℕ) → Settled c flags (carriedOut l c (Command.undo level) s)
+    unfolding carriedOut
+    settled-undone r level = record { given = h .given; idle = λ k e. idle-undone r level k (h .idle k e) }
 
     settled-drawn : (k : ℕ) → k < length (c .conditions) → Settled c (set flags k 1) (carriedOut l c (Command.draw k) s)
     unfolding carriedOut isHeld isFree decidedTrue
@@ -87,12 +92,16 @@ module _ (x : code.Command) {flags : List ℕ} where
 
   pub notes-add : (o : ℕ) → x ≡ C.Add o → Notes (commandOf x) flags flags
   unfolding commandOf
-  notes-add o q = rw q (record { is = λ l c s s′ e h. rw (← carried-is l c s (Command.add o) s′ e) (settled-added l c s h o) })
+  notes-add o q = rw q (record { is = λ l c s s′ r e h. rw (← carried-is l c s (Command.add o) s′ e) (settled-added l c s h o) })
+
+  pub notes-undo : (level : ℕ) → x ≡ C.Undo level → Notes (commandOf x) flags flags
+  unfolding commandOf
+  notes-undo level q = rw q (record { is = λ l c s s′ r e h. rw (← carried-is l c s (Command.undo level) s′ e) (settled-undone l c s h r level) })
 
   pub notes-draw : (k : ℕ) {flags′ : List ℕ} → x ≡ C.Draw k → flags′ ≡ set flags k 1 → Notes (commandOf x) flags flags′
   unfolding commandOf
   notes-draw k q z =
-      rw (q, z) (record { is = λ l c s s′ e h. rw (← carried-is l c s (Command.draw k) s′ e) (settled-drawn l c s h k (drawn-given l c s k s′ e)) })
+      rw (q, z) (record { is = λ l c s s′ r e h. rw (← carried-is l c s (Command.draw k) s′ e) (settled-drawn l c s h k (drawn-given l c s k s′ e)) })
 
   pub notes-none : {flags′ : List ℕ} → flags′ ≡ replicate (length flags) 0 → Notes (commandOf x) flags flags′
-  notes-none z = rw z (record { is = λ l c s s′ e h. settled-none c (length flags) s′ })
+  notes-none z = rw z (record { is = λ l c s s′ r e h. settled-none c (length flags) s′ })

@@ -116,7 +116,7 @@ module _ {c : Catalogue} {l : Limits} {job : List ℕ} {from : ℕ} {s₀ cl₀ 
           state = y .state;
           reached = y .reached;
           holds = y .holds;
-          settled = b .is (limitsOf l) c (x .state) (y .state) (y .is) (x .settled);
+          settled = b .is (limitsOf l) c (x .state) (y .state) (x .reached) (y .is) (x .settled);
           alike = λ t z. x .alike t z ∙ y .alike t z;
         }
 

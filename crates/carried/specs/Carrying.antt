@@ -52,7 +52,7 @@ pub record Idles (b : Bool) (o : Command) (flags : List ℕ) : Type 0 where
 
 -- after the command these are flags of that kind
 pub record Notes (o : Command) (flags flags′ : List ℕ) : Type 0 where
-  pub is : (l : rules.Limits) (c : Catalogue) (s s′ : State) → carryOut l c o s ≡ ok s′ → Settled c flags s → Settled c flags′ s′
+  pub is : (l : rules.Limits) (c : Catalogue) (s s′ : State) → Reached l c s → carryOut l c o s ≡ ok s′ → Settled c flags s → Settled c flags′ s′
 
 -- the command was carried out or refused, where nothing of the flagged conditions was to be drawn
 pub record SettledDid (c : Catalogue) (flags : List ℕ) (l : Limits) (o : Command) (n : Counters) (st : ℕ → List ℕ) (cl wt : List ℕ)

@@ -1,11 +1,14 @@
 -- `carried::note` keeps the flags of conditions of which nothing is to be drawn.
 use borrow.Author.Needs.{needs}
-use Rattle.carried.proofs.Settling.{notes-add, notes-draw, notes-none}
+use Rattle.carried.proofs.Settling.{notes-add, notes-undo, notes-draw, notes-none}
 use Rattle.carried.proofs.note.Statement.{statement}
 use Rattle.carried.proofs.note.Tie as tie
 
 enum-told : tie.Need-enum-told
 enum-told c = search needs
+
+enum-told-2 : tie.Need-enum-told-2
+enum-told-2 c = search needs
 
 enum-known-command : tie.Need-enum-known-command
 enum-known-command c = search needs
@@ -22,29 +25,34 @@ clear-requires c κs = search needs
 returns : tie.Need-returns
 returns c = search (needs, notes-add)
 
+returns-2 : tie.Need-returns-2
+returns-2 c = search (needs, notes-undo)
+
 same-length : tie.Need-same-length
 same-length c = search needs
 
-returns-2 : tie.Need-returns-2
-returns-2 c = search (needs, notes-draw)
+returns-3 : tie.Need-returns-3
+returns-3 c = search (needs, notes-draw)
 
 same-length-2 : tie.Need-same-length-2
 same-length-2 c = search needs
 
-returns-3 : tie.Need-returns-3
-returns-3 c = search (needs, notes-none)
+returns-4 : tie.Need-returns-4
+returns-4 c = search (needs, notes-none)
 
 pub note-spec : {M : Type 1} → statement M
 note-spec =
     tie.close
     (tie.spec
     enum-told
+    enum-told-2
     enum-known-command
     cast-set-flag
     set-flag-requires
     clear-requires
     returns
-    same-length
     returns-2
+    same-length
+    returns-3
     same-length-2
-    returns-3)
+    returns-4)
