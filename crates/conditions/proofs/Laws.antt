@@ -18,7 +18,7 @@ use Rattle.tables.proofs.Laws.{conditions-counted}
 use Rattle.conditions.specs.declared.Disjunct as D
 use Rattle.conditions.specs.declared.Source.{Source}
 use Rattle.conditions.specs.declared.Source.the-variants.{Range, Half, Halves}
-use Rattle.conditions.specs.Sizes.{Sized, Counted, Earlier, rangesOf, Carries, Appended, worked, Before, AllBefore, From, Asked}
+use Rattle.conditions.specs.Sizes.{Sized, Counted, Earlier, rangesOf, Carries, Appended, worked, Before, AllBefore, From, Follows, Asked}
 use Rattle.conditions.proofs.Longest.{at-most-longest}
 use Rattle.conditions.proofs.Sizing.{row-leaf, row-joined, and-when, or-when}
 
@@ -100,13 +100,43 @@ module _ (k : Counts) (b : List ℕ) (c i : ℕ) (x : C.Condition) (s : Sized (t
 
 -- ---- condition c, by where its disjunct i comes from
 
-all-before : (cs : List Condition) {h c : ℕ} (s : Source) → h < c → AllBefore cs h s → AllBefore cs c s
+all-before : (cs : List Condition) {h c : ℕ} (s : Source) → h ≤ c → AllBefore cs h s → AllBefore cs c s
 all-before cs (Range r) e p = p
 all-before cs (Half l i) e p = record { earlier = omega (arith, p .earlier); there = p .there }
 all-before cs (Halves l i r j) e p = (record { earlier = omega (arith, p .0 .earlier); there = p .0 .there }, record { earlier = omega (arith, p .1 .earlier); there = p .1 .there })
 
-pub from-same : {cs : List Condition} {c i : ℕ} {s r : Source} → From cs c i s → s ≡ r → From cs c i r
-from-same f e = rw e at f
+-- ---- the halves of an `or` are followed
+
+module _ {cs : List Condition} {c i : ℕ} where
+  pub follows-same : i < length (disjuncts cs c) → Follows cs c i c i
+  follows-same h = record { is = refl; early = omega arith; there = h }
+
+  pub follows-given : {h j n : ℕ} → Follows cs c i h j → c < n → h < n
+  follows-given f g = omega (arith, f .early)
+
+  pub follows-half : {h j : ℕ} → From cs c i (Half h j) → Follows cs c i h j
+  unfolding worked
+  follows-half f = record { is = f .is; early = omega (arith, f .before .earlier); there = f .before .there }
+
+  pub follows-on : {h j x y : ℕ} → Follows cs c i h j → Follows cs h j x y → Follows cs c i x y
+  follows-on f g = record { is = f .is ∙ g .is; early = omega (arith, f .early, g .early); there = g .there }
+
+  pub follows-from : {h j : ℕ} {s : Source} → Follows cs c i h j → From cs h j s → From cs c i s
+  follows-from {s = s} f g = record { is = f .is ∙ g .is; before = all-before cs s (f .early) (g .before) }
+
+-- at the head of the loop: the place at hand, and its half
+pub record Following (cs : List Condition) (c i condition index h j : ℕ) : Type 0 where
+  pub here : Follows cs c i condition index
+  pub half : Follows cs condition index h j
+
+pub following-given : {cs : List Condition} {c i condition index h j n : ℕ} → Following cs c i condition index h j → c < n → h < n
+following-given f g = omega (arith, f .here .early, f .half .early)
+
+pub following-start : {cs : List Condition} {c i h j : ℕ} → i < length (disjuncts cs c) → Follows cs c i h j → Following cs c i c i h j
+following-start g f = record { here = follows-same g; half = f }
+
+pub following-step : {cs : List Condition} {c i condition index h j x y : ℕ} → Following cs c i condition index h j → Follows cs h j x y → Following cs c i h j x y
+following-step f g = record { here = follows-on (f .here) (f .half); half = g }
 
 module _ (k : Counts) (b : List ℕ) {c i : ℕ} {s : Source} (f : From (tables k b .conditions) c i s) where
   abbrev this : Disjunct
@@ -133,15 +163,6 @@ module _ (k : Counts) (b : List ℕ) {c i : ℕ} {s : Source} (f : From (tables 
 
     pub half-falls : (t : ℕ) → c ≡ t → h < t
     half-falls t q = omega (arith, half-before .earlier)
-
-    pub half-given : c < k .conditions → h < k .conditions
-    half-given g = omega (arith, half-before .earlier)
-
-    pub half-there : j < length (disjuncts (tables k b .conditions) h)
-    half-there = half-before .there
-
-    pub half-followed : {r : Source} → From (tables k b .conditions) h j r → From (tables k b .conditions) c i r
-    half-followed {r} p = record { is = half-one ∙ p .is; before = all-before (tables k b .conditions) r (half-before .earlier) (p .before) }
 
     pub half-asked : {n : ℕ} → Asked k b c i n → Asked k b h j n
     half-asked a =

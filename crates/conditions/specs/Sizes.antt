@@ -90,6 +90,12 @@ pub record From (cs : List Condition) (c i : ℕ) (s : Source) : Type 0 where
   pub is : getD (disjuncts cs c) i [] ≡ worked cs s
   pub before : AllBefore cs c s
 
+-- disjunct j of condition h, which is no later one, is disjunct i of condition c
+pub record Follows (cs : List Condition) (c i h j : ℕ) : Type 0 where
+  pub is : getD (disjuncts cs c) i [] ≡ getD (disjuncts cs h) j []
+  pub early : h ≤ c
+  pub there : j < length (disjuncts cs h)
+
 -- disjunct i of condition c is there, with room for it behind n ranges
 pub record Asked (k : Counts) (bytes : List ℕ) (c i n : ℕ) : Type 0 where
   pub laid : Laid k (length bytes)

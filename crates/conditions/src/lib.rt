@@ -11,7 +11,7 @@ ghost use Rattle.rules.specs.Catalogue.{joined};
 ghost use Rattle.rules.specs.Conditions.{disjuncts};
 ghost use Rattle.rules.specs.Items.{operatorOf};
 ghost use Rattle.tables.specs.Tables.{tables, Laid, sizeIs};
-ghost use Rattle.conditions.specs.Sizes.{sizeOf, Sized, HasSize, Counted, Carries, Appended, From, Asked};
+ghost use Rattle.conditions.specs.Sizes.{sizeOf, Sized, HasSize, Counted, Carries, Appended, From, Follows, Asked};
 
 // A disjunct: its first `len` ranges must all hold.
 pub struct Disjunct {
@@ -138,29 +138,77 @@ pub fn source_of(t: &[u8], k: Counts, c: usize, i: usize) -> Source
     }
 }
 
-// The same, a half followed to its own halves as long as it is one: a range, or a disjunct of each of two halves.
-fn followed(t: &[u8], k: Counts, c: usize, i: usize) -> Source
+// A disjunct, by its condition and its place among the condition's.
+struct Place {
+    condition: usize,
+    index: usize,
+}
+
+// The same disjunct as one of a half, where condition c is an `or`.
+fn half(t: &[u8], k: Counts, c: usize, i: usize) -> Place
+    requires { ⌜ Laid k (length (now t)) ⌝ }
+    requires { ⌜ Sized (tables k (now t)) ⌝ }
+    requires { ⌜ c < k .conditions ⌝ }
+    requires { ⌜ i < length (disjuncts (tables k (now t) .conditions) c) ⌝ }
+    ensures { λ r. ⌜ Follows (tables k (now (t .entry)) .conditions) c i (r .condition) (r .index) ⌝ }
+{
+    let it = tables::condition_at(t, k, c);
+    if it.operator == 2 {
+        return Place {
+            condition: c,
+            index: i,
+        };
+    }
+    if it.operator == 0 {
+        return Place {
+            condition: c,
+            index: i,
+        };
+    }
+    let left = it.left as usize;
+    let right = it.right as usize;
+    let count = count(t, k, left);
+    if i < count {
+        return Place {
+            condition: left,
+            index: i,
+        };
+    }
+    Place {
+        condition: right,
+        index: i - count,
+    }
+}
+
+// The same disjunct as one of a condition that is no `or`.
+fn followed(t: &[u8], k: Counts, c: usize, i: usize) -> Place
+    requires { ⌜ Laid k (length (now t)) ⌝ }
+    requires { ⌜ Sized (tables k (now t)) ⌝ }
+    requires { ⌜ c < k .conditions ⌝ }
+    requires { ⌜ i < length (disjuncts (tables k (now t) .conditions) c) ⌝ }
+    ensures { λ r. ⌜ Follows (tables k (now (t .entry)) .conditions) c i (r .condition) (r .index) ⌝ }
+{
+    let mut condition = c;
+    let mut index = i;
+    let mut next = half(t, k, c, i);
+    while next.condition < condition {
+        condition = next.condition;
+        index = next.index;
+        next = half(t, k, condition, index);
+    }
+    Place { condition, index }
+}
+
+// Where disjunct i of condition c comes from, past the halves of an `or`.
+fn source_past_or(t: &[u8], k: Counts, c: usize, i: usize) -> Source
     requires { ⌜ Laid k (length (now t)) ⌝ }
     requires { ⌜ Sized (tables k (now t)) ⌝ }
     requires { ⌜ c < k .conditions ⌝ }
     requires { ⌜ i < length (disjuncts (tables k (now t) .conditions) c) ⌝ }
     ensures { λ r. ⌜ From (tables k (now (t .entry)) .conditions) c i r ⌝ }
 {
-    match source_of(t, k, c, i) {
-        Source::Range(r) => Source::Range(r),
-        Source::Half { condition, index } => followed(t, k, condition, index),
-        Source::Halves {
-            left,
-            first,
-            right,
-            second,
-        } => Source::Halves {
-            left,
-            first,
-            right,
-            second,
-        },
-    }
+    let place = followed(t, k, c, i);
+    source_of(t, k, place.condition, place.index)
 }
 
 // The ranges of disjunct i of condition c behind those of d. A half has a smaller number, so the number falls at each call.
@@ -168,7 +216,7 @@ pub fn disjunct_behind(t: &[u8], k: Counts, c: usize, i: usize, d: Disjunct) -> 
     requires { ⌜ Asked k (now t) c i (d .len) ⌝ }
     ensures { λ r. ⌜ Appended d (getD (disjuncts (tables k (now (t .entry)) .conditions) c) i []) r ⌝ }
 {
-    match followed(t, k, c, i) {
+    match source_past_or(t, k, c, i) {
         Source::Range(r) => pushed(d, r),
         Source::Half { condition, index } => disjunct_behind(t, k, condition, index, d),
         Source::Halves {

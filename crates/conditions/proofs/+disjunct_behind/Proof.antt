@@ -9,7 +9,7 @@ use Rattle.conditions.proofs.disjunct_behind.Reads as behind
 use Rattle.conditions.proofs.disjunct_behind.Kinds as kinds
 use Rattle.conditions.proofs.+disjunct_behind.Lts-disjunct_behind as lts
 use Rattle.conditions.proofs.pushed.Reads as pushed
-use Rattle.conditions.proofs.followed.Reads as followed
+use Rattle.conditions.proofs.source_past_or.Reads as source
 use Rattle.conditions.proofs.+disjunct_behind.{statement}
 use Rattle.conditions.proofs.+disjunct_behind.Tie.{close}
 
@@ -24,11 +24,11 @@ abbrev below : ℕ → In 1 kinds.ps
 below t = and 1 kinds.ps (falls 1 kinds.ps _<_ number t) behind.Pre
 
 abbrev claims : ℕ → lts.Claims
-claims t = (followed.Asked, followed.Learnt, pushed.Asked, pushed.Learnt, below t, behind.Post)
+claims t = (source.Asked, source.Learnt, pushed.Asked, pushed.Learnt, below t, behind.Post)
 
 module _ (t : ℕ) where
-  followed-requires : lts.Need-followed-requires (claims t) (at t) behind.Post
-  followed-requires c κs = search needs
+  source-past-or-requires : lts.Need-source-past-or-requires (claims t) (at t) behind.Post
+  source-past-or-requires c κs = search needs
 
   enum-known-r : lts.Need-enum-known-r (claims t) (at t) behind.Post
   enum-known-r c = search needs
@@ -66,7 +66,7 @@ pub +disjunct-behind-spec : {M : Type 1} → statement M
     (claims t)
     (at t)
     behind.Post
-    (followed-requires t)
+    (source-past-or-requires t)
     (enum-known-r t)
     (pushed-requires t)
     (enum-known-condition t)
