@@ -146,16 +146,16 @@ module _ (k : Counts) (m u t : List ℕ) (p : ℕ) {l : Limits} {n : Counters} {
     pub settled-closed : r ≡ false → true ≡ true → Settled (catalogue k m u t) l n st p
     settled-closed a x = settled p (i (not-false known′ h)) (q (not-false tracked z)) (ready-not k m u t p e a)
 
-module _ {c : Catalogue} {l : Limits} {n : Counters} {st : ℕ → List ℕ} (which : Parts) (p : ℕ) {b : Bool} (e : b ≡ selectedOf c which p) where
-  pub due-selected : {f : Bool} → b ≡ true → (f ≡ true → Settled c l n st p) → Due c l n st which p (not f)
-  due-selected {f} i h =
-      record {
-        due = λ d. sym e ∙ i;
-        idle = λ d naming. state-same (h (not-false f d) .is naming) (λ v s. unfold when in rw (← e, i));
-      }
+module _ {c : Catalogue} {l : Limits} {n : Counters} {st : ℕ → List ℕ} (which : Parts) (p : ℕ) where
+  pub due-settled : {f : Bool} → (f ≡ true → Settled c l n st p) → f ≡ true → Due c l n st which p false
+  due-settled h i = record { due = λ d. not-said d; idle = λ d naming. whether (selectedOf c which p) (h i .is naming) }
+    where
+      whether : {F : State → State} (b : Bool) → StateDid c l (λ v. F) n st n st → StateDid c l (λ v. when b F) n st n st
+      whether true d = state-same d (λ v s. unfold when in refl)
+      whether false d = state-none (λ v s. unfold when in refl)
 
-  pub due-other : b ≡ false → Due c l n st which p false
-  due-other i = record { due = λ d. not-said d; idle = λ d naming. naming-other which naming p e i }
+  pub due-selected : {b : Bool} → b ≡ selectedOf c which p → Due c l n st which p b
+  due-selected e = record { due = λ d. sym e ∙ d; idle = λ d naming. naming-other which naming p e d }
 
 -- ---- each of these
 

@@ -278,7 +278,7 @@ fn is_settled(
     true
 }
 
-// Is part p one of these, and not settled?
+// Is part p not settled, and one of these?
 fn is_due(
     marks: &[u8],
     unions: &[u8],
@@ -296,10 +296,10 @@ fn is_due(
     requires { ⌜ p < 1024 ⌝ }
     ensures { λ b. ⌜ Due (catalogue k (now (marks .entry)) (now (unions .entry)) (now (t .entry))) l n (held l (now (s .entry))) which p b ⌝ }
 {
-    if selected(marks, unions, t, k, which, p) {
-        return !is_settled(marks, unions, t, k, s, l, n, p as u16);
+    if is_settled(marks, unions, t, k, s, l, n, p as u16) {
+        return false;
     }
-    false
+    selected(marks, unions, t, k, which, p)
 }
 
 // Each of these parts is named.
