@@ -114,9 +114,9 @@ module _ {cs : List Condition} {c i : ℕ} where
   pub follows-given : {h j n : ℕ} → Follows cs c i h j → c < n → h < n
   follows-given f g = omega (arith, f .early)
 
-  pub follows-half : {h j : ℕ} → From cs c i (Half h j) → Follows cs c i h j
+  pub follows-half : {h j : ℕ} {s : Source} → From cs c i s → s ≡ Half h j → Follows cs c i h j
   unfolding worked
-  follows-half f = record { is = f .is; early = omega (arith, f .before .earlier); there = f .before .there }
+  follows-half g e = let f = rw e at g in record { is = f .is; early = omega (arith, f .before .earlier); there = f .before .there }
 
   pub follows-on : {h j x y : ℕ} → Follows cs c i h j → Follows cs h j x y → Follows cs c i x y
   follows-on f g = record { is = f .is ∙ g .is; early = omega (arith, f .early, g .early); there = g .there }

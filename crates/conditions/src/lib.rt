@@ -152,31 +152,21 @@ fn half(t: &[u8], k: Counts, c: usize, i: usize) -> Place
     requires { ⌜ i < length (disjuncts (tables k (now t) .conditions) c) ⌝ }
     ensures { λ r. ⌜ Follows (tables k (now (t .entry)) .conditions) c i (r .condition) (r .index) ⌝ }
 {
-    let it = tables::condition_at(t, k, c);
-    if it.operator == 2 {
-        return Place {
+    match source_of(t, k, c, i) {
+        Source::Half { condition, index } => Place { condition, index },
+        Source::Range(_) => Place {
             condition: c,
             index: i,
-        };
-    }
-    if it.operator == 0 {
-        return Place {
+        },
+        Source::Halves {
+            left: _,
+            first: _,
+            right: _,
+            second: _,
+        } => Place {
             condition: c,
             index: i,
-        };
-    }
-    let left = it.left as usize;
-    let right = it.right as usize;
-    let count = count(t, k, left);
-    if i < count {
-        return Place {
-            condition: left,
-            index: i,
-        };
-    }
-    Place {
-        condition: right,
-        index: i - count,
+        },
     }
 }
 

@@ -1,44 +1,39 @@
--- `conditions::half`: a disjunct of an `or` is one of its left half, or of its right one.
+-- `conditions::half`: a disjunct of an `or` is one of a half of it.
 use borrow.Author.Needs.{needs}
-use Rattle.conditions.proofs.Laws.{left-given, right-given, from-left, from-right, follows-same, follows-half}
+use Rattle.conditions.proofs.Laws.{follows-same, follows-half}
 use Rattle.conditions.proofs.half.Statement.{statement}
 use Rattle.conditions.proofs.half.Tie as tie
-use Rattle.conditions.proofs.count.Reads as count-reads
-use Rattle.tables.proofs.condition_at.Reads as condition-at-reads
+use Rattle.conditions.proofs.source_of.Reads as source-of-reads
 
-condition-at-requires : tie.Need-condition-at-requires
-condition-at-requires c κs = search needs
+source-of-requires : tie.Need-source-of-requires
+source-of-requires c κs = search needs
+
+enum-known-condition : tie.Need-enum-known-condition
+enum-known-condition c = search needs
+
+enum-told : tie.Need-enum-told
+enum-told c = search needs
+
+enum-told-2 : tie.Need-enum-told-2
+enum-told-2 c = search needs
 
 returns : tie.Need-returns
-returns c = search (needs, follows-same)
+returns c = search (needs, follows-half)
 
 returns-2 : tie.Need-returns-2
 returns-2 c = search (needs, follows-same)
 
-cast-left : tie.Need-cast-left
-cast-left c = search needs
-
-cast-right : tie.Need-cast-right
-cast-right c = search needs
-
-count-requires : tie.Need-count-requires
-count-requires c κs = search (needs, left-given, right-given)
-
 returns-3 : tie.Need-returns-3
-returns-3 c = search (needs, follows-half, from-left)
-
-returns-4 : tie.Need-returns-4
-returns-4 c = search (needs, follows-half, from-right)
+returns-3 c = search (needs, follows-same)
 
 pub half-spec : {M : Type 1} → statement M
 half-spec =
     tie.close
     (tie.spec
-    condition-at-requires
+    source-of-requires
+    enum-known-condition
+    enum-told
+    enum-told-2
     returns
     returns-2
-    cast-left
-    cast-right
-    count-requires
-    returns-3
-    returns-4)
+    returns-3)
