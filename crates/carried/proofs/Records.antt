@@ -22,11 +22,10 @@ use Rattle.rules.proofs.WalkLaws.{walk-record, walk-still, read-ok, read-sheet,
 use Rattle.rules.proofs.Reached.{unlessAny-ok, Given, Reached, command, no-item}
 use Rattle.refusal.specs.declared.Refusal.{Refusal}
 use Rattle.refusal.specs.Refusing.{refusalOf}
-use Rattle.reader.specs.declared.Item.{Item}
 use Rattle.reader.specs.declared.Command as code
 use Rattle.reader.specs.declared.Record.{Record}
 use Rattle.reader.specs.declared.Record.the-variants as R
-use Rattle.reader.specs.Reading.{itemOf, commandOf, resultOf, nextOf}
+use Rattle.reader.specs.Reading.{commandOf, resultOf, nextOf}
 use Rattle.reader.proofs.Laws.{body-read}
 use Rattle.state.specs.declared.Limits.{Limits}
 use Rattle.encoder.specs.declared.Counters.{Counters}
@@ -119,15 +118,15 @@ module _ {c : Catalogue} {flags : List ℕ} {l : Limits} {job : List ℕ} {at : 
       }
 
 module _ {c : Catalogue} {flags : List ℕ} {l : Limits} (job : List ℕ) (at : ℕ) {n : Counters} {st : ℕ → List ℕ} {cl wt : List ℕ} (x : Record) (h : at < length job)
-    (e : resultOf x ≡ read true (getD job at 0) (drop (at + 1) job)) where
+    (e : resultOf (getD job at 0) (drop (at + 1) job) x ≡ read true (getD job at 0) (drop (at + 1) job)) where
   pub step-unread : (f : Refusal) → x ≡ R.Refused f → StepDid c flags l job at n st cl wt (Step.Refused f) st cl wt
   unfolding resultOf
   step-unread f q = refuses f (λ s _ _ _ t p. unread l job at h c s t p (refusalOf f) (sym (rw q at e)))
 
   -- after a sheet record nothing is read as an item
-  pub step-item : (i : Item) (f : Refusal) → x ≡ R.Catalogue i → StepDid c flags l job at n st cl wt (Step.Refused f) st cl wt
+  pub step-item : (f : Refusal) → x ≡ R.Item → StepDid c flags l job at n st cl wt (Step.Refused f) st cl wt
   unfolding resultOf
-  step-item i f q = absurd (no-item (getD job at 0) (drop (at + 1) job) (itemOf i) (sym (rw q at e)))
+  step-item f q = absurd (no-item (getD job at 0) (drop (at + 1) job) _ (sym (rw q at e)))
 
   module _ (k : code.Command) (q : x ≡ R.Sheet k) {st′ : ℕ → List ℕ} {cl′ wt′ : List ℕ} {r : Outcome} (d : SettledDid c flags l (commandOf k) n st cl wt r st′ cl′ wt′) where
     is-read : read true (getD job at 0) (drop (at + 1) job) ≡ ok (sheet (commandOf k))

@@ -163,7 +163,7 @@ fn carry_record(
     let next = reader::next_at(job, at);
     match reader::record_at(job, at, true) {
         Record::Refused(refusal) => Step::Refused(refusal),
-        Record::Catalogue(_) => Step::Refused(Refusal::OutOfPlace),
+        Record::Item => Step::Refused(Refusal::OutOfPlace),
         Record::Sheet(command) => {
             match carry_command(settled, marks, unions, t, k, s, clauses, w, l, n, command) {
                 Outcome::Carried(counters) => Step::Next {

@@ -6,9 +6,10 @@ use mathlib.Core.Option.{Option, none, some}
 use Prim.Native.Nat.{ℕ, _+_, _-_, _*_, _<_, _≤_, zero-le}
 use native.Mathlib.Omega.{arith}
 use lib.Dec.{ltb, leb}
-use lib.ListN.{length, getD, drop, length-drop}
-use borrow.Author.Tests.{lt-leb, le-ltb, leb-true}
+use lib.ListN.{length, getD, take, drop, length-drop}
+use borrow.Author.Tests.{lt-leb, le-ltb, leb-true, ne-eqb}
 use Rattle.rules.specs.Compute.{computing}
+use Rattle.rules.specs.Bytes.{byteAt, wordAt}
 use Rattle.rules.specs.Lists.{filter, all, upTo}
 use Rattle.rules.proofs.KindTable.{not-one, looked-up}
 use Rattle.rules.proofs.Member.{all-out, upTo-in}
@@ -21,12 +22,10 @@ use Rattle.rules.specs.Items.{addItem}
 use Rattle.rules.specs.Job.{Progress, reading, stopped, bodyOf, walk, runStep, checkStep, startsSheet}
 use Rattle.refusal.specs.declared.Refusal.{Refusal}
 use Rattle.refusal.specs.Refusing.{refusalOf}
-use Rattle.reader.specs.declared.Item as D
-use Rattle.reader.specs.declared.Item.the-variants as I
 use Rattle.reader.specs.declared.Command.{Command}
 use Rattle.reader.specs.declared.Record.{Record}
 use Rattle.reader.specs.declared.Record.the-variants as R
-use Rattle.reader.specs.Reading.{itemOf, resultOf, commandOf, nextOf}
+use Rattle.reader.specs.Reading.{bodyLength, itemRead, resultOf, commandOf, nextOf}
 use Rattle.reader.proofs.Laws.{body-read}
 use Rattle.tables.specs.declared.Counts.{Counts}
 use Rattle.tables.specs.Tables.{listed, tables, tablesIn}
@@ -43,52 +42,52 @@ use Rattle.catalogue.specs.Walking.{Same, Ready, ItemAt, placeAfter, pro
 
 -- ---- one item of ten
 
-module _ (k : Counts) (c : Catalogue) (r : Added) (m u t : List ℕ) (i : D.Item) where
-  pub as-name : (f : ℕ) → i ≡ I.Name f → Entered k c (Item.name f) r m u t → Entered k c (itemOf i) r m u t
-  unfolding itemOf
-  as-name f e x = rw e x
+module _ (k : Counts) (c : Catalogue) (r : Added) (m u t : List ℕ) (kind : ℕ) (b : List ℕ) where
+  pub as-name : (f : ℕ) → kind ≡ 1 → f ≡ byteAt b 0 → Entered k c (Item.name f) r m u t → Entered k c (itemRead kind b) r m u t
+  unfolding itemRead
+  as-name f e h0 x = rw (e, ← h0) x
 
-  pub as-part : (n f y z : ℕ) → i ≡ I.Part n f y z → Entered k c (Item.part n f y z) r m u t → Entered k c (itemOf i) r m u t
-  unfolding itemOf
-  as-part n f y z e x = rw e x
+  pub as-part : (n f y z : ℕ) → kind ≡ 2 → n ≡ wordAt b 0 → f ≡ byteAt b 2 → y ≡ wordAt b 3 → z ≡ wordAt b 5 → Entered k c (Item.part n f y z) r m u t → Entered k c (itemRead kind b) r m u t
+  unfolding itemRead
+  as-part n f y z e h0 h1 h2 h3 x = rw (e, ← h0, ← h1, ← h2, ← h3) x
 
-  pub as-range : (n : ℕ) → i ≡ I.Range n → Entered k c (Item.range n) r m u t → Entered k c (itemOf i) r m u t
-  unfolding itemOf
-  as-range n e x = rw e x
+  pub as-range : (n : ℕ) → kind ≡ 3 → n ≡ wordAt b 0 → Entered k c (Item.range n) r m u t → Entered k c (itemRead kind b) r m u t
+  unfolding itemRead
+  as-range n e h0 x = rw (e, ← h0) x
 
-  pub as-member : (n p : ℕ) → i ≡ I.Member n p → Entered k c (Item.member n p) r m u t → Entered k c (itemOf i) r m u t
-  unfolding itemOf
-  as-member n p e x = rw e x
+  pub as-member : (n p : ℕ) → kind ≡ 4 → n ≡ wordAt b 0 → p ≡ wordAt b 2 → Entered k c (Item.member n p) r m u t → Entered k c (itemRead kind b) r m u t
+  unfolding itemRead
+  as-member n p e h0 h1 x = rw (e, ← h0, ← h1) x
 
-  pub as-union : i ≡ I.Union → Entered k c Item.union r m u t → Entered k c (itemOf i) r m u t
-  unfolding itemOf
-  as-union e x = rw e x
+  pub as-union : kind ≡ 5 → Entered k c Item.union r m u t → Entered k c (itemRead kind b) r m u t
+  unfolding itemRead
+  as-union e x = rw (e) x
 
-  pub as-union-member : (n p : ℕ) → i ≡ I.UnionMember n p → Entered k c (Item.unionMember n p) r m u t → Entered k c (itemOf i) r m u t
-  unfolding itemOf
-  as-union-member n p e x = rw e x
+  pub as-union-member : (n p : ℕ) → kind ≡ 6 → n ≡ wordAt b 0 → p ≡ wordAt b 2 → Entered k c (Item.unionMember n p) r m u t → Entered k c (itemRead kind b) r m u t
+  unfolding itemRead
+  as-union-member n p e h0 h1 x = rw (e, ← h0, ← h1) x
 
-  pub as-leaf : (n : ℕ) → i ≡ I.Leaf n → Entered k c (Item.leaf n) r m u t → Entered k c (itemOf i) r m u t
-  unfolding itemOf
-  as-leaf n e x = rw e x
+  pub as-leaf : (n : ℕ) → kind ≡ 7 → n ≡ wordAt b 0 → Entered k c (Item.leaf n) r m u t → Entered k c (itemRead kind b) r m u t
+  unfolding itemRead
+  as-leaf n e h0 x = rw (e, ← h0) x
 
-  pub as-joined : (o n p : ℕ) → i ≡ I.Joined o n p → Entered k c (Item.joined o n p) r m u t → Entered k c (itemOf i) r m u t
-  unfolding itemOf
-  as-joined o n p e x = rw e x
+  pub as-joined : (o n p : ℕ) → kind ≡ 8 → o ≡ byteAt b 0 → n ≡ wordAt b 1 → p ≡ wordAt b 3 → Entered k c (Item.joined o n p) r m u t → Entered k c (itemRead kind b) r m u t
+  unfolding itemRead
+  as-joined o n p e h0 h1 h2 x = rw (e, ← h0, ← h1, ← h2) x
 
-  pub as-requirement : (o f n q : ℕ) → i ≡ I.Requirement o f n q → Entered k c (Item.requirement o f n q) r m u t → Entered k c (itemOf i) r m u t
-  unfolding itemOf
-  as-requirement o f n q e x = rw e x
+  pub as-requirement : (o f n q : ℕ) → kind ≡ 9 → o ≡ wordAt b 0 → f ≡ byteAt b 2 → n ≡ wordAt b 3 → q ≡ wordAt b 5 → Entered k c (Item.requirement o f n q) r m u t → Entered k c (itemRead kind b) r m u t
+  unfolding itemRead
+  as-requirement o f n q e h0 h1 h2 h3 x = rw (e, ← h0, ← h1, ← h2, ← h3) x
 
-  pub as-constraint : (o n : ℕ) → i ≡ I.Constraint o n → Entered k c (Item.constraint o n) r m u t → Entered k c (itemOf i) r m u t
-  unfolding itemOf
-  as-constraint o n e x = rw e x
+  pub as-constraint : (o n : ℕ) → (kind ≡ 1 → ⊥) → (kind ≡ 2 → ⊥) → (kind ≡ 3 → ⊥) → (kind ≡ 4 → ⊥) → (kind ≡ 5 → ⊥) → (kind ≡ 6 → ⊥) → (kind ≡ 7 → ⊥) → (kind ≡ 8 → ⊥) → (kind ≡ 9 → ⊥) → o ≡ wordAt b 0 → n ≡ wordAt b 2 → Entered k c (Item.constraint o n) r m u t → Entered k c (itemRead kind b) r m u t
+  unfolding itemRead
+  as-constraint o n e1 e2 e3 e4 e5 e6 e7 e8 e9 h0 h1 x = rw (ne-eqb kind 1 e1, ne-eqb kind 2 e2, ne-eqb kind 3 e3, ne-eqb kind 4 e4, ne-eqb kind 5 e5, ne-eqb kind 6 e6, ne-eqb kind 7 e7, ne-eqb kind 8 e8, ne-eqb kind 9 e9, ← h0, ← h1) x
 
 -- a union member needs a row
-pub row-free : (k : Counts) (i : D.Item) (n p : ℕ) → k .members + rowsOf (itemOf i) ≤ 13107 → i ≡ I.UnionMember n p → k .members < 13107
-unfolding itemOf rowsOf
-row-free k i n p h e =
-    let g : k .members + rowsOf (itemOf (I.UnionMember n p)) ≤ 13107 = rw e at h in
+pub row-free : (k : Counts) (kind : ℕ) (b : List ℕ) → k .members + rowsOf (itemRead kind b) ≤ 13107 → kind ≡ 6 → k .members < 13107
+unfolding itemRead rowsOf
+row-free k kind b h e =
+    let g : k .members + rowsOf (itemRead 6 b) ≤ 13107 = rw e at h in
     omega arith
 
 -- ---- kinds that start the sheet
@@ -179,7 +178,7 @@ module _ (job : List ℕ) (at : ℕ) (k : Counts) (m u t : List ℕ) (y : Ready 
   unfolding placeAfter progressAfter
   step-sheet h = record { same = same-refl job at _; then = record { kept = y .kept; starts = sym s ∙ h } }
 
-  module _ (l : b ≡ false) (h : at < length job) (x : Record) (e : resultOf x ≡ read false (getD job at 0) (drop (at + 1) job)) where
+  module _ (l : b ≡ false) (h : at < length job) (x : Record) (e : resultOf (getD job at 0) (drop (at + 1) job) x ≡ read false (getD job at 0) (drop (at + 1) job)) where
     catalogue-kind : startsSheet (getD job at 0) (kindOf (getD job at 0)) ≡ false
     catalogue-kind = sym s ∙ l
 
@@ -203,12 +202,29 @@ module _ (job : List ℕ) (at : ℕ) (k : Counts) (m u t : List ℕ) (y : Ready 
           then = tt;
         }
 
-pub item-at : (job : List ℕ) (at next : ℕ) (b : Bool) (x : Record) (i : D.Item) → at < length job → b ≡ startsSheet (getD job at 0) (kindOf (getD job at 0)) → b ≡ false
-    → next ≡ nextOf job at → resultOf x ≡ read false (getD job at 0) (drop (at + 1) job) → x ≡ R.Catalogue i → ItemAt job at next (itemOf i)
-unfolding resultOf
-item-at job at next b x i h s l d e q =
-    let g : read false (getD job at 0) (drop (at + 1) job) ≡ rules.ok (records.catalogue (itemOf i)) = sym (rw q at e) in
-    record { there = h; kind = sym s ∙ l; is = g; behind = rw (body-read false (getD job at 0) (drop (at + 1) job) _ g) d }
+-- an item that was read, and its body
+module _ (job : List ℕ) (at next : ℕ) (x : Record) (d : next ≡ nextOf job at) (e : resultOf (getD job at 0) (drop (at + 1) job) x ≡ read false (getD job at 0) (drop (at + 1) job))
+    (q : x ≡ R.Item) where
+  item-is : read false (getD job at 0) (drop (at + 1) job) ≡ rules.ok (records.catalogue (itemRead (getD job at 0) (take (bodyLength (getD job at 0)) (drop (at + 1) job))))
+  unfolding resultOf
+  item-is = sym (rw q at e)
+
+  item-behind : next ≡ at + 1 + bodyOf (kindOf (getD job at 0))
+  item-behind = rw (body-read false (getD job at 0) (drop (at + 1) job) _ item-is) d
+
+  pub body-whole : at < length job → at + 1 + (next - at - 1) ≤ length job
+  unfolding bodyOf
+  body-whole h =
+      let r = read-ok false (getD job at 0) (drop (at + 1) job) _ item-is in
+      let w : r .body ≤ length job - (at + 1) = rw length-drop at (r .whole) in
+      let z : next ≡ at + 1 + r .body = item-behind ∙ rw (r .found) in
+      omega arith
+
+  pub item-at : (b : Bool) (l : List ℕ) → at < length job → b ≡ startsSheet (getD job at 0) (kindOf (getD job at 0)) → b ≡ false
+      → l ≡ take (next - at - 1) (drop (at + 1) job) → ItemAt job at next (itemRead (getD job at 0) l)
+  item-at b l h s n f =
+      let z : next - at - 1 ≡ bodyLength (getD job at 0) = omega arith in
+      record { there = h; kind = sym s ∙ n; is = rw (f, z) item-is; behind = item-behind }
 
 module _ (job : List ℕ) (at next : ℕ) (k : Counts) (m u t : List ℕ) (i : Item) (y : Ready at k m u t) (x : ItemAt job at next i) where
   whole : next ≤ length job

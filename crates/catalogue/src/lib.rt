@@ -9,7 +9,7 @@ ghost use Prim.Native.Nat.{_+_, _<_, _≤_};
 ghost use lib.ListN.{length};
 ghost use Rattle.rules.specs.Records.{kindOf};
 ghost use Rattle.rules.specs.Job.{startsSheet};
-ghost use Rattle.reader.specs.Reading.{itemOf};
+ghost use Rattle.reader.specs.Reading.{itemRead};
 ghost use Rattle.cache.specs.Areas.{catalogue};
 ghost use Rattle.kept.specs.Kept.{Kept};
 ghost use Rattle.kept.specs.Entered.{rowsOf, Entered};
@@ -28,63 +28,77 @@ pub enum Read {
     Refused { refusal: Refusal, at: usize },
 }
 
+// The item of a kind, read from its body.
 pub fn add_item(
     marks: &mut [u8],
     unions: &mut [u8],
     t: &mut [u8],
     k: Counts,
-    item: reader::Item,
+    kind: u8,
+    body: &[u8],
 ) -> Added
     requires { ⌜ Kept k (now marks) (now unions) (now t) ⌝ }
-    requires { ⌜ k .members + rowsOf (itemOf item) ≤ 13107 ⌝ }
-    ensures { λ r. ⌜ Entered k (catalogue k (now (marks .entry)) (now (unions .entry)) (now (t .entry))) (itemOf item)
+    requires { ⌜ k .members + rowsOf (itemRead kind (now body)) ≤ 13107 ⌝ }
+    ensures { λ r. ⌜ Entered k (catalogue k (now (marks .entry)) (now (unions .entry)) (now (t .entry))) (itemRead kind (now (body .entry)))
         r (now (marks .exit)) (now (unions .exit)) (now (t .exit)) ⌝ }
 {
-    match item {
-        reader::Item::Name(flags) => part_items::add_name(marks, unions, t, k, flags),
-        reader::Item::Part {
-            name,
-            flags,
-            unknown,
-            exclusion,
-        } => part_items::add_part(marks, unions, t, k, name, flags, unknown, exclusion),
-        reader::Item::Range(name) => part_items::add_range(marks, unions, t, k, name),
-        reader::Item::Member { range, part } => part_items::add_member(
+    match kind {
+        1 => part_items::add_name(marks, unions, t, k, reader::byte(body, 0)),
+        2 => part_items::add_part(
             marks,
             unions,
             t,
             k,
-            range,
-            part,
+            reader::word(body, 0),
+            reader::byte(body, 2),
+            reader::word(body, 3),
+            reader::word(body, 5),
         ),
-        reader::Item::Union => rule_items::add_union(marks, unions, t, k),
-        reader::Item::UnionMember { union, range } => rule_items::add_union_member(
+        3 => part_items::add_range(marks, unions, t, k, reader::word(body, 0)),
+        4 => part_items::add_member(
             marks,
             unions,
             t,
             k,
-            union,
-            range,
+            reader::word(body, 0),
+            reader::word(body, 2),
         ),
-        reader::Item::Leaf(range) => rule_items::add_leaf(marks, unions, t, k, range),
-        reader::Item::Joined {
-            operator,
-            left,
-            right,
-        } => rule_items::add_joined(marks, unions, t, k, operator, left, right),
-        reader::Item::Requirement {
-            owner,
-            form,
-            number,
-            condition,
-        } => rule_items::add_requirement(marks, unions, t, k, owner, form, number, condition),
-        reader::Item::Constraint { owner, range } => rule_items::add_constraint(
+        5 => rule_items::add_union(marks, unions, t, k),
+        6 => rule_items::add_union_member(
             marks,
             unions,
             t,
             k,
-            owner,
-            range,
+            reader::word(body, 0),
+            reader::word(body, 2),
+        ),
+        7 => rule_items::add_leaf(marks, unions, t, k, reader::word(body, 0)),
+        8 => rule_items::add_joined(
+            marks,
+            unions,
+            t,
+            k,
+            reader::byte(body, 0),
+            reader::word(body, 1),
+            reader::word(body, 3),
+        ),
+        9 => rule_items::add_requirement(
+            marks,
+            unions,
+            t,
+            k,
+            reader::word(body, 0),
+            reader::byte(body, 2),
+            reader::word(body, 3),
+            reader::word(body, 5),
+        ),
+        _ => rule_items::add_constraint(
+            marks,
+            unions,
+            t,
+            k,
+            reader::word(body, 0),
+            reader::word(body, 2),
         ),
     }
 }
@@ -102,7 +116,7 @@ pub fn starts_sheet(kind: u8) -> bool
     true
 }
 
-// The item of the record at `at`, the next record being at `next`.
+// The item of the record at `at`, of this kind and body, the next record being at `next`.
 fn enter(
     job: &[u8],
     at: usize,
@@ -111,15 +125,16 @@ fn enter(
     unions: &mut [u8],
     t: &mut [u8],
     k: Counts,
-    item: reader::Item,
+    kind: u8,
+    body: &[u8],
 ) -> Step
     requires { ⌜ length (now job) ≤ 65536 ⌝ }
     requires { ⌜ Ready at k (now marks) (now unions) (now t) ⌝ }
-    requires { ⌜ ItemAt (now job) at next (itemOf item) ⌝ }
+    requires { ⌜ ItemAt (now job) at next (itemRead kind (now body)) ⌝ }
     ensures { λ r. ⌜ Stepped (now (job .entry)) at k (now (marks .entry)) (now (unions .entry)) (now (t .entry))
         r (now (marks .exit)) (now (unions .exit)) (now (t .exit)) ⌝ }
 {
-    let added = add_item(marks, unions, t, k, item);
+    let added = add_item(marks, unions, t, k, kind, body);
     match added {
         Added::Counted(counts) => Step::Next { at: next, counts },
         Added::Refused(refusal) => Step::Refused(refusal),
@@ -149,7 +164,10 @@ pub fn read_record(
     match record {
         Record::Refused(refusal) => Step::Refused(refusal),
         Record::Sheet(_) => Step::Sheet,
-        Record::Catalogue(item) => enter(job, at, next, marks, unions, t, k, item),
+        Record::Item => {
+            let body = reader::body(job, at, next - at - 1);
+            enter(job, at, next, marks, unions, t, k, kind, body)
+        }
     }
 }
 

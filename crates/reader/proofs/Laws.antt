@@ -21,15 +21,12 @@ use Rattle.rules.specs.Bytes.{byteAt, wordAt}
 use Rattle.rules.specs.Refusals.{unknownKind, outOfPlace, cutShort, Result, ok, refuse}
 use Rattle.rules.specs.Records.{Kind, kinds, lookUp, kindOf, ofSheet, recordOf, readBody, readKind, read}
 use Rattle.rules.specs.Records as rules
-use Rattle.reader.specs.declared.Item.{Item}
-use Rattle.reader.specs.declared.Item.the-variants.{Name, Part, Range, Member, Union, UnionMember, Leaf, Joined, Requirement, Constraint}
 use Rattle.reader.specs.declared.Command.{Command}
 use Rattle.reader.specs.declared.Command.the-variants.{Add, Draw, Run, Decide, Undo}
-use Rattle.reader.specs.declared.Record.{Record}
-use Rattle.reader.specs.declared.Record.the-variants.{Catalogue, Sheet, Refused}
+use Rattle.reader.specs.declared.Record.the-variants.{Item, Sheet, Refused}
 use Rattle.refusal.specs.declared.Refusal.the-variants.{UnknownKind, OutOfPlace, CutShort}
 use Rattle.refusal.specs.Refusing.{refusalOf}
-use Rattle.reader.specs.Reading.{itemOf, commandOf, resultOf, lengths, lengthAt, bodyLength, itemRead, commandRead}
+use Rattle.reader.specs.Reading.{commandOf, resultOf, lengths, lengthAt, bodyLength, itemRead, commandRead}
 
 -- ---- lengths, bytes and parts
 
@@ -91,46 +88,6 @@ word-past l i x u h e d =
     rw (d, e) (omega (arith, z))
 
 -- ---- bodies
-
-pub item-name : (kind f : ℕ) (b : List ℕ) → kind ≡ 1 → f ≡ byteAt b 0 → itemOf (Name f) ≡ itemRead kind b
-unfolding itemOf itemRead
-item-name kind f b t h0 = rw (t, h0)
-
-pub item-part : (kind n f u e : ℕ) (b : List ℕ) → kind ≡ 2 → n ≡ wordAt b 0 → f ≡ byteAt b 2 → u ≡ wordAt b 3 → e ≡ wordAt b 5 → itemOf (Part n f u e) ≡ itemRead kind b
-unfolding itemOf itemRead
-item-part kind n f u e b t h0 h1 h2 h3 = rw (t, h0, h1, h2, h3)
-
-pub item-range : (kind n : ℕ) (b : List ℕ) → kind ≡ 3 → n ≡ wordAt b 0 → itemOf (Range n) ≡ itemRead kind b
-unfolding itemOf itemRead
-item-range kind n b t h0 = rw (t, h0)
-
-pub item-member : (kind r p : ℕ) (b : List ℕ) → kind ≡ 4 → r ≡ wordAt b 0 → p ≡ wordAt b 2 → itemOf (Member r p) ≡ itemRead kind b
-unfolding itemOf itemRead
-item-member kind r p b t h0 h1 = rw (t, h0, h1)
-
-pub item-union : (kind : ℕ) (b : List ℕ) → kind ≡ 5 → itemOf Union ≡ itemRead kind b
-unfolding itemOf itemRead
-item-union kind b t = rw t
-
-pub item-unionmember : (kind u r : ℕ) (b : List ℕ) → kind ≡ 6 → u ≡ wordAt b 0 → r ≡ wordAt b 2 → itemOf (UnionMember u r) ≡ itemRead kind b
-unfolding itemOf itemRead
-item-unionmember kind u r b t h0 h1 = rw (t, h0, h1)
-
-pub item-leaf : (kind r : ℕ) (b : List ℕ) → kind ≡ 7 → r ≡ wordAt b 0 → itemOf (Leaf r) ≡ itemRead kind b
-unfolding itemOf itemRead
-item-leaf kind r b t h0 = rw (t, h0)
-
-pub item-joined : (kind o l r : ℕ) (b : List ℕ) → kind ≡ 8 → o ≡ byteAt b 0 → l ≡ wordAt b 1 → r ≡ wordAt b 3 → itemOf (Joined o l r) ≡ itemRead kind b
-unfolding itemOf itemRead
-item-joined kind o l r b t h0 h1 h2 = rw (t, h0, h1, h2)
-
-pub item-requirement : (kind o f n k : ℕ) (b : List ℕ) → kind ≡ 9 → o ≡ wordAt b 0 → f ≡ byteAt b 2 → n ≡ wordAt b 3 → k ≡ wordAt b 5 → itemOf (Requirement o f n k) ≡ itemRead kind b
-unfolding itemOf itemRead
-item-requirement kind o f n k b t h0 h1 h2 h3 = rw (t, h0, h1, h2, h3)
-
-pub item-constraint : (kind o r : ℕ) (b : List ℕ) → (kind ≡ 1 → ⊥) → (kind ≡ 2 → ⊥) → (kind ≡ 3 → ⊥) → (kind ≡ 4 → ⊥) → (kind ≡ 5 → ⊥) → (kind ≡ 6 → ⊥) → (kind ≡ 7 → ⊥) → (kind ≡ 8 → ⊥) → (kind ≡ 9 → ⊥) → o ≡ wordAt b 0 → r ≡ wordAt b 2 → itemOf (Constraint o r) ≡ itemRead kind b
-unfolding itemOf itemRead
-item-constraint kind o r b t0 t1 t2 t3 t4 t5 t6 t7 t8 h0 h1 = rw (ne-eqb kind 1 t0, ne-eqb kind 2 t1, ne-eqb kind 3 t2, ne-eqb kind 4 t3, ne-eqb kind 5 t4, ne-eqb kind 6 t5, ne-eqb kind 7 t6, ne-eqb kind 8 t7, ne-eqb kind 9 t8, h0, h1)
 
 pub command-add : (kind o : ℕ) (b : List ℕ) → kind ≡ 32 → o ≡ wordAt b 0 → commandOf (Add o) ≡ commandRead kind b
 unfolding commandOf commandRead
@@ -251,7 +208,7 @@ by-number Kind.undo b = refl
 -- ---- the record at a place
 
 module _ (begun : Bool) (job : List ℕ) (at n : ℕ) (e : n ≡ bodyLength (getD job at 0)) where
-  pub at-unknown : n ≡ 99 → resultOf (Refused UnknownKind) ≡ read begun (getD job at 0) (drop (at + 1) job)
+  pub at-unknown : n ≡ 99 → resultOf (getD job at 0) (drop (at + 1) job) (Refused UnknownKind) ≡ read begun (getD job at 0) (drop (at + 1) job)
   unfolding resultOf refusalOf read readKind
   at-unknown h = rw (kind-none (getD job at 0) (sym e ∙ h))
 
@@ -259,33 +216,33 @@ module _ (begun : Bool) (job : List ℕ) (at n : ℕ) (e : n ≡ bodyLength (get
     found : KindOf (getD job at 0)
     found = kind-some (getD job at 0) (λ h. u (e ∙ h))
 
-    pub at-misplaced : m ≡ true → resultOf (Refused OutOfPlace) ≡ read begun (getD job at 0) (drop (at + 1) job)
+    pub at-misplaced : m ≡ true → resultOf (getD job at 0) (drop (at + 1) job) (Refused OutOfPlace) ≡ read begun (getD job at 0) (drop (at + 1) job)
     unfolding resultOf refusalOf read readKind
     at-misplaced h = rw (← d, h, found .found)
 
     module _ (p : m ≡ false) where
-      pub at-short : length job - at - 1 < n → resultOf (Refused CutShort) ≡ read begun (getD job at 0) (drop (at + 1) job)
+      pub at-short : length job - at - 1 < n → resultOf (getD job at 0) (drop (at + 1) job) (Refused CutShort) ≡ read begun (getD job at 0) (drop (at + 1) job)
       unfolding resultOf refusalOf read readKind readBody
       at-short h =
           let l : length (drop (at + 1) job) < bodyLength (getD job at 0) = rw length-drop (omega arith) in
           rw (← d, p, found .found, lt-ltb _ _ l)
 
-      module _ (h : n ≤ length job - at - 1) (b : List ℕ) (f : b ≡ take n (drop (at + 1) job)) where
-        whole : read begun (getD job at 0) (drop (at + 1) job) ≡ ok (readBy (ltb (getD job at 0) 32) (getD job at 0) b)
+      module _ (h : n ≤ length job - at - 1) where
+        whole : (b : List ℕ) → b ≡ take n (drop (at + 1) job) → read begun (getD job at 0) (drop (at + 1) job) ≡ ok (readBy (ltb (getD job at 0) 32) (getD job at 0) b)
         unfolding read readKind readBody
-        whole =
+        whole b f =
             let l : bodyLength (getD job at 0) ≤ length (drop (at + 1) job) = rw length-drop (omega arith) in
             let q : getD job at 0 ≡ numberOf (found .kind) = number-is (getD job at 0) (found .kind, bodyLength (getD job at 0)) (found .found) in
             let g : b ≡ take (bodyLength (getD job at 0)) (drop (at + 1) job) = f ∙ ap (λ (x : ℕ). take x (drop (at + 1) job)) e in
             rw (← d, p, found .found, le-ltb _ _ l, g) (ap ok (by-number (found .kind) (take (bodyLength (getD job at 0)) (drop (at + 1) job)) ∙ rw (← q)))
 
-        pub at-item : (i : Item) → getD job at 0 < 32 → itemOf i ≡ itemRead (getD job at 0) b → resultOf (Catalogue i) ≡ read begun (getD job at 0) (drop (at + 1) job)
+        pub at-item : getD job at 0 < 32 → resultOf (getD job at 0) (drop (at + 1) job) Item ≡ read begun (getD job at 0) (drop (at + 1) job)
         unfolding resultOf
-        at-item i k g = rw (whole, lt-ltb _ _ k, g)
+        at-item k = rw (whole (take (bodyLength (getD job at 0)) (drop (at + 1) job)) (rw e), lt-ltb _ _ k)
 
-        pub at-command : (o : Command) → 32 ≤ getD job at 0 → commandOf o ≡ commandRead (getD job at 0) b → resultOf (Sheet o) ≡ read begun (getD job at 0) (drop (at + 1) job)
+        pub at-command : (o : Command) (b : List ℕ) → b ≡ take n (drop (at + 1) job) → 32 ≤ getD job at 0 → commandOf o ≡ commandRead (getD job at 0) b → resultOf (getD job at 0) (drop (at + 1) job) (Sheet o) ≡ read begun (getD job at 0) (drop (at + 1) job)
         unfolding resultOf
-        at-command o k g = rw (whole, le-ltb _ _ k, g)
+        at-command o b f k g = rw (whole b f, le-ltb _ _ k, g)
 
 -- ---- for callers: the length of the body of a record that was read
 

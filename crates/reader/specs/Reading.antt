@@ -1,31 +1,17 @@
--- What the reader's enums stand for in the definitions, and what it reads by a kind's number.
+-- What the reader's enums stand for in the definitions, and what is read by a kind's number.
 use mathlib.Core.Bool.{Bool, true, false, cond}
 use mathlib.Core.List.{List, [], _∷_, _++_}
 use Prim.Native.Nat.{ℕ, _+_, _*_, _/_, _%_, _^_}
 use lib.Dec.{eqb}
-use lib.ListN.{getD, replicate}
+use lib.ListN.{getD, take, replicate}
 use Rattle.rules.specs.Bytes.{byteAt, wordAt}
 use Rattle.rules.specs.Refusals.{Result, ok, refuse}
 use Rattle.refusal.specs.Refusing.{refusalOf}
 use Rattle.rules.specs.Records as rules
-use Rattle.reader.specs.declared.Item.{Item}
-use Rattle.reader.specs.declared.Item.the-variants.{Name, Part, Range, Member, Union, UnionMember, Leaf, Joined, Requirement, Constraint}
 use Rattle.reader.specs.declared.Command.{Command}
 use Rattle.reader.specs.declared.Command.the-variants.{Add, Draw, Run, Decide, Undo}
 use Rattle.reader.specs.declared.Record.{Record}
-use Rattle.reader.specs.declared.Record.the-variants.{Catalogue, Sheet, Refused}
-
-unfoldable pub itemOf : Item → rules.Item
-itemOf (Name f) = rules.Item.name f
-itemOf (Part n f u e) = rules.Item.part n f u e
-itemOf (Range n) = rules.Item.range n
-itemOf (Member r p) = rules.Item.member r p
-itemOf Union = rules.Item.union
-itemOf (UnionMember u r) = rules.Item.unionMember u r
-itemOf (Leaf r) = rules.Item.leaf r
-itemOf (Joined o l r) = rules.Item.joined o l r
-itemOf (Requirement o f n k) = rules.Item.requirement o f n k
-itemOf (Constraint o r) = rules.Item.constraint o r
+use Rattle.reader.specs.declared.Record.the-variants.{Item, Sheet, Refused}
 
 unfoldable pub commandOf : Command → rules.Command
 commandOf (Add o) = rules.Command.add o
@@ -33,11 +19,6 @@ commandOf (Draw k) = rules.Command.draw k
 commandOf (Run l) = rules.Command.run l
 commandOf (Decide x v l) = rules.Command.decide x v l
 commandOf (Undo l) = rules.Command.undo l
-
-unfoldable pub resultOf : Record → Result rules.Record
-resultOf (Catalogue i) = ok (rules.catalogue (itemOf i))
-resultOf (Sheet o) = ok (rules.sheet (commandOf o))
-resultOf (Refused f) = refuse (refusalOf f)
 
 -- ---- by number of the kind
 
@@ -81,3 +62,9 @@ commandRead k b =
     (pick (eqb k 34) (rules.Command.run (wordAt b 0))
     (pick (eqb k 35) (rules.Command.decide (wordAt b 0) (byteAt b 2) (wordAt b 3))
     (rules.Command.undo (wordAt b 0)))))
+
+-- a record of kind k, in front of `rest`
+unfoldable pub resultOf : (k : ℕ) (rest : List ℕ) → Record → Result rules.Record
+resultOf k rest Item = ok (rules.catalogue (itemRead k (take (bodyLength k) rest)))
+resultOf k rest (Sheet o) = ok (rules.sheet (commandOf o))
+resultOf k rest (Refused f) = refuse (refusalOf f)

@@ -7,44 +7,7 @@ ghost use lib.ListN.{length, take, drop, getD};
 ghost use Rattle.rules.specs.Bytes.{byteAt, wordAt};
 ghost use mathlib.Core.Bool.{not, _&&_};
 ghost use Rattle.rules.specs.Records.{ofSheet, read};
-ghost use Rattle.reader.specs.Reading.{lengthAt, bodyLength, nextOf, itemOf, itemRead, commandOf, commandRead, resultOf};
-
-// A catalogue record with the numbers of its body, in their order.
-pub enum Item {
-    Name(u8),
-    Part {
-        name: u16,
-        flags: u8,
-        unknown: u16,
-        exclusion: u16,
-    },
-    Range(u16),
-    Member {
-        range: u16,
-        part: u16,
-    },
-    Union,
-    UnionMember {
-        union: u16,
-        range: u16,
-    },
-    Leaf(u16),
-    Joined {
-        operator: u8,
-        left: u16,
-        right: u16,
-    },
-    Requirement {
-        owner: u16,
-        form: u8,
-        number: u16,
-        condition: u16,
-    },
-    Constraint {
-        owner: u16,
-        range: u16,
-    },
-}
+ghost use Rattle.reader.specs.Reading.{lengthAt, bodyLength, nextOf, commandOf, commandRead, resultOf};
 
 // A sheet record.
 pub enum Command {
@@ -59,9 +22,9 @@ pub enum Command {
     Undo(u16),
 }
 
-// What stands at a position of a job.
+// What stands at a position of a job. A catalogue record's item stays in its body, to be read there.
 pub enum Record {
-    Catalogue(Item),
+    Item,
     Sheet(Command),
     Refused(Refusal),
 }
@@ -130,46 +93,6 @@ pub fn word(body: &[u8], i: usize) -> u16
     words::wide(byte(body, i))
 }
 
-pub fn read_item(kind: u8, body: &[u8]) -> Item
-    ensures { λ r. ⌜ itemOf r ≡ itemRead kind (now (body .entry)) ⌝ }
-{
-    match kind {
-        1 => Item::Name(byte(body, 0)),
-        2 => Item::Part {
-            name: word(body, 0),
-            flags: byte(body, 2),
-            unknown: word(body, 3),
-            exclusion: word(body, 5),
-        },
-        3 => Item::Range(word(body, 0)),
-        4 => Item::Member {
-            range: word(body, 0),
-            part: word(body, 2),
-        },
-        5 => Item::Union,
-        6 => Item::UnionMember {
-            union: word(body, 0),
-            range: word(body, 2),
-        },
-        7 => Item::Leaf(word(body, 0)),
-        8 => Item::Joined {
-            operator: byte(body, 0),
-            left: word(body, 1),
-            right: word(body, 3),
-        },
-        9 => Item::Requirement {
-            owner: word(body, 0),
-            form: byte(body, 2),
-            number: word(body, 3),
-            condition: word(body, 5),
-        },
-        _ => Item::Constraint {
-            owner: word(body, 0),
-            range: word(body, 2),
-        },
-    }
-}
-
 pub fn read_command(kind: u8, body: &[u8]) -> Command
     ensures { λ r. ⌜ commandOf r ≡ commandRead kind (now (body .entry)) ⌝ }
 {
@@ -196,7 +119,8 @@ pub fn out_of_place(begun: bool, kind: u8) -> bool
 // The record at `at`, decoded on the slice and the number.
 pub fn decode(job: &[u8], at: usize, begun: bool) -> Record
     requires { ⌜ at < length (now job) ⌝ }
-    ensures { λ r. ⌜ resultOf r ≡ read begun (getD (now (job .entry)) at 0) (drop (at + 1) (now (job .entry))) ⌝ }
+    ensures { λ r. ⌜ resultOf (getD (now (job .entry)) at 0) (drop (at + 1) (now (job .entry))) r
+        ≡ read begun (getD (now (job .entry)) at 0) (drop (at + 1) (now (job .entry))) ⌝ }
 {
     let kind = job[at];
     let n = body_length(kind);
@@ -209,12 +133,10 @@ pub fn decode(job: &[u8], at: usize, begun: bool) -> Record
     if job.len() - at - 1 < n as usize {
         return Record::Refused(Refusal::CutShort);
     }
-    let b = body(job, at, n as usize);
     if kind < 32 {
-        Record::Catalogue(read_item(kind, b))
-    } else {
-        Record::Sheet(read_command(kind, b))
+        return Record::Item;
     }
+    Record::Sheet(read_command(kind, body(job, at, n as usize)))
 }
 
 // The position behind the record at `at`.
@@ -229,7 +151,8 @@ impl<'a> Reader<'a> {
     // The record at the reader's position.
     pub fn read(self, begun: bool) -> Record
         requires { ⌜ self .at < length (now (self .job)) ⌝ }
-        ensures { λ r. ⌜ resultOf r ≡ read begun (getD (now (self .entry .job)) (self .entry .at) 0) (drop (self .entry .at + 1) (now (self .entry .job))) ⌝ }
+        ensures { λ r. ⌜ resultOf (getD (now (self .entry .job)) (self .entry .at) 0) (drop (self .entry .at + 1) (now (self .entry .job))) r
+            ≡ read begun (getD (now (self .entry .job)) (self .entry .at) 0) (drop (self .entry .at + 1) (now (self .entry .job))) ⌝ }
     {
         decode(self.job, self.at, begun)
     }
@@ -248,7 +171,8 @@ impl<'a> Reader<'a> {
 // The record at `at`; `begun`: a sheet record has stood before.
 pub fn record_at(job: &[u8], at: usize, begun: bool) -> Record
     requires { ⌜ at < length (now job) ⌝ }
-    ensures { λ r. ⌜ resultOf r ≡ read begun (getD (now (job .entry)) at 0) (drop (at + 1) (now (job .entry))) ⌝ }
+    ensures { λ r. ⌜ resultOf (getD (now (job .entry)) at 0) (drop (at + 1) (now (job .entry))) r
+        ≡ read begun (getD (now (job .entry)) at 0) (drop (at + 1) (now (job .entry))) ⌝ }
 {
     Reader { job, at }.read(begun)
 }

@@ -1,65 +1,94 @@
--- `catalogue::add_item` is the function of its kind, one of ten.
 use borrow.Author.Needs.{needs}
 use Rattle.catalogue.proofs.Steps.{row-free, as-name, as-part, as-range, as-member, as-union, as-union-member, as-leaf, as-joined, as-requirement, as-constraint}
 use Rattle.catalogue.proofs.add_item.Statement.{statement}
 use Rattle.catalogue.proofs.add_item.Tie as tie
 
-enum-known-item : tie.Need-enum-known-item
-enum-known-item c = search needs
+byte-requires : tie.Need-byte-requires
+byte-requires c κs = search needs
 
 add-name-requires : tie.Need-add-name-requires
 add-name-requires c κs = search needs
 
-enum-known-item-2 : tie.Need-enum-known-item-2
-enum-known-item-2 c = search needs
+word-requires : tie.Need-word-requires
+word-requires c κs = search needs
+
+byte-requires-2 : tie.Need-byte-requires-2
+byte-requires-2 c κs = search needs
+
+word-requires-2 : tie.Need-word-requires-2
+word-requires-2 c κs = search needs
+
+word-requires-3 : tie.Need-word-requires-3
+word-requires-3 c κs = search needs
 
 add-part-requires : tie.Need-add-part-requires
 add-part-requires c κs = search needs
 
-enum-known-item-3 : tie.Need-enum-known-item-3
-enum-known-item-3 c = search needs
+word-requires-4 : tie.Need-word-requires-4
+word-requires-4 c κs = search needs
 
 add-range-requires : tie.Need-add-range-requires
 add-range-requires c κs = search needs
 
-enum-known-item-4 : tie.Need-enum-known-item-4
-enum-known-item-4 c = search needs
+word-requires-5 : tie.Need-word-requires-5
+word-requires-5 c κs = search needs
+
+word-requires-6 : tie.Need-word-requires-6
+word-requires-6 c κs = search needs
 
 add-member-requires : tie.Need-add-member-requires
 add-member-requires c κs = search needs
 
-enum-told : tie.Need-enum-told
-enum-told c = search needs
-
 add-union-requires : tie.Need-add-union-requires
 add-union-requires c κs = search needs
 
-enum-known-item-5 : tie.Need-enum-known-item-5
-enum-known-item-5 c = search needs
+word-requires-7 : tie.Need-word-requires-7
+word-requires-7 c κs = search needs
+
+word-requires-8 : tie.Need-word-requires-8
+word-requires-8 c κs = search needs
 
 add-union-member-requires : tie.Need-add-union-member-requires
 add-union-member-requires c κs = search (needs, row-free)
 
-enum-known-item-6 : tie.Need-enum-known-item-6
-enum-known-item-6 c = search needs
+word-requires-9 : tie.Need-word-requires-9
+word-requires-9 c κs = search needs
 
 add-leaf-requires : tie.Need-add-leaf-requires
 add-leaf-requires c κs = search needs
 
-enum-known-item-7 : tie.Need-enum-known-item-7
-enum-known-item-7 c = search needs
+byte-requires-3 : tie.Need-byte-requires-3
+byte-requires-3 c κs = search needs
+
+word-requires-10 : tie.Need-word-requires-10
+word-requires-10 c κs = search needs
+
+word-requires-11 : tie.Need-word-requires-11
+word-requires-11 c κs = search needs
 
 add-joined-requires : tie.Need-add-joined-requires
 add-joined-requires c κs = search needs
 
-enum-known-item-8 : tie.Need-enum-known-item-8
-enum-known-item-8 c = search needs
+word-requires-12 : tie.Need-word-requires-12
+word-requires-12 c κs = search needs
+
+byte-requires-4 : tie.Need-byte-requires-4
+byte-requires-4 c κs = search needs
+
+word-requires-13 : tie.Need-word-requires-13
+word-requires-13 c κs = search needs
+
+word-requires-14 : tie.Need-word-requires-14
+word-requires-14 c κs = search needs
 
 add-requirement-requires : tie.Need-add-requirement-requires
 add-requirement-requires c κs = search needs
 
-enum-known-item-9 : tie.Need-enum-known-item-9
-enum-known-item-9 c = search needs
+word-requires-15 : tie.Need-word-requires-15
+word-requires-15 c κs = search needs
+
+word-requires-16 : tie.Need-word-requires-16
+word-requires-16 c κs = search needs
 
 add-constraint-requires : tie.Need-add-constraint-requires
 add-constraint-requires c κs = search needs
@@ -188,25 +217,35 @@ pub add-item-spec : {M : Type 1} → statement M
 add-item-spec =
     tie.close
     (tie.spec
-    enum-known-item
+    byte-requires
     add-name-requires
-    enum-known-item-2
+    word-requires
+    byte-requires-2
+    word-requires-2
+    word-requires-3
     add-part-requires
-    enum-known-item-3
+    word-requires-4
     add-range-requires
-    enum-known-item-4
+    word-requires-5
+    word-requires-6
     add-member-requires
-    enum-told
     add-union-requires
-    enum-known-item-5
+    word-requires-7
+    word-requires-8
     add-union-member-requires
-    enum-known-item-6
+    word-requires-9
     add-leaf-requires
-    enum-known-item-7
+    byte-requires-3
+    word-requires-10
+    word-requires-11
     add-joined-requires
-    enum-known-item-8
+    word-requires-12
+    byte-requires-4
+    word-requires-13
+    word-requires-14
     add-requirement-requires
-    enum-known-item-9
+    word-requires-15
+    word-requires-16
     add-constraint-requires
     same-length
     same-length-2

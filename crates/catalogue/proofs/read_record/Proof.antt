@@ -1,6 +1,5 @@
--- `catalogue::read_record` takes one step of the walks, or stops before the first sheet record.
 use borrow.Author.Needs.{needs}
-use Rattle.catalogue.proofs.Steps.{step-sheet, item-at, step-unread, step-command}
+use Rattle.catalogue.proofs.Steps.{step-sheet, body-whole, item-at, step-unread, step-command}
 use Rattle.catalogue.proofs.read_record.Statement.{statement}
 use Rattle.catalogue.proofs.read_record.Tie as tie
 
@@ -25,11 +24,27 @@ enum-known-record c = search needs
 enum-told : tie.Need-enum-told
 enum-told c = search needs
 
-enum-known-record-2 : tie.Need-enum-known-record-2
-enum-known-record-2 c = search needs
+enum-told-2 : tie.Need-enum-told-2
+enum-told-2 c = search needs
+
+sub-body : tie.Need-sub-body
+sub-body c = search needs
+
+sub-body-2 : tie.Need-sub-body-2
+sub-body-2 c = search needs
+
+body-requires : tie.Need-body-requires
+body-requires c κs = search (needs, body-whole)
 
 enter-requires : tie.Need-enter-requires
-enter-requires c κs = (search needs, (search needs, search (needs, item-at)))
+enter-requires c κs = (
+  search needs,
+  (
+    search needs,
+    item-at _ _ _ _ (c .before .before .before .before .before .before .before .next-at .ensures) (c .before .before .before .before .before .before .record-at .ensures) (search needs) _ _ (search needs)
+        (c .before .before .before .before .before .before .before .before .before .starts-sheet .ensures) (search needs) (c .before .before .before .body .ensures),
+  ),
+)
 
 returns-2 : tie.Need-returns-2
 returns-2 c = search (needs, step-unread)
@@ -60,7 +75,10 @@ read-record-spec =
     record-at-requires
     enum-known-record
     enum-told
-    enum-known-record-2
+    enum-told-2
+    sub-body
+    sub-body-2
+    body-requires
     enter-requires
     returns-2
     returns-3

@@ -31,20 +31,17 @@ cast-if3 c = search needs
 returns-3 : tie.Need-returns-3
 returns-3 c = search (needs, at-short)
 
+returns-4 : tie.Need-returns-4
+returns-4 c = search (needs, at-item)
+
 cast-body : tie.Need-cast-body
 cast-body c = search needs
 
 body-requires : tie.Need-body-requires
 body-requires c κs = search needs
 
-read-item-requires : tie.Need-read-item-requires
-read-item-requires c κs = search needs
-
 read-command-requires : tie.Need-read-command-requires
 read-command-requires c κs = search needs
-
-returns-4 : tie.Need-returns-4
-returns-4 c = search (needs, at-item)
 
 returns-5 : tie.Need-returns-5
 returns-5 c = search (needs, at-command)
@@ -62,9 +59,8 @@ decode-spec =
     sub-if3-2
     cast-if3
     returns-3
+    returns-4
     cast-body
     body-requires
-    read-item-requires
     read-command-requires
-    returns-4
     returns-5)

@@ -71,6 +71,10 @@ module _ {M : Type 1} (𝓤 : URA M) (H : Heap 𝓤) (A : Atoms 𝓤) (W : Given
   abbrev made : Reader
   made = record { job = s; at = n }
 
+  -- what a result stands for here, and what it has to be
+  abbrev seen : Record → Result rules.Record
+  seen = resultOf (getD (now s) n 0) (dropped (n + 1) (now s))
+
   abbrev found : Result rules.Record
   found = rules.read begun (getD (now s) n 0) (dropped (n + 1) (now s))
 
@@ -99,10 +103,10 @@ module _ {M : Type 1} (𝓤 : URA M) (H : Heap 𝓤) (A : Atoms 𝓤) (W : Given
       nothing ! $ owned ! bool (Is bool) (bool-makes 𝓤 H A W) begun _ refl $ fjoin ! $ move ! (1 ∷ 0 ∷ []) $ fjoin ! $
       move ! (2 ∷ 0 ∷ []) $ use2 W (raw (Read 𝓤 H A mem run .pre to)) asked $ frame ! $ done !
 
-  said : (r : Record) → ent 𝓤 (ensured 𝓤 H A read.ended (read.clauses 𝓤 H A mem run) (κ, tt) (made, (begun, tt)) tt r) (fact 𝓤 (resultOf r ≡ found))
-  said r = exE 𝓤 _ (λ ws. snd∗ 𝓤 (sem 𝓤 H A (lasts read.ended (κ, tt) (made, (begun, tt)) ws)) (fact 𝓤 (resultOf r ≡ found)))
+  said : (r : Record) → ent 𝓤 (ensured 𝓤 H A read.ended (read.clauses 𝓤 H A mem run) (κ, tt) (made, (begun, tt)) tt r) (fact 𝓤 (seen r ≡ found))
+  said r = exE 𝓤 _ (λ ws. snd∗ 𝓤 (sem 𝓤 H A (lasts read.ended (κ, tt) (made, (begun, tt)) ws)) (fact 𝓤 (seen r ≡ found)))
 
-  exits : (r : Record) (u : Val) → resultOf r ≡ found → ent 𝓤 (⋆ 𝓤 H A (‵ (S.the-row .own r (u ∷ [])) ∷ (‵ (flft κ q) ⊛ ‵ ftrue) ∷ ‵ (OfJob κ s) ∷ [])) (Post u)
+  exits : (r : Record) (u : Val) → seen r ≡ found → ent 𝓤 (⋆ 𝓤 H A (‵ (S.the-row .own r (u ∷ [])) ∷ (‵ (flft κ q) ⊛ ‵ ftrue) ∷ ‵ (OfJob κ s) ∷ [])) (Post u)
   exits r u e =
       qed W (‵ (S.the-row .own r (u ∷ [])) ∷ (‵ (flft κ q) ⊛ ‵ ftrue) ∷ ‵ (OfJob κ s) ∷ []) ∵
       suffices ! _ (ends-at 𝓤 H A record-at.ended stayed (record-at.clauses 𝓤 H A mem run) W (((κ, tt), (q, tt), tt, (s, (n, (begun, tt))), at), tt) u r (tt, (tt, (tt, tt))) (tt, (tt, (tt, tt)))) $ says ! e $
@@ -118,7 +122,7 @@ module _ {M : Type 1} (𝓤 : URA M) (H : Heap 𝓤) (A : Atoms 𝓤) (W : Given
         move ! (10 ∷ []) $ use1 W (raw (Read 𝓤 H A mem run .pre to) ⊛ ‵ (OfJob κ s)) goes $ split ! $
         calls-at ! fm (Read 𝓤 H A mem run) known to (and-then ! (load ! (from ! (stop !)) (look ! 2 refl)) (and-then ! (load ! (from ! (stop !)) (look ! 4 refl)) (no-more !))) (λ u.
         use1 W (later (some (λ (r : Record). ((‵ (flft κ q) ⊛ ‵ ftrue) ⊛ ‵ (S.the-row .own r (u ∷ []))) ⊛ raw (ensured 𝓤 H A read.ended (read.clauses 𝓤 H A mem run) (κ, tt) (made, (begun, tt)) tt r)))) (id⊢ 𝓤 _) $ await ! tt $ pick ! (λ r.
-        split ! $ move ! (1 ∷ []) $ use1 W (raw (fact 𝓤 (resultOf r ≡ found))) (said r) $ heard ! (resultOf r ≡ found) (λ e. split ! $ move ! (1 ∷ []) $
+        split ! $ move ! (1 ∷ []) $ use1 W (raw (fact 𝓤 (seen r ≡ found))) (said r) $ heard ! (seen r ≡ found) (λ e. split ! $ move ! (1 ∷ []) $
         -- [the result; the token; what job owns; _4; …; _3; …; _2; …; _1; …; room for _0; …]
         peeks ! S.the-row (Is S.the-row) (shows 𝓤 H A S.the-row) r (u ∷ []) (λ is.
         land ! (from ! (stop !)) (init ! 11 refl (EL.lawful S.the-type S′.the-laws 𝓤 H A W tt .typed r _ is .0)) $

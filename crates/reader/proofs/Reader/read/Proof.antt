@@ -68,6 +68,10 @@ module _ {M : Type 1} (𝓤 : URA M) (H : Heap 𝓤) (A : Atoms 𝓤) (W : Given
   abbrev mach : Val
   mach = T′.lowered d
 
+  -- what a result stands for here, and what it has to be
+  abbrev seen : Record → Result rules.Record
+  seen = resultOf (getD (now (d .job)) (d .at) 0) (dropped (d .at + 1) (now (d .job)))
+
   abbrev found : Result rules.Record
   found = rules.read begun (getD (now (d .job)) (d .at) 0) (dropped (d .at + 1) (now (d .job)))
 
@@ -96,10 +100,10 @@ module _ {M : Type 1} (𝓤 : URA M) (H : Heap 𝓤) (A : Atoms 𝓤) (W : Given
       nothing ! $ owned ! bool (Is bool) (bool-makes 𝓤 H A W) begun _ refl $ fjoin ! $ owned ! usize (Is usize) (uint-makes 𝓤 H A W w64) (d .at) _ (refl, fits) $ fjoin ! $ move ! (1 ∷ 0 ∷ []) $ fjoin ! $
       move ! (2 ∷ 0 ∷ []) $ use2 W (raw (Decode 𝓤 H A mem run .pre to)) asked $ frame ! $ done !
 
-  said : (r : Record) → ent 𝓤 (ensured 𝓤 H A decode.ended (decode.clauses 𝓤 H A mem run) (κ, tt) (d .job, (d .at, (begun, tt))) tt r) (fact 𝓤 (resultOf r ≡ found))
-  said r = exE 𝓤 _ (λ ws. snd∗ 𝓤 (sem 𝓤 H A (lasts decode.ended (κ, tt) (d .job, (d .at, (begun, tt))) ws)) (fact 𝓤 (resultOf r ≡ found)))
+  said : (r : Record) → ent 𝓤 (ensured 𝓤 H A decode.ended (decode.clauses 𝓤 H A mem run) (κ, tt) (d .job, (d .at, (begun, tt))) tt r) (fact 𝓤 (seen r ≡ found))
+  said r = exE 𝓤 _ (λ ws. snd∗ 𝓤 (sem 𝓤 H A (lasts decode.ended (κ, tt) (d .job, (d .at, (begun, tt))) ws)) (fact 𝓤 (seen r ≡ found)))
 
-  exits : (r : Record) (u : Val) → resultOf r ≡ found → ent 𝓤 (⋆ 𝓤 H A (‵ (S.the-row .own r (u ∷ [])) ∷ (‵ (flft κ q) ⊛ ‵ ftrue) ∷ ‵ (OfReader κ d) ∷ [])) (Post u)
+  exits : (r : Record) (u : Val) → seen r ≡ found → ent 𝓤 (⋆ 𝓤 H A (‵ (S.the-row .own r (u ∷ [])) ∷ (‵ (flft κ q) ⊛ ‵ ftrue) ∷ ‵ (OfReader κ d) ∷ [])) (Post u)
   exits r u e =
       qed W (‵ (S.the-row .own r (u ∷ [])) ∷ (‵ (flft κ q) ⊛ ‵ ftrue) ∷ ‵ (OfReader κ d) ∷ []) ∵
       suffices ! _ (ends-at 𝓤 H A read.ended stayed (read.clauses 𝓤 H A mem run) W (((κ, tt), (q, tt), tt, (d, (begun, tt)), at), tt) u r (tt, (tt, tt)) (tt, (tt, tt))) $ says ! e $
@@ -115,7 +119,7 @@ module _ {M : Type 1} (𝓤 : URA M) (H : Heap 𝓤) (A : Atoms 𝓤) (W : Given
         move ! (10 ∷ []) $ use1 W (raw (Decode 𝓤 H A mem run .pre to) ⊛ ‵ (OfReader κ d)) (apart (wt .1 .1 .0 .fits)) $ split ! $
         calls-at ! fm (Decode 𝓤 H A mem run) known to (and-then ! (load ! (from ! (stop !)) (look ! 4 refl)) (and-then ! (load ! (from ! (stop !)) (look ! 2 refl)) (and-then ! (load ! (from ! (stop !)) (look ! 6 refl)) (no-more !)))) (λ u.
         use1 W (later (some (λ (r : Record). ((‵ (flft κ q) ⊛ ‵ ftrue) ⊛ ‵ (S.the-row .own r (u ∷ []))) ⊛ raw (ensured 𝓤 H A decode.ended (decode.clauses 𝓤 H A mem run) (κ, tt) (d .job, (d .at, (begun, tt))) tt r)))) (id⊢ 𝓤 _) $ await ! tt $ pick ! (λ r.
-        split ! $ move ! (1 ∷ []) $ use1 W (raw (fact 𝓤 (resultOf r ≡ found))) (said r) $ heard ! (resultOf r ≡ found) (λ e. split ! $ move ! (1 ∷ []) $
+        split ! $ move ! (1 ∷ []) $ use1 W (raw (fact 𝓤 (seen r ≡ found))) (said r) $ heard ! (seen r ≡ found) (λ e. split ! $ move ! (1 ∷ []) $
         -- [the result; the token; what the reader owns; _4; …; _3; …; _2; …; _1; …; room for _0; …]
         peeks ! S.the-row (Is S.the-row) (shows 𝓤 H A S.the-row) r (u ∷ []) (λ is.
         land ! (from ! (stop !)) (init ! 11 refl (EL.lawful S.the-type S′.the-laws 𝓤 H A W tt .typed r _ is .0)) $
