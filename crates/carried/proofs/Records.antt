@@ -5,7 +5,7 @@ use mathlib.Core.List.{List}
 use Prim.Native.Nat.{ℕ, _+_, _-_, _<_, _≤_}
 use native.Mathlib.Omega.{arith}
 use lib.Dec.{leb}
-use lib.ListN.{length, getD, drop, length-drop}
+use lib.ListN.{length, getD, take, drop}
 use borrow.Author.Tests.{leb-true}
 use Rattle.rules.specs.Compute.{computing}
 use Rattle.rules.specs.Lists.{all}
@@ -25,8 +25,8 @@ use Rattle.refusal.specs.Refusing.{refusalOf}
 use Rattle.reader.specs.declared.Command as code
 use Rattle.reader.specs.declared.Record.{Record}
 use Rattle.reader.specs.declared.Record.the-variants as R
-use Rattle.reader.specs.Reading.{commandOf, resultOf, nextOf}
-use Rattle.reader.proofs.Laws.{body-read}
+use Rattle.reader.specs.Reading.{bodyLength, commandOf, commandRead, resultOf, nextOf}
+use Rattle.reader.proofs.Laws.{next-behind, next-inside}
 use Rattle.state.specs.declared.Limits.{Limits}
 use Rattle.encoder.specs.declared.Counters.{Counters}
 use Rattle.encoder.specs.Did.{limitsOf}
@@ -117,6 +117,15 @@ module _ {c : Catalogue} {flags : List ℕ} {l : Limits} {job : List ℕ} {at : 
         refused = λ g e. let q : g ≡ f = cc in rw q p;
       }
 
+-- a command that was read, and the position behind it
+module _ (job : List ℕ) (at : ℕ) (x : Record) (e : resultOf (getD job at 0) (drop (at + 1) job) x ≡ read true (getD job at 0) (drop (at + 1) job)) (q : x ≡ R.Sheet) where
+  sheet-is : read true (getD job at 0) (drop (at + 1) job) ≡ ok (sheet (commandRead (getD job at 0) (take (bodyLength (getD job at 0)) (drop (at + 1) job))))
+  unfolding resultOf
+  sheet-is = sym (rw q at e)
+
+  pub sheet-whole : (next : ℕ) → next ≡ nextOf job at → at < length job → next ≤ length job
+  sheet-whole next u h = next-inside true job at next _ sheet-is u h
+
 module _ {c : Catalogue} {flags : List ℕ} {l : Limits} (job : List ℕ) (at : ℕ) {n : Counters} {st : ℕ → List ℕ} {cl wt : List ℕ} (x : Record) (h : at < length job)
     (e : resultOf (getD job at 0) (drop (at + 1) job) x ≡ read true (getD job at 0) (drop (at + 1) job)) where
   pub step-unread : (f : Refusal) → x ≡ R.Refused f → StepDid c flags l job at n st cl wt (Step.Refused f) st cl wt
@@ -128,27 +137,21 @@ module _ {c : Catalogue} {flags : List ℕ} {l : Limits} (job : List ℕ) (at : 
   unfolding resultOf
   step-item f q = absurd (no-item (getD job at 0) (drop (at + 1) job) _ (sym (rw q at e)))
 
-  module _ (k : code.Command) (q : x ≡ R.Sheet k) {st′ : ℕ → List ℕ} {cl′ wt′ : List ℕ} {r : Outcome} (d : SettledDid c flags l (commandOf k) n st cl wt r st′ cl′ wt′) where
+  module _ (q : x ≡ R.Sheet) (next : ℕ) (u : next ≡ nextOf job at) (k : code.Command) (w : commandOf k ≡ commandRead (getD job at 0) (take (next - (at + 1)) (drop (at + 1) job)))
+      {st′ : ℕ → List ℕ} {cl′ wt′ : List ℕ} {r : Outcome} (d : SettledDid c flags l (commandOf k) n st cl wt r st′ cl′ wt′) where
     is-read : read true (getD job at 0) (drop (at + 1) job) ≡ ok (sheet (commandOf k))
-    unfolding resultOf
-    is-read = sym (rw q at e)
+    is-read =
+        let z : next - (at + 1) ≡ bodyLength (getD job at 0) = omega arith in
+        rw (w, z) (sheet-is job at x e q)
 
     pub step-refused : (f : Refusal) → r ≡ outcome.Refused f → StepDid c flags l job at n st cl wt (Step.Refused f) st′ cl′ wt′
     step-refused f y = refuses f (λ s g z o t p. not-carried l job at h c s t p (commandOf k) is-read (refusalOf f) (d .refused f y s g z o))
 
-    behind : (next : ℕ) → next ≡ nextOf job at → next ≡ at + 1 + bodyOf (kindOf (getD job at 0))
-    behind next u = rw (body-read true (getD job at 0) (drop (at + 1) job) _ is-read) u
+    behind : next ≡ at + 1 + bodyOf (kindOf (getD job at 0))
+    behind = next-behind true job at next _ is-read u
 
-    whole : (next : ℕ) → next ≡ nextOf job at → next ≤ length job
-    unfolding bodyOf
-    whole next u =
-        let a = read-ok true (getD job at 0) (drop (at + 1) job) (sheet (commandOf k)) is-read in
-        let w : a .body ≤ length job - (at + 1) = rw length-drop at (a .whole) in
-        let z : next ≡ at + 1 + a .body = behind next u ∙ rw (a .found) in
-        omega (arith, h)
-
-    pub step-carried : (next : ℕ) (m : Counters) → next ≡ nextOf job at → r ≡ outcome.Carried m → StepDid c flags l job at n st cl wt (Step.Next next m k) st′ cl′ wt′
-    step-carried next m u y =
+    pub step-carried : (m : Counters) → r ≡ outcome.Carried m → StepDid c flags l job at n st cl wt (Step.Next next m k) st′ cl′ wt′
+    step-carried m y =
         record {
           next = λ a m′ k′ v. let i : a ≡ next = cc in let j : m′ ≡ m = cc in let z : k′ ≡ k = cc in rw (i, j, z) passed;
           refused = λ f v. absurd (not-one (cc));
@@ -159,12 +162,12 @@ module _ {c : Catalogue} {flags : List ℕ} {l : Limits} (job : List ℕ) (at : 
         passed s g z o b =
             let x = d .carried m y s g z o b in
             record {
-              onward = omega (arith, behind next u, sheet-body (getD job at 0) (drop (at + 1) job) (commandOf k) is-read);
-              inside = whole next u;
+              onward = omega (arith, behind, sheet-body (getD job at 0) (drop (at + 1) job) (commandOf k) is-read);
+              inside = next-inside true job at next _ is-read u h;
               runs = x .runs;
               state = x .state;
               is = x .is;
               reached = then-reached z (commandOf k) (x .is);
               holds = x .holds;
-              alike = λ t p. goes-on l job at h c s t p (commandOf k) is-read (x .state) next (behind next u) (x .is);
+              alike = λ t p. goes-on l job at h c s t p (commandOf k) is-read (x .state) next behind (x .is);
             }

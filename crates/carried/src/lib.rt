@@ -164,7 +164,8 @@ fn carry_record(
     match reader::record_at(job, at, true) {
         Record::Refused(refusal) => Step::Refused(refusal),
         Record::Item => Step::Refused(Refusal::OutOfPlace),
-        Record::Sheet(command) => {
+        Record::Sheet => {
+            let command = reader::command_at(job, at, next);
             match carry_command(settled, marks, unions, t, k, s, clauses, w, l, n, command) {
                 Outcome::Carried(counters) => Step::Next {
                     at: next,

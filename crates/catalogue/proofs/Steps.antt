@@ -22,11 +22,10 @@ use Rattle.rules.specs.Items.{addItem}
 use Rattle.rules.specs.Job.{Progress, reading, stopped, bodyOf, walk, runStep, checkStep, startsSheet}
 use Rattle.refusal.specs.declared.Refusal.{Refusal}
 use Rattle.refusal.specs.Refusing.{refusalOf}
-use Rattle.reader.specs.declared.Command.{Command}
 use Rattle.reader.specs.declared.Record.{Record}
 use Rattle.reader.specs.declared.Record.the-variants as R
-use Rattle.reader.specs.Reading.{bodyLength, itemRead, resultOf, commandOf, nextOf}
-use Rattle.reader.proofs.Laws.{body-read}
+use Rattle.reader.specs.Reading.{bodyLength, itemRead, resultOf, nextOf}
+use Rattle.reader.proofs.Laws.{next-behind, next-inside}
 use Rattle.tables.specs.declared.Counts.{Counts}
 use Rattle.tables.specs.Tables.{listed, tables, tablesIn}
 use Rattle.tables.proofs.Rows.{counts}
@@ -182,12 +181,12 @@ module _ (job : List ℕ) (at : ℕ) (k : Counts) (m u t : List ℕ) (y : Ready 
     catalogue-kind : startsSheet (getD job at 0) (kindOf (getD job at 0)) ≡ false
     catalogue-kind = sym s ∙ l
 
-    pub step-command : (o : Command) → x ≡ R.Sheet o → Stepped job at k m u t Step.Sheet m u t
+    pub step-command : x ≡ R.Sheet → Stepped job at k m u t Step.Sheet m u t
     unfolding placeAfter progressAfter resultOf
-    step-command o q =
+    step-command q =
         record {
           same = same-refl job at _;
-          then = record { kept = y .kept; starts = read-sheet false (getD job at 0) (drop (at + 1) job) (commandOf o) (sym (rw q at e)) };
+          then = record { kept = y .kept; starts = read-sheet false (getD job at 0) (drop (at + 1) job) _ (sym (rw q at e)) };
         }
 
     pub step-unread : (f : Refusal) → x ≡ R.Refused f → Stepped job at k m u t (Step.Refused f) m u t
@@ -209,22 +208,14 @@ module _ (job : List ℕ) (at next : ℕ) (x : Record) (d : next ≡ nextOf job 
   unfolding resultOf
   item-is = sym (rw q at e)
 
-  item-behind : next ≡ at + 1 + bodyOf (kindOf (getD job at 0))
-  item-behind = rw (body-read false (getD job at 0) (drop (at + 1) job) _ item-is) d
-
-  pub body-whole : at < length job → at + 1 + (next - at - 1) ≤ length job
-  unfolding bodyOf
-  body-whole h =
-      let r = read-ok false (getD job at 0) (drop (at + 1) job) _ item-is in
-      let w : r .body ≤ length job - (at + 1) = rw length-drop at (r .whole) in
-      let z : next ≡ at + 1 + r .body = item-behind ∙ rw (r .found) in
-      omega arith
+  pub body-whole : at < length job → next ≤ length job
+  body-whole h = next-inside false job at next _ item-is d h
 
   pub item-at : (b : Bool) (l : List ℕ) → at < length job → b ≡ startsSheet (getD job at 0) (kindOf (getD job at 0)) → b ≡ false
-      → l ≡ take (next - at - 1) (drop (at + 1) job) → ItemAt job at next (itemRead (getD job at 0) l)
+      → l ≡ take (next - (at + 1)) (drop (at + 1) job) → ItemAt job at next (itemRead (getD job at 0) l)
   item-at b l h s n f =
-      let z : next - at - 1 ≡ bodyLength (getD job at 0) = omega arith in
-      record { there = h; kind = sym s ∙ n; is = rw (f, z) item-is; behind = item-behind }
+      let z : next - (at + 1) ≡ bodyLength (getD job at 0) = omega arith in
+      record { there = h; kind = sym s ∙ n; is = rw (f, z) item-is; behind = next-behind false job at next _ item-is d }
 
 module _ (job : List ℕ) (at next : ℕ) (k : Counts) (m u t : List ℕ) (i : Item) (y : Ready at k m u t) (x : ItemAt job at next i) where
   whole : next ≤ length job

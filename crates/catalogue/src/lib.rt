@@ -163,9 +163,9 @@ pub fn read_record(
     let record = reader::record_at(job, at, false);
     match record {
         Record::Refused(refusal) => Step::Refused(refusal),
-        Record::Sheet(_) => Step::Sheet,
+        Record::Sheet => Step::Sheet,
         Record::Item => {
-            let body = reader::body(job, at, next - at - 1);
+            let body = reader::body(job, at, next);
             enter(job, at, next, marks, unions, t, k, kind, body)
         }
     }

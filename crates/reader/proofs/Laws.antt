@@ -26,7 +26,7 @@ use Rattle.reader.specs.declared.Command.the-variants.{Add, Draw, Run, D
 use Rattle.reader.specs.declared.Record.the-variants.{Item, Sheet, Refused}
 use Rattle.refusal.specs.declared.Refusal.the-variants.{UnknownKind, OutOfPlace, CutShort}
 use Rattle.refusal.specs.Refusing.{refusalOf}
-use Rattle.reader.specs.Reading.{commandOf, resultOf, lengths, lengthAt, bodyLength, itemRead, commandRead}
+use Rattle.reader.specs.Reading.{commandOf, resultOf, lengths, lengthAt, bodyLength, nextOf, itemRead, commandRead}
 
 -- ---- lengths, bytes and parts
 
@@ -63,11 +63,6 @@ length-second k x h g e = e ∙ same-lengths 18446744073708655138 32 (unfold com
 
 pub length-past : (k : ℕ) → 48 ≤ k → 99 ≡ bodyLength k
 length-past k h = length-none k (omega arith)
-
-pub part-is : (n at : ℕ) (l r : List ℕ) → r ≡ take (at + 1 + n - (at + 1)) (drop (at + 1) l) → r ≡ take n (drop (at + 1) l)
-part-is n at l r e =
-    let q : at + 1 + n - (at + 1) ≡ n = omega arith in
-    rw q at e
 
 pub byte-in : (l : List ℕ) (i : ℕ) → getD l i 0 ≡ byteAt l i
 unfolding byteAt
@@ -108,6 +103,9 @@ command-decide kind x v l b t h0 h1 h2 = rw (t, h0, h1, h2)
 pub command-undo : (kind l : ℕ) (b : List ℕ) → (kind ≡ 32 → ⊥) → (kind ≡ 33 → ⊥) → (kind ≡ 34 → ⊥) → (kind ≡ 35 → ⊥) → l ≡ wordAt b 0 → commandOf (Undo l) ≡ commandRead kind b
 unfolding commandOf commandRead
 command-undo kind l b t0 t1 t2 t3 h0 = rw (ne-eqb kind 32 t0, ne-eqb kind 33 t1, ne-eqb kind 34 t2, ne-eqb kind 35 t3, h0)
+
+pub command-in : (kind : ℕ) (b part : List ℕ) (o : Command) → b ≡ part → commandOf o ≡ commandRead kind b → commandOf o ≡ commandRead kind part
+command-in kind b part o e h = rw (sym e) h
 
 -- ---- kinds
 
@@ -228,25 +226,24 @@ module _ (begun : Bool) (job : List ℕ) (at n : ℕ) (e : n ≡ bodyLength (get
           rw (← d, p, found .found, lt-ltb _ _ l)
 
       module _ (h : n ≤ length job - at - 1) where
-        whole : (b : List ℕ) → b ≡ take n (drop (at + 1) job) → read begun (getD job at 0) (drop (at + 1) job) ≡ ok (readBy (ltb (getD job at 0) 32) (getD job at 0) b)
+        whole : read begun (getD job at 0) (drop (at + 1) job) ≡ ok (readBy (ltb (getD job at 0) 32) (getD job at 0) (take (bodyLength (getD job at 0)) (drop (at + 1) job)))
         unfolding read readKind readBody
-        whole b f =
+        whole =
             let l : bodyLength (getD job at 0) ≤ length (drop (at + 1) job) = rw length-drop (omega arith) in
             let q : getD job at 0 ≡ numberOf (found .kind) = number-is (getD job at 0) (found .kind, bodyLength (getD job at 0)) (found .found) in
-            let g : b ≡ take (bodyLength (getD job at 0)) (drop (at + 1) job) = f ∙ ap (λ (x : ℕ). take x (drop (at + 1) job)) e in
-            rw (← d, p, found .found, le-ltb _ _ l, g) (ap ok (by-number (found .kind) (take (bodyLength (getD job at 0)) (drop (at + 1) job)) ∙ rw (← q)))
+            rw (← d, p, found .found, le-ltb _ _ l) (ap ok (by-number (found .kind) (take (bodyLength (getD job at 0)) (drop (at + 1) job)) ∙ rw (← q)))
 
         pub at-item : getD job at 0 < 32 → resultOf (getD job at 0) (drop (at + 1) job) Item ≡ read begun (getD job at 0) (drop (at + 1) job)
         unfolding resultOf
-        at-item k = rw (whole (take (bodyLength (getD job at 0)) (drop (at + 1) job)) (rw e), lt-ltb _ _ k)
+        at-item k = rw (whole, lt-ltb _ _ k)
 
-        pub at-command : (o : Command) (b : List ℕ) → b ≡ take n (drop (at + 1) job) → 32 ≤ getD job at 0 → commandOf o ≡ commandRead (getD job at 0) b → resultOf (getD job at 0) (drop (at + 1) job) (Sheet o) ≡ read begun (getD job at 0) (drop (at + 1) job)
+        pub at-command : 32 ≤ getD job at 0 → resultOf (getD job at 0) (drop (at + 1) job) Sheet ≡ read begun (getD job at 0) (drop (at + 1) job)
         unfolding resultOf
-        at-command o b f k g = rw (whole b f, le-ltb _ _ k, g)
+        at-command k = rw (whole, le-ltb _ _ k)
 
--- ---- for callers: the length of the body of a record that was read
+-- ---- for callers: the position behind a record that was read
 
-pub body-read : (begun : Bool) (k : ℕ) (rest : List ℕ) (x : rules.Record) → read begun k rest ≡ ok x → bodyOf (kindOf k) ≡ bodyLength k
+body-read : (begun : Bool) (k : ℕ) (rest : List ℕ) (x : rules.Record) → read begun k rest ≡ ok x → bodyOf (kindOf k) ≡ bodyLength k
 unfolding bodyOf
 body-read begun k rest x e =
     let r = read-ok begun k rest x e in
@@ -254,3 +251,15 @@ body-read begun k rest x e =
   where
     go : {y : Kind × ℕ} → lengthAgrees (kindOf k) (bodyLength k) ≡ true → kindOf k ≡ some y → y .1 ≡ bodyLength k
     go {y} h f = sym (eqb-true (bodyLength k) (y .1) (and-left (eqb (bodyLength k) (y .1)) _ (rw f at h)))
+
+module _ (begun : Bool) (job : List ℕ) (at next : ℕ) (x : rules.Record) (e : read begun (getD job at 0) (drop (at + 1) job) ≡ ok x) (d : next ≡ nextOf job at) where
+  pub next-behind : next ≡ at + 1 + bodyOf (kindOf (getD job at 0))
+  next-behind = rw (body-read begun (getD job at 0) (drop (at + 1) job) x e) d
+
+  pub next-inside : at < length job → next ≤ length job
+  unfolding bodyOf
+  next-inside h =
+      let r = read-ok begun (getD job at 0) (drop (at + 1) job) x e in
+      let w : r .body ≤ length job - (at + 1) = rw length-drop at (r .whole) in
+      let z : next ≡ at + 1 + r .body = next-behind ∙ rw (r .found) in
+      omega arith

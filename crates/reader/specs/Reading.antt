@@ -66,5 +66,5 @@ commandRead k b =
 -- a record of kind k, in front of `rest`
 unfoldable pub resultOf : (k : ℕ) (rest : List ℕ) → Record → Result rules.Record
 resultOf k rest Item = ok (rules.catalogue (itemRead k (take (bodyLength k) rest)))
-resultOf k rest (Sheet o) = ok (rules.sheet (commandOf o))
+resultOf k rest Sheet = ok (rules.sheet (commandRead k (take (bodyLength k) rest)))
 resultOf k rest (Refused f) = refuse (refusalOf f)

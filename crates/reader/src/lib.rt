@@ -9,7 +9,14 @@ ghost use mathlib.Core.Bool.{not, _&&_};
 ghost use Rattle.rules.specs.Records.{ofSheet, read};
 ghost use Rattle.reader.specs.Reading.{lengthAt, bodyLength, nextOf, commandOf, commandRead, resultOf};
 
-// A sheet record.
+// What stands at a position of a job: a whole record, whose numbers stay in its body, or why none is read.
+pub enum Record {
+    Item,
+    Sheet,
+    Refused(Refusal),
+}
+
+// A sheet record with the numbers of its body, in their order.
 pub enum Command {
     Add(u16),
     Draw(u16),
@@ -20,13 +27,6 @@ pub enum Command {
         level: u16,
     },
     Undo(u16),
-}
-
-// What stands at a position of a job. A catalogue record's item stays in its body, to be read there.
-pub enum Record {
-    Item,
-    Sheet(Command),
-    Refused(Refusal),
 }
 
 // The lent job together with a position in it.
@@ -65,14 +65,13 @@ pub fn body_length(kind: u8) -> u8
     99
 }
 
-// The body of the record at `at`: the part of the job that follows the kind byte.
-pub fn body(job: &[u8], at: usize, n: usize) -> &[u8]
-    requires { ⌜ at + 1 + n ≤ length (now job) ⌝ }
-    ensures { λ r. ⌜ now r ≡ take n (drop (at + 1) (now (job .entry))) ⌝ }
+// The body of the record at `at`, the next record being at `next`: the part of the job between the kind byte and there.
+pub fn body(job: &[u8], at: usize, next: usize) -> &[u8]
+    requires { ⌜ (at < next) × (next ≤ length (now job)) ⌝ }
+    ensures { λ r. ⌜ now r ≡ take (next - (at + 1)) (drop (at + 1) (now (job .entry))) ⌝ }
 {
     let from = at + 1;
-    let to = from + n;
-    &job[from..to]
+    &job[from..next]
 }
 
 // The byte at i, and 0 past the end.
@@ -93,7 +92,7 @@ pub fn word(body: &[u8], i: usize) -> u16
     words::wide(byte(body, i))
 }
 
-pub fn read_command(kind: u8, body: &[u8]) -> Command
+fn read_command(kind: u8, body: &[u8]) -> Command
     ensures { λ r. ⌜ commandOf r ≡ commandRead kind (now (body .entry)) ⌝ }
 {
     match kind {
@@ -109,6 +108,14 @@ pub fn read_command(kind: u8, body: &[u8]) -> Command
     }
 }
 
+// The command of the record at `at`, the next record being at `next`.
+pub fn command_at(job: &[u8], at: usize, next: usize) -> Command
+    requires { ⌜ (at < next) × (next ≤ length (now job)) ⌝ }
+    ensures { λ r. ⌜ commandOf r ≡ commandRead (getD (now (job .entry)) at 0) (take (next - (at + 1)) (drop (at + 1) (now (job .entry)))) ⌝ }
+{
+    read_command(job[at], body(job, at, next))
+}
+
 // A catalogue kind follows a sheet kind.
 pub fn out_of_place(begun: bool, kind: u8) -> bool
     ensures { λ r. ⌜ r ≡ (begun && not (ofSheet kind)) ⌝ }
@@ -116,7 +123,7 @@ pub fn out_of_place(begun: bool, kind: u8) -> bool
     if begun { kind < 32 } else { false }
 }
 
-// The record at `at`, decoded on the slice and the number.
+// What stands at `at`, on the slice and the number.
 pub fn decode(job: &[u8], at: usize, begun: bool) -> Record
     requires { ⌜ at < length (now job) ⌝ }
     ensures { λ r. ⌜ resultOf (getD (now (job .entry)) at 0) (drop (at + 1) (now (job .entry))) r
@@ -134,9 +141,10 @@ pub fn decode(job: &[u8], at: usize, begun: bool) -> Record
         return Record::Refused(Refusal::CutShort);
     }
     if kind < 32 {
-        return Record::Item;
+        Record::Item
+    } else {
+        Record::Sheet
     }
-    Record::Sheet(read_command(kind, body(job, at, n as usize)))
 }
 
 // The position behind the record at `at`.

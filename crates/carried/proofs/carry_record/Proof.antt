@@ -1,6 +1,6 @@
 -- `carried::carry_record` takes one step of the walk, or gives the refusal of the record.
 use borrow.Author.Needs.{needs}
-use Rattle.carried.proofs.Records.{step-unread, step-item, step-refused, step-carried}
+use Rattle.carried.proofs.Records.{step-unread, step-item, sheet-whole, step-refused, step-carried}
 use Rattle.carried.proofs.carry_record.Statement.{statement}
 use Rattle.carried.proofs.carry_record.Tie as tie
 
@@ -16,8 +16,11 @@ enum-known-refusal c = search needs
 enum-told : tie.Need-enum-told
 enum-told c = search needs
 
-enum-known-command : tie.Need-enum-known-command
-enum-known-command c = search needs
+enum-told-2 : tie.Need-enum-told-2
+enum-told-2 c = search needs
+
+command-at-requires : tie.Need-command-at-requires
+command-at-requires c κs = search (needs, sheet-whole)
 
 carry-command-requires : tie.Need-carry-command-requires
 carry-command-requires c κs = search needs
@@ -44,7 +47,7 @@ same-length-3 : tie.Need-same-length-3
 same-length-3 c = search needs
 
 returns-3 : tie.Need-returns-3
-returns-3 c = step-carried _ _ _ (c .before .before .before .before .before .before .before .before .before .before .before .before .before .before .before .before .before .before .before .before .before .before .before .before .before .before .pre .0 .0) (c .before .before .before .before .before .before .before .before .before .before .before .before .before .before .before .before .record-at .ensures) _ (search needs) (c .before .before .before .before .before .before .before .before .before .carry-command .ensures) _ _ (c .before .before .before .before .before .before .before .before .before .before .before .before .before .before .before .before .before .next-at .ensures) (search needs)
+returns-3 c = step-carried _ _ _ (c .before .before .before .before .before .before .before .before .before .before .before .before .before .before .before .before .before .before .before .before .before .before .before .before .before .before .pre .0 .0) (c .before .before .before .before .before .before .before .before .before .before .before .before .before .before .before .before .record-at .ensures) (search needs) _ (c .before .before .before .before .before .before .before .before .before .before .before .before .before .before .before .before .before .next-at .ensures) _ (c .before .before .before .before .before .before .before .before .before .before .before .before .before .command-at .ensures) (c .before .before .before .before .before .before .before .before .before .carry-command .ensures) _ (search needs)
 
 same-length-4 : tie.Need-same-length-4
 same-length-4 c = search needs
@@ -56,7 +59,7 @@ same-length-6 : tie.Need-same-length-6
 same-length-6 c = search needs
 
 returns-4 : tie.Need-returns-4
-returns-4 c = step-refused _ _ _ (c .before .before .before .before .before .before .before .before .before .before .before .before .before .before .before .before .before .before .before .before .before .before .before .before .before .before .pre .0 .0) (c .before .before .before .before .before .before .before .before .before .before .before .before .before .before .before .before .record-at .ensures) _ (search needs) (c .before .before .before .before .before .before .before .before .before .carry-command .ensures) _ (search needs)
+returns-4 c = step-refused _ _ _ (c .before .before .before .before .before .before .before .before .before .before .before .before .before .before .before .before .before .before .before .before .before .before .before .before .before .before .pre .0 .0) (c .before .before .before .before .before .before .before .before .before .before .before .before .before .before .before .before .record-at .ensures) (search needs) _ (c .before .before .before .before .before .before .before .before .before .before .before .before .before .before .before .before .before .next-at .ensures) _ (c .before .before .before .before .before .before .before .before .before .before .before .before .before .command-at .ensures) (c .before .before .before .before .before .before .before .before .before .carry-command .ensures) _ (search needs)
 
 pub carry-record-spec : {M : Type 1} → statement M
 carry-record-spec =
@@ -66,7 +69,8 @@ carry-record-spec =
     record-at-requires
     enum-known-refusal
     enum-told
-    enum-known-command
+    enum-told-2
+    command-at-requires
     carry-command-requires
     enum-known-counters
     enum-known-refusal-2

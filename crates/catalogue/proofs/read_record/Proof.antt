@@ -27,12 +27,6 @@ enum-told c = search needs
 enum-told-2 : tie.Need-enum-told-2
 enum-told-2 c = search needs
 
-sub-body : tie.Need-sub-body
-sub-body c = search needs
-
-sub-body-2 : tie.Need-sub-body-2
-sub-body-2 c = search needs
-
 body-requires : tie.Need-body-requires
 body-requires c κs = search (needs, body-whole)
 
@@ -76,8 +70,6 @@ read-record-spec =
     enum-known-record
     enum-told
     enum-told-2
-    sub-body
-    sub-body-2
     body-requires
     enter-requires
     returns-2

@@ -34,15 +34,6 @@ returns-3 c = search (needs, at-short)
 returns-4 : tie.Need-returns-4
 returns-4 c = search (needs, at-item)
 
-cast-body : tie.Need-cast-body
-cast-body c = search needs
-
-body-requires : tie.Need-body-requires
-body-requires c κs = search needs
-
-read-command-requires : tie.Need-read-command-requires
-read-command-requires c κs = search needs
-
 returns-5 : tie.Need-returns-5
 returns-5 c = search (needs, at-command)
 
@@ -60,7 +51,4 @@ decode-spec =
     cast-if3
     returns-3
     returns-4
-    cast-body
-    body-requires
-    read-command-requires
     returns-5)
