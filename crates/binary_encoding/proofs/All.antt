@@ -1,6 +1,6 @@
 -- All that join, and all that are linked, one after another: the rules' `joinAll` and `linkAll`.
 use mathlib.Core.Path.{_≡_, refl, sym, _∙_, ap}
-use mathlib.Core.Bool.{true, false, not}
+use mathlib.Core.Bool.{Bool, true, false, not}
 use mathlib.Core.List.{List, [], _∷_, _++_, map, map-append, append-nil, append-assoc, List·Memᴰ·head, List·Memᴰ·tail}
 use Prim.Native.Nat.{ℕ}
 use lib.Dec.{eqb}
@@ -23,6 +23,7 @@ use Rattle.rules.proofs.ClauseByClause.{effects-changed}
 use Rattle.rules.proofs.DistinctEnough.{fold-append}
 use Rattle.encoder.specs.Did.{onOpening}
 use Rattle.tracking.specs.Joining.{tracking, joinStep, joinIf, joinName, joinNames, forgetNamed}
+use Rattle.binary_encoding.proofs.Joiners.{distinct-filter, without-idle}
 
 -- ---- a one-of-name variable that is linked
 
@@ -125,31 +126,41 @@ module _ (c : Catalogue) (r : Run) where
       ∙ (ap (λ (u : State). fold joinNew (concatMap (λ x. filter (λ p. eqb (nameOf c p) x) qs) ns) u) first
       ∙ sym (fold-append joinNew (filter (λ p. eqb (nameOf c p) n) qs) (concatMap (λ x. filter (λ p. eqb (nameOf c p) x) qs) ns) s))
 
-  all-named : Opening → List ℕ
-  all-named o = concatMap (λ n. filter (λ p. eqb (nameOf c p) n) (o .named)) (distinct (map (nameOf c) (o .named)))
+  -- the named parts of these names
+  by-names : List ℕ → Opening → List ℕ
+  by-names ns o = concatMap (λ n. filter (λ p. eqb (nameOf c p) n) (o .named)) ns
 
-  named-once : (o : Opening) → Once (o .named) → Once (all-named o)
-  unfolding all-named
-  named-once o k =
-      once-concatMap (λ n. filter (λ p. eqb (nameOf c p) n) (o .named)) (nameOf c) (λ n q m. eqb-true (nameOf c q) n (filter-out _ (o .named) m .1)) (λ n. once-filter _ k) (distinct-once _)
+  named-once : (ns : List ℕ) (o : Opening) → Once (o .named) → Once (by-names (distinct ns) o)
+  unfolding by-names
+  named-once ns o k =
+      once-concatMap (λ n. filter (λ p. eqb (nameOf c p) n) (o .named)) (nameOf c) (λ n q m. eqb-true (nameOf c q) n (filter-out _ (o .named) m .1)) (λ n. once-filter _ k) (distinct-once ns)
 
-  joining-is : (o : Opening) → filter (λ p. not (elem p (o .tracked))) (all-named o) ≡ joining c o
-  unfolding joining all-named
-  joining-is o = refl
+  -- names of which no part joins are left out
+  module _ (f : ℕ → Bool) (s : State)
+      (idle : (n : ℕ) → f n ≡ false → filter (λ p. not (elem p (s .opening .tracked))) (filter (λ p. eqb (nameOf c p) n) (s .opening .named)) ≡ []) where
+    abbrev pub names : List ℕ
+    names = filter f (map (nameOf c) (s .opening .named))
 
-  by-name : (s : State) → joinNames r (distinct (map (nameOf c) (s .opening .named))) c s ≡ fold joinNew (all-named (s .opening)) s
-  unfolding joinNames all-named
-  by-name s = names-are (s .opening .named) (distinct (map (nameOf c) (s .opening .named))) s refl
+    joining-is : filter (λ p. not (elem p (s .opening .tracked))) (by-names (distinct names) (s .opening)) ≡ joining c (s .opening)
+    unfolding joining by-names
+    joining-is =
+        let ns = map (nameOf c) (s .opening .named) in
+        let g : ℕ → List ℕ = λ n. filter (λ p. eqb (nameOf c p) n) (s .opening .named) in
+        ap (λ (xs : List ℕ). filter (λ p. not (elem p (s .opening .tracked))) (concatMap g xs)) (distinct-filter f ns) ∙ without-idle f _ g idle (distinct ns)
 
-  pub all-join : (s : State) → Once (s .opening .named) → onOpening forgetNamed (joinNames r (distinct (map (nameOf c) (s .opening .named))) c s) ≡ joinAll c r s
-  unfolding onOpening forgetNamed joinAll endRun
-  all-join s k =
-      let ts = s .opening .tracked in
-      let ps = all-named (s .opening) in
-      let last : fold (λ p. joinStep r p c) (filter (λ p. not (elem p ts)) ps) s ≡ setOpening (setTracked (ts ++ joining c (s .opening)) (s .opening)) (emitAll c r (joinsFrom c ts (joining c (s .opening))) s)
-      = rw (joining-is (s .opening)) (steps-are (joining c (s .opening)) s) in
-      let steps = by-name s ∙ (news-are ts (named-once (s .opening) k) s (λ p m. refl) ∙ last) in
-      ap (onOpening forgetNamed) steps ∙ sym (emits-elsewhere (endRun c (s .opening)) (joinsFrom c ts (joining c (s .opening))) s)
+    by-name : joinNames r (distinct names) c s ≡ fold joinNew (by-names (distinct names) (s .opening)) s
+    unfolding joinNames by-names
+    by-name = names-are (s .opening .named) (distinct names) s refl
+
+    pub all-join : Once (s .opening .named) → onOpening forgetNamed (joinNames r (distinct names) c s) ≡ joinAll c r s
+    unfolding onOpening forgetNamed joinAll endRun
+    all-join k =
+        let ts = s .opening .tracked in
+        let ps = by-names (distinct names) (s .opening) in
+        let last : fold (λ p. joinStep r p c) (filter (λ p. not (elem p ts)) ps) s ≡ setOpening (setTracked (ts ++ joining c (s .opening)) (s .opening)) (emitAll c r (joinsFrom c ts (joining c (s .opening))) s)
+        = rw joining-is (steps-are (joining c (s .opening)) s) in
+        let steps = by-name ∙ (news-are ts (named-once names (s .opening) k) s (λ p m. refl) ∙ last) in
+        ap (onOpening forgetNamed) steps ∙ sym (emits-elsewhere (endRun c (s .opening)) (joinsFrom c ts (joining c (s .opening))) s)
 
   -- ---- one-of-name variables that are linked
 

@@ -39,7 +39,8 @@ use Rattle.encoder.proofs.Frames.{good-kept, list-kept, line-kept}
 use Rattle.encoder.proofs.Did.{did-made, beside-kept}
 use Rattle.encoder.proofs.Widening.{Lengthens, widens-opening}
 use Rattle.goals.specs.Goals.{noted, Notes, Gathers}
-use Rattle.tracking.specs.Joining.{partName, ofName, namesOf, NamesLow, tracking, Tracks, forgetNamed, Forgets}
+use Rattle.tracking.specs.Joining.{partName, ofName, NamesLow, tracking, Tracks, forgetNamed, Forgets}
+use Rattle.binary_encoding.specs.Joiners.{flagged, NotesIf, flaggedNames}
 
 -- ---- names by the area t
 
@@ -169,45 +170,64 @@ module _ (l : Limits) (n : Counters) {st st′ : ℕ → List ℕ} (x : Emptied 
   pub forgotten : Forgets l n st (counted.withNamed 0 n) st′
   forgotten = record { is = λ c. record { is = λ cl wt. forgotten-did c cl wt } }
 
--- ---- the names of the named parts
+-- ---- the flagged names of the named parts
 
 -- the loop at part i: what is left of the list's making is the whole of it
-pub record Gathering (k : Counts) (t : List ℕ) (l : Limits) (n : Counters) (b₀ b : List ℕ) (m i : ℕ) : Type 0 where
+pub record Gathering (k : Counts) (t flags : List ℕ) (l : Limits) (n : Counters) (b₀ b : List ℕ) (m i : ℕ) : Type 0 where
   pub fits : Fits l (length b)
   pub same : length b ≡ length b₀
   pub marked : Marked 14 15 m (held l b)
   pub named : Marked 8 9 (n .named) (held l b)
   pub others : Changed (14 ∷ 15 ∷ []) (held l b₀) (held l b)
-  pub is : fold noted (map (partName k t) (drop i (listed (n .named) 8 (held l b)))) (listed m 14 (held l b)) ≡ namesOf k t (listed (n .named) 8 (held l b₀))
+  pub is : fold noted (filter (flagged flags) (map (partName k t) (drop i (listed (n .named) 8 (held l b))))) (listed m 14 (held l b))
+      ≡ flaggedNames k t flags (listed (n .named) 8 (held l b₀))
 
-pub gather-start : (k : Counts) (t : List ℕ) (l : Limits) (n : Counters) (b : List ℕ) → Fits l (length b) → Marked 8 9 (n .named) (held l b) → Marked 14 15 0 (held l b)
-    → Gathering k t l n b b 0 0
-unfolding namesOf distinct noted listed
-gather-start k t l n b f w d = record { fits = f; same = refl; marked = d; named = w; others = changed-none (14 ∷ 15 ∷ []) (held l b); is = refl }
+pub gather-start : (k : Counts) (t flags : List ℕ) (l : Limits) (n : Counters) (b : List ℕ) → Fits l (length b) → Marked 8 9 (n .named) (held l b) → Marked 14 15 0 (held l b)
+    → Gathering k t flags l n b b 0 0
+unfolding flaggedNames distinct noted listed
+gather-start k t flags l n b f w d = record { fits = f; same = refl; marked = d; named = w; others = changed-none (14 ∷ 15 ∷ []) (held l b); is = refl }
 
-module _ {k : Counts} {t : List ℕ} {l : Limits} {n : Counters} {b₀ b : List ℕ} {m i : ℕ} (x : Gathering k t l n b₀ b m i) where
-  pub gather-step : (b′ : List ℕ) {m′ p a : ℕ} → i < n .named → p ≡ getD (listed (n .named) 8 (held l b)) i 0 → a ≡ (getD (tables k t .parts) p noPart) .name
-      → Notes a m (held l b) m′ (held l b′) → length b′ ≡ length b → Gathering k t l n b₀ b′ m′ (i + 1)
-  unfolding fold
-  gather-step b′ {a = a} h e d y s =
-      let ps = listed (n .named) 8 (held l b) in
-      let name : a ≡ partName k t (getD ps i 0) = unfold partName in rw (← e) d in
-      let kept : listed (n .named) 8 (held l b′) ≡ ps = listed-same (n .named) 8 (y .others) (unfold any in refl) in
-      let left : map (partName k t) (drop i ps) ≡ a ∷ map (partName k t) (drop (i + 1) ps) = rw (drop-cons ps i 0 (omega (arith, length-listed (x .named))), add-one i, name) in
-      record {
-        fits = rw s (x .fits);
-        same = s ∙ x .same;
-        marked = y .marked;
-        named = marked-same (x .named) (y .others) (unfold any in refl) (unfold any in refl);
-        others = changed-then (x .others) (y .others);
-        is = rw (kept, y .is) (rw left at (x .is));
-      }
+module _ {k : Counts} {t flags : List ℕ} {l : Limits} {n : Counters} {b₀ b : List ℕ} {m i : ℕ} (x : Gathering k t flags l n b₀ b m i) where
+  module _ {p a : ℕ} (h : i < n .named) (e : p ≡ getD (listed (n .named) 8 (held l b)) i 0) (d : a ≡ (getD (tables k t .parts) p noPart) .name) where
+    left : map (partName k t) (drop i (listed (n .named) 8 (held l b))) ≡ a ∷ map (partName k t) (drop (i + 1) (listed (n .named) 8 (held l b)))
+    left =
+        let ps = listed (n .named) 8 (held l b) in
+        let name : a ≡ partName k t (getD ps i 0) = unfold partName in rw (← e) d in
+        rw (drop-cons ps i 0 (omega (arith, length-listed (x .named))), add-one i, name)
 
-  pub gather-end : n .named ≤ i → Gathers (namesOf k t (listed (n .named) 8 (held l b₀))) (held l b₀) m (held l b)
-  unfolding fold
+    step-noted : (b′ : List ℕ) {m′ : ℕ} → length b′ ≡ length b → flagged flags a ≡ true → Notes a m (held l b) m′ (held l b′) → Gathering k t flags l n b₀ b′ m′ (i + 1)
+    unfolding fold filter
+    step-noted b′ s f y =
+        let kept : listed (n .named) 8 (held l b′) ≡ listed (n .named) 8 (held l b) = listed-same (n .named) 8 (y .others) (unfold any in refl) in
+        record {
+          fits = rw s (x .fits);
+          same = s ∙ x .same;
+          marked = y .marked;
+          named = marked-same (x .named) (y .others) (unfold any in refl) (unfold any in refl);
+          others = changed-then (x .others) (y .others);
+          is = rw (kept, y .is) (rw (left, filter, f) at (x .is));
+        }
+
+    step-passed : (b′ : List ℕ) {m′ : ℕ} → length b′ ≡ length b → flagged flags a ≡ false → m′ ≡ m → held l b′ ≡ held l b → Gathering k t flags l n b₀ b′ m′ (i + 1)
+    unfolding fold filter
+    step-passed b′ s f c y =
+        record {
+          fits = rw s (x .fits);
+          same = s ∙ x .same;
+          marked = rw (c, y) (x .marked);
+          named = rw y (x .named);
+          others = rw y (x .others);
+          is = rw (c, y) (rw (left, filter, f) at (x .is));
+        }
+
+    pub gather-step : (b′ : List ℕ) {m′ : ℕ} → NotesIf (flagged flags a) a m (held l b) m′ (held l b′) → length b′ ≡ length b → Gathering k t flags l n b₀ b′ m′ (i + 1)
+    gather-step b′ y s = by-cases (flagged flags a) (λ f. step-noted b′ s f (y .noted f)) (λ f. step-passed b′ s f (y .same f) (y .kept f))
+
+  pub gather-end : n .named ≤ i → Gathers (flaggedNames k t flags (listed (n .named) 8 (held l b₀))) (held l b₀) m (held l b)
+  unfolding fold filter
   gather-end h =
       let none : drop i (listed (n .named) 8 (held l b)) ≡ [] = drop-of-length-le (listed (n .named) 8 (held l b)) {i = i} (omega (arith, length-listed (x .named))) in
       record { marked = x .marked; is = rw none at (x .is); others = x .others }
 
-pub gather-low : (k : Counts) (t : List ℕ) (p a : ℕ) → NamesLow k t → a ≡ (getD (tables k t .parts) p noPart) .name → a < 512
+pub gather-low : (k : Counts) (t : List ℕ) (p a : ℕ) → NamesLow k t → a ≡ (getD (tables k t .parts) p noPart) .name → a < 64
 gather-low k t p a w e = let low = w .low p in let q : a ≡ partName k t p = unfold partName in e in omega arith

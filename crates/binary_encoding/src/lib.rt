@@ -21,7 +21,8 @@ ghost use Rattle.marked.specs.Marked.{listed, Marked};
 ghost use Rattle.encoder.specs.Held.{runOf, LongEnough, Good};
 ghost use Rattle.encoder.specs.Did.{ClausesDid};
 ghost use Rattle.goals.specs.Goals.{Gathers};
-ghost use Rattle.tracking.specs.Joining.{AddsAll, GoodOf, GoodSome, partName, ofName, namesOf, NamesLow, linkClauses, joinedClauses, Tracks, MakesOf, trackWith, joinStep, joinIf, joinName, joinNames, Forgets, CanJoin, CanAddPart, CanLink};
+ghost use Rattle.tracking.specs.Joining.{AddsAll, GoodOf, GoodSome, partName, ofName, NamesLow, linkClauses, joinedClauses, Tracks, MakesOf, trackWith, joinStep, joinIf, joinName, joinNames, Forgets, CanJoin, CanAddPart, CanLink};
+ghost use Rattle.binary_encoding.specs.Joiners.{flagged, NotesJoiner, JoinersNoted, NotesIf, flaggedNames};
 
 // ---- a part joins
 
@@ -206,20 +207,63 @@ fn join_names(
     m
 }
 
-// The names of the named parts, each once, become the list at hand.
-fn gather_names(t: &[u8], k: Counts, s: &mut [u8], l: Limits, n: Counters) -> usize
+// The name of part p is flagged, if p is not tracked.
+fn note_joiner(t: &[u8], k: Counts, s: &[u8], l: Limits, joiners: &mut [u8], p: u16)
+    requires { ⌜ Laid k (length (now t)) ⌝ }
+    requires { ⌜ NamesLow k (now t) ⌝ }
+    requires { ⌜ Fits l (length (now s)) ⌝ }
+    requires { ⌜ length (now joiners) ≡ 64 ⌝ }
+    ensures { λ _. ⌜ NotesJoiner k (now (t .entry)) (held l (now (s .entry))) p (now (joiners .entry)) (now (joiners .exit)) ⌝ }
+{
+    if marked::contains(s, l, state::TRACKED_MARKS, p) {
+        return;
+    }
+    let name = tables::part_name(t, k, p as usize);
+    joiners[name as usize] = 1;
+}
+
+// The names are flagged of which some named part is not tracked.
+fn note_joiners(t: &[u8], k: Counts, s: &[u8], l: Limits, n: Counters, joiners: &mut [u8])
+    requires { ⌜ Laid k (length (now t)) ⌝ }
+    requires { ⌜ NamesLow k (now t) ⌝ }
+    requires { ⌜ Fits l (length (now s)) ⌝ }
+    requires { ⌜ length (now joiners) ≡ 64 ⌝ }
+    ensures { λ _. ⌜ JoinersNoted k (now (t .entry)) (n .named) (held l (now (s .entry))) (n .named) (now (joiners .exit)) ⌝ }
+{
+    let mut i = 0;
+    while i < n.named {
+        let p = marked::at(s, l, state::NAMED, n.named, i);
+        note_joiner(t, k, s, l, joiners, p);
+        i += 1;
+    }
+}
+
+// A name is noted if it is flagged.
+fn note_name(s: &mut [u8], l: Limits, joiners: &[u8], m: usize, name: u16) -> usize
+    requires { ⌜ Fits l (length (now s)) ⌝ }
+    requires { ⌜ Marked 14 15 m (held l (now s)) × (name < 64) × (length (now joiners) ≡ 64) ⌝ }
+    ensures { λ r. ⌜ NotesIf (flagged (now (joiners .entry)) name) name m (held l (now (s .entry))) r (held l (now (s .exit))) ⌝ }
+{
+    if joiners[name as usize] == 0 {
+        return m;
+    }
+    goals::note(s, l, m, name)
+}
+
+// The flagged names of the named parts, each once, become the list at hand.
+fn gather_names(t: &[u8], k: Counts, s: &mut [u8], l: Limits, n: Counters, joiners: &[u8]) -> usize
     requires { ⌜ Laid k (length (now t)) ⌝ }
     requires { ⌜ NamesLow k (now t) ⌝ }
     requires { ⌜ Fits l (length (now s)) ⌝ }
     requires { ⌜ Marked 8 9 (n .named) (held l (now s)) ⌝ }
-    requires { ⌜ Marked 14 15 0 (held l (now s)) ⌝ }
-    ensures { λ r. ⌜ Gathers (namesOf k (now (t .entry)) (listed (n .named) 8 (held l (now (s .entry))))) (held l (now (s .entry))) r (held l (now (s .exit))) ⌝ }
+    requires { ⌜ Marked 14 15 0 (held l (now s)) × (length (now joiners) ≡ 64) ⌝ }
+    ensures { λ r. ⌜ Gathers (flaggedNames k (now (t .entry)) (now (joiners .entry)) (listed (n .named) 8 (held l (now (s .entry))))) (held l (now (s .entry))) r (held l (now (s .exit))) ⌝ }
 {
     let mut m = 0;
     let mut i = 0;
     while i < n.named {
         let p = marked::at(s, l, state::NAMED, n.named, i);
-        m = goals::note(s, l, m, tables::part_name(t, k, p as usize));
+        m = note_name(s, l, joiners, m, tables::part_name(t, k, p as usize));
         i += 1;
     }
     m
@@ -235,6 +279,35 @@ fn forget_named(s: &mut [u8], l: Limits, n: Counters) -> Counters
     let mut m = n;
     m.named = 0;
     m
+}
+
+// The named parts of the flagged names join, name by name as first named; then no part is named any more.
+fn join_flagged(
+    marks: &[u8],
+    unions: &[u8],
+    t: &[u8],
+    k: Counts,
+    s: &mut [u8],
+    clauses: &mut [u8],
+    l: Limits,
+    n: Counters,
+    r: Run,
+    joiners: &[u8],
+) -> Counters
+    requires { ⌜ Indexed k (now marks) (now unions) (now t) ⌝ }
+    requires { ⌜ WellFormed (catalogue k (now marks) (now unions) (now t)) ⌝ }
+    requires { ⌜ Fits l (length (now s)) ⌝ }
+    requires { ⌜ Good (catalogue k (now marks) (now unions) (now t)) l n (held l (now s)) (now clauses) [] ⌝ }
+    requires { ⌜ LongEnough l (length (now clauses)) 16384 ⌝ }
+    requires { ⌜ CanJoin n (held l (now s)) r ⌝ }
+    requires { ⌜ Marked 14 15 0 (held l (now s)) ⌝ }
+    requires { ⌜ JoinersNoted k (now t) (n .named) (held l (now s)) (n .named) (now joiners) × (length (now joiners) ≡ 64) ⌝ }
+    ensures { λ m. ⌜ ClausesDid (catalogue k (now (marks .entry)) (now (unions .entry)) (now (t .entry))) l (λ v. joinAll (catalogue k (now (marks .entry)) (now (unions .entry)) (now (t .entry))) (runOf r)) n (held l (now (s .entry))) (now (clauses .entry)) m (held l (now (s .exit))) (now (clauses .exit)) ⌝ }
+{
+    let names = gather_names(t, k, s, l, n, joiners);
+    let a = join_names(t, k, s, clauses, l, n, r, names);
+    goals::release(s, l, names);
+    forget_named(s, l, a)
 }
 
 // The named parts join, name by name as first named.
@@ -258,10 +331,9 @@ pub fn join_all(
     requires { ⌜ Marked 14 15 0 (held l (now s)) ⌝ }
     ensures { λ m. ⌜ ClausesDid (catalogue k (now (marks .entry)) (now (unions .entry)) (now (t .entry))) l (λ v. joinAll (catalogue k (now (marks .entry)) (now (unions .entry)) (now (t .entry))) (runOf r)) n (held l (now (s .entry))) (now (clauses .entry)) m (held l (now (s .exit))) (now (clauses .exit)) ⌝ }
 {
-    let names = gather_names(t, k, s, l, n);
-    let a = join_names(t, k, s, clauses, l, n, r, names);
-    goals::release(s, l, names);
-    forget_named(s, l, a)
+    let mut joiners = [0u8; 64];
+    note_joiners(t, k, s, l, n, &mut joiners);
+    join_flagged(marks, unions, t, k, s, clauses, l, n, r, &joiners)
 }
 
 // ---- new one-of-name variables

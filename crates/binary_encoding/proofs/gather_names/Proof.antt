@@ -1,4 +1,4 @@
--- `binary_encoding::gather_names` gathers the names of the named parts. The invariant: what is left of the list's making is the whole of it.
+-- `binary_encoding::gather_names` gathers the flagged names of the named parts. The invariant: what is left of the list's making is the whole of it.
 use borrow.Author.Needs.{needs}
 use Prim.Native.Nat.{_-_}
 use Rattle.binary_encoding.proofs.Track.{Gathering, gather-start, gather-low, gather-step, gather-end}
@@ -6,10 +6,10 @@ use Rattle.binary_encoding.proofs.gather_names.Statement.{statement}
 use Rattle.binary_encoding.proofs.gather_names.Tie as tie
 
 abbrev Inv-loop : tie.InvT-loop
-Inv-loop t k s₀ l n m₀ i₀ s m i = Gathering k t l n s₀ s m i
+Inv-loop t k s₀ l n joiners m₀ i₀ s m i = Gathering k t joiners l n s₀ s m i
 
 abbrev μ-loop : tie.MeasureT-loop
-μ-loop t k s₀ l n m₀ i₀ s m i = n .named - i
+μ-loop t k s₀ l n joiners m₀ i₀ s m i = n .named - i
 
 loop-holds : tie.Need-loop-holds Inv-loop μ-loop
 loop-holds c = search (needs, gather-start)
@@ -23,8 +23,8 @@ cast-part-name c = search needs
 part-name-requires : tie.Need-part-name-requires Inv-loop μ-loop
 part-name-requires c κs = search needs
 
-note-requires : tie.Need-note-requires Inv-loop μ-loop
-note-requires c κs = search (needs, gather-low)
+note-name-requires : tie.Need-note-name-requires Inv-loop μ-loop
+note-name-requires c κs = search (needs, gather-low)
 
 add-i : tie.Need-add-i Inv-loop μ-loop
 add-i c = search needs
@@ -51,7 +51,7 @@ gather-names-spec =
     at-requires
     cast-part-name
     part-name-requires
-    note-requires
+    note-name-requires
     add-i
     loop-less
     loop-again

@@ -1,21 +1,20 @@
 -- `binary_encoding::join_all` lets all named parts join, as `joinAll` says.
 use borrow.Author.Needs.{needs}
-use Rattle.state.proofs.Sizes.{fits-same}
-use Rattle.binary_encoding.proofs.Joined.{names-low, hand-good, hand-can, hand-marked, hand-named, joined-all}
+use Rattle.binary_encoding.proofs.Joined.{names-low}
 use Rattle.binary_encoding.proofs.join_all.Statement.{statement}
 use Rattle.binary_encoding.proofs.join_all.Tie as tie
 
-gather-names-requires : tie.Need-gather-names-requires
-gather-names-requires c κs = ((c .before .before .before .before .before .before .pre .0 .held .laid), (names-low _ _ _ _ ((c .before .before .before .before .before .before .pre .1 .0)), ((c .before .before .before .before .before .before .pre .1 .1 .0), ((c .before .before .before .before .before .before .pre .1 .1 .1 .0 .state .named), (c .before .before .before .before .before .before .pre .1 .1 .1 .1 .1 .1)))))
+slice-aggregate-note-joiners : tie.Need-slice-aggregate-note-joiners
+slice-aggregate-note-joiners c = search needs
 
-join-names-requires : tie.Need-join-names-requires
-join-names-requires c κs = ((c .before .before .before .before .before .before .before .before .before .before .before .pre .0 .held .laid), (names-low _ _ _ _ ((c .before .before .before .before .before .before .before .before .before .before .before .pre .1 .0)), (fits-same (search needs) ((c .before .before .before .before .before .before .before .before .before .before .before .pre .1 .1 .0)), (hand-good _ _ _ _ ((c .before .before .before .before .before .before .before .before .before .before .before .pre .1 .1 .1 .0)) ((c .before .before .before .before .gather-names .ensures .others)), ((c .before .before .before .before .before .before .before .before .before .before .before .pre .1 .1 .1 .1 .0), (hand-can ((c .before .before .before .before .gather-names .ensures .others)) ((c .before .before .before .before .before .before .before .before .before .before .before .pre .1 .1 .1 .1 .1 .0)), (c .before .before .before .before .gather-names .ensures .marked)))))))
+note-joiners-requires : tie.Need-note-joiners-requires
+note-joiners-requires c κs = (search needs, (search (needs, names-low), (search needs, search needs)))
 
-release-requires : tie.Need-release-requires
-release-requires c κs = (fits-same (search needs) ((c .before .before .before .before .before .before .before .before .before .before .before .before .before .before .before .before .before .pre .1 .1 .0)), hand-marked _ _ _ _ ((c .before .before .before .before .before .before .before .before .before .before .before .before .before .before .before .before .before .pre .1 .1 .1 .0)) ((c .before .before .before .before .before .before .before .before .before .before .gather-names .ensures .others)) _ ((c .before .before .before .before .before .before .before .before .before .before .gather-names .ensures .marked)) ((c .before .before .before .before .before .join-names .ensures)))
+slice-aggregate-join-flagged : tie.Need-slice-aggregate-join-flagged
+slice-aggregate-join-flagged c = search needs
 
-forget-named-requires : tie.Need-forget-named-requires
-forget-named-requires c κs = (fits-same (search needs) ((c .before .before .before .before .before .before .before .before .before .before .before .before .before .before .before .before .before .before .before .before .before .pre .1 .1 .0)), hand-named _ _ _ _ ((c .before .before .before .before .before .before .before .before .before .before .before .before .before .before .before .before .before .before .before .before .before .pre .1 .1 .1 .0)) ((c .before .before .before .before .before .before .before .before .before .before .before .before .before .before .gather-names .ensures .others)) _ ((c .before .before .before .before .before .before .before .before .before .before .before .before .before .before .gather-names .ensures .marked)) ((c .before .before .before .before .before .before .before .before .before .join-names .ensures)) ((c .before .before .before .release .ensures)))
+join-flagged-requires : tie.Need-join-flagged-requires
+join-flagged-requires c κs = (search needs, (search needs, (search needs, (search needs, (search needs, (search needs, (search needs, search needs)))))))
 
 same-length : tie.Need-same-length
 same-length c = search needs
@@ -24,16 +23,16 @@ same-length-2 : tie.Need-same-length-2
 same-length-2 c = search needs
 
 returns : tie.Need-returns
-returns c = joined-all _ _ _ _ _ ((c .before .before .before .before .before .before .before .before .before .before .before .before .before .before .before .before .before .before .before .before .before .before .before .before .pre .1 .1 .1 .1 .1 .1)) ((c .before .before .before .before .before .before .before .before .before .before .before .before .before .before .before .before .before .gather-names .ensures)) ((c .before .before .before .before .before .before .before .before .before .before .before .before .join-names .ensures)) ((c .before .before .before .before .before .before .release .ensures)) ((c .before .before .forget-named .ensures))
+returns c = search needs
 
 pub join-all-spec : {M : Type 1} → statement M
 join-all-spec =
     tie.close
     (tie.spec
-    gather-names-requires
-    join-names-requires
-    release-requires
-    forget-named-requires
+    slice-aggregate-note-joiners
+    note-joiners-requires
+    slice-aggregate-join-flagged
+    join-flagged-requires
     same-length
     same-length-2
     returns)
