@@ -2,13 +2,12 @@
 use mathlib.Core.Path.{_≡_, refl, sym, _∙_}
 use mathlib.Core.Bool.{true}
 use mathlib.Core.List.{List, [], _∷_, _++_, map, map-append}
-use Prim.Native.Nat.{ℕ, zero, suc, _+_, _-_, _/_, _%_, _^_, _<_, _≤_, zero-le}
+use Prim.Native.Nat.{ℕ, zero, suc, _+_, _*_, _-_, _/_, _%_, _^_, _<_, _≤_, zero-le}
 use native.Mathlib.Nat.{div-div-eq-div-mul, div-one, pow-suc, mul-comm, not-suc-le-zero}
 use native.Mathlib.Numerals.{add-one}
 use native.Mathlib.Decide.{decLt}
 use native.Mathlib.Omega.{arith}
 use lib.Dec.{eqb}
-use lib.Pow.{pow-pos}
 use lib.ListN.{length, getD, take, set, replicate, length-map, length-append}
 use lib.Seq.{take-suc-set, length-take-le}
 use borrow.Author.Tests.{eqb-true, lt-ltb}
@@ -34,27 +33,18 @@ use Rattle.tracking.proofs.Steps.{any-named, names-none, names-more, na
 
 -- ---- powers of two
 
-abbrev pub powers : List ℕ
-powers = 1 ∷ 2 ∷ 4 ∷ 8 ∷ 16 ∷ 32 ∷ 64 ∷ 128 ∷ 256 ∷ 512 ∷ 1024 ∷ []
-
-pub power-is : (j : ℕ) → j < 11 → getD powers j 0 ≡ 2 ^ j
+pub power-is : (j : ℕ) → j < 11 → 1 * 2 ^ j % 65536 ≡ 2 ^ j
 power-is j h =
-    eqb-true (getD powers j 0) (2 ^ j)
-    (all-out (λ n. eqb (getD powers n 0) (2 ^ n)) (upTo 0 11) (unfold computing in refl) j (upTo-in 0 11 j (omega arith) (omega arith)))
-
-pub power-some : (j : ℕ) → j < 11 → 0 < getD powers j 0
-power-some j h = rw (power-is j h) (pow-pos j)
+    eqb-true (1 * 2 ^ j % 65536) (2 ^ j)
+    (all-out (λ n. eqb (1 * 2 ^ n % 65536) (2 ^ n)) (upTo 0 11) (unfold computing in refl) j (upTo-in 0 11 j (omega arith) (omega arith)))
 
 half-power : (j i : ℕ) → i / 2 / 2 ^ j ≡ i / 2 ^ suc j
 half-power j i = div-div-eq-div-mul i 2 (2 ^ j) ∙ rw (pow-suc 2 j, mul-comm (2 ^ j) 2)
 
-bit-by-power : (j i : ℕ) → eqb (i / 2 ^ j % 2) 1 ≡ bit j i
+pub bit-is : (j i : ℕ) → eqb (i / 2 ^ j % 2) 1 ≡ bit j i
 unfolding bit
-bit-by-power zero i = rw div-one
-bit-by-power (suc j) i = rw (← half-power j i) (bit-by-power j (i / 2))
-
-pub bit-is : (j i : ℕ) → j < 11 → eqb (i / getD powers j 0 % 2) 1 ≡ bit j i
-bit-is j i h = rw (power-is j h) (bit-by-power j i)
+bit-is zero i = rw div-one
+bit-is (suc j) i = rw (← half-power j i) (bit-is j (i / 2))
 
 -- ---- how many helpers
 
@@ -75,12 +65,12 @@ least-is {k} {h} f c =
     ]
 
 module _ {k h : ℕ} (f : Fewer k h) where
-  pub fewer-found : h < 10 → k ≤ getD powers h 0 → h ≡ helpersFor k
-  fewer-found l c = least-is f (rw (power-is h (omega arith)) at c)
+  pub fewer-found : {x : ℕ} → x ≡ 2 ^ h → k ≤ x → h ≡ helpersFor k
+  fewer-found e c = least-is f (rw e at c)
 
-  pub fewer-step : h < 10 → getD powers h 0 < k → Fewer k (h + 1)
-  fewer-step l c =
-      let now : 2 ^ h < k = rw (power-is h (omega arith)) at c in
+  pub fewer-step : {x : ℕ} → h < 10 → x ≡ 2 ^ h → x < k → Fewer k (h + 1)
+  fewer-step l e c =
+      let now : 2 ^ h < k = rw e at c in
       record { low = omega arith; more = λ g q. elim (decLt g h) [ yes w ↦ f .more g w | no w ↦ let e : g ≡ h = omega arith in rw e now ] }
 
   pub fewer-end : 10 ≤ h → k ≤ 1024 → 10 ≡ helpersFor k

@@ -5,7 +5,7 @@ use mathlib.Core.List.{List, [], _∷_, _++_, map}
 use Prim.Native.Nat.{ℕ, suc, _+_, _<_, _≤_}
 use lib.Dec.{eqb, ltb}
 use lib.ListN.{length, getD, take, drop}
-use Rattle.rules.specs.Lists.{filter, elem, snoc, concatMap, fold, when, listIf, upTo, distinct}
+use Rattle.rules.specs.Lists.{filter, elem, snoc, concatMap, fold, when, listIf, upTo}
 use Rattle.rules.specs.Clause.{Clause, anyOne}
 use Rattle.rules.specs.AtMostOne.{helpersFor, helpersClauses, partClauses}
 use Rattle.rules.specs.Catalogue.{root, noPart, Catalogue, nameOf}
@@ -97,10 +97,6 @@ partName k t p = (getD (tables k t .parts) p noPart) .name
 -- of these parts, those of this name
 unfoldable pub ofName : Counts → (t : List ℕ) (name : ℕ) → List ℕ → List ℕ
 ofName k t name ps = filter (λ p. eqb (partName k t p) name) ps
-
--- the names of these parts, each once
-unfoldable pub namesOf : Counts → (t : List ℕ) → List ℕ → List ℕ
-namesOf k t ps = distinct (map (partName k t) ps)
 
 -- there are 64 names at most
 pub record NamesLow (k : Counts) (t : List ℕ) : Type 0 where

@@ -7,7 +7,7 @@ use state::Limits;
 use tables::Counts;
 ghost use mathlib.Core.Path.{_≡_};
 ghost use mathlib.Core.List.{[], _∷_, _++_};
-ghost use Prim.Native.Nat.{_+_, _<_, _≤_};
+ghost use Prim.Native.Nat.{_+_, _^_, _<_, _≤_};
 ghost use lib.ListN.{length, getD};
 ghost use Rattle.rules.specs.AtMostOne.{agrees, helpersFor, helperClauses, partClauses};
 ghost use Rattle.rules.specs.AtMostOne as rules;
@@ -28,14 +28,20 @@ pub struct Tracker {
 
 // ---- helpers
 
-const POWERS: [u16; 11] = [1, 2, 4, 8, 16, 32, 64, 128, 256, 512, 1024];
+// 2 to the power j.
+fn power_of(j: usize) -> u16
+    requires { ⌜ j < 11 ⌝ }
+    ensures { λ x. ⌜ x ≡ 2 ^ j ⌝ }
+{
+    1 << j
+}
 
 // Bit j of i.
 fn bit(j: usize, i: u16) -> bool
     requires { ⌜ j < 11 ⌝ }
     ensures { λ b. ⌜ b ≡ rules.bit j i ⌝ }
 {
-    i / POWERS[j] % 2 == 1
+    (i >> j) % 2 == 1
 }
 
 // How many helpers k tracked parts have.
@@ -45,7 +51,7 @@ pub fn helpers_for(k: u16) -> usize
 {
     let mut h = 0;
     while h < 10 {
-        if k <= POWERS[h] {
+        if k <= power_of(h) {
             return h;
         }
         h += 1;

@@ -14,11 +14,8 @@ abbrev μ-loop : tie.MeasureT-loop
 loop-holds : tie.Need-loop-holds Inv-loop μ-loop
 loop-holds c = search (needs, fewer-start)
 
-mul-if1 : tie.Need-mul-if1 Inv-loop μ-loop
-mul-if1 c = search needs
-
-array-read-if1 : tie.Need-array-read-if1 Inv-loop μ-loop
-array-read-if1 c = search needs
+power-of-requires : tie.Need-power-of-requires Inv-loop μ-loop
+power-of-requires c κs = search needs
 
 returns : tie.Need-returns Inv-loop μ-loop
 returns c = search (needs, fewer-found)
@@ -42,8 +39,7 @@ helpers-for-spec =
     Inv-loop
     μ-loop
     loop-holds
-    mul-if1
-    array-read-if1
+    power-of-requires
     returns
     add-h
     loop-less
