@@ -16,7 +16,7 @@ use Rattle.rules.specs.Catalogue.{Catalogue, partAt, goalAt}
 use Rattle.rules.specs.Candidates.{matching, favouredFirst, sorted, goalRanges, candidates}
 use Rattle.rules.specs.Decisions.{Decision, evaluate, isFalsified, isFalse, allFalse}
 use Rattle.rules.specs.Variables.{Origin, known, partVariable}
-use Rattle.rules.proofs.Bools.{and-false}
+use Rattle.rules.proofs.Bools.{by-cases, and-false}
 use Rattle.rules.proofs.Each.{each-in, each-out}
 use Rattle.rules.proofs.Membership.{_⊆_, in-left, in-right, in-either, filter-within, filter-either, concatMap-in, concatMap-out, distinct-in}
 use Rattle.rules.proofs.DistinctEnough.{distinct-out, all-same}
@@ -151,7 +151,7 @@ module _ {c : Catalogue} {q ranges : ℕ} {st : ℕ → List ℕ} (a : AtHand c 
   literalsOf = literalsIn w start count ++ map pos (map (partVariable vs) (candidates c (goalAt c q)))
 
   -- no literal at all
-  pub rest-none : (b : Bool) → b ≡ not (eqb (length (concatMap (matching c) (listed ranges 14 st))) 0) → b ≡ false → count ≡ 0 → false ≡ allFalse ds literalsOf
+  rest-none : (b : Bool) → b ≡ not (eqb (length (concatMap (matching c) (listed ranges 14 st))) 0) → b ≡ false → count ≡ 0 → false ≡ allFalse ds literalsOf
   rest-none b e n z =
       let ms = concatMap (matching c) (listed ranges 14 st) in
       let g : ms ≡ [] = no-element ms (eqb-true (length ms) 0 (not-false (eqb (length ms) 0) (sym e ∙ n))) in
@@ -188,7 +188,7 @@ module _ {c : Catalogue} {q ranges : ℕ} {st : ℕ → List ℕ} (a : AtHand c 
       long = unfold literalsIn in rw (length-map, length-take-le count (drop start w) (rw length-drop (omega arith))) (omega arith)
 
   -- there are candidates, and no literals of the condition
-  pub rest-short : (b z : Bool) → b ≡ not (eqb (length (concatMap (matching c) (listed ranges 14 st))) 0) → b ≡ true → count ≡ 0
+  rest-short : (b z : Bool) → b ≡ not (eqb (length (concatMap (matching c) (listed ranges 14 st))) 0) → b ≡ true → count ≡ 0
       → z ≡ all (falseOf vs ds) (concatMap (matching c) (listed ranges 14 st)) → z ≡ allFalse ds literalsOf
   rest-short b z e n k f = rest-is (some-right (literalsIn w start count) _ (some-there (candidates c (goalAt c q)) present)) true z nothing refl f
     where
@@ -204,6 +204,17 @@ module _ {c : Catalogue} {q ranges : ℕ} {st : ℕ → List ℕ} (a : AtHand c 
           let g : concatMap (matching c) (listed ranges 14 st) ≡ [] = within-none (concatMap (matching c) (listed ranges 14 st)) (λ x m. rw i at (hand-within a x m)) in
           let d : b ≡ false = e ∙ rw g in
           true≢false (sym n ∙ d)
+
+  -- no literals of the condition: all candidates are decided false, and there are some or not
+  pub rest-all : (b z : Bool) → z ≡ all (falseOf vs ds) (concatMap (matching c) (listed ranges 14 st)) → z ≡ true
+      → b ≡ not (eqb (length (concatMap (matching c) (listed ranges 14 st))) 0) → count ≡ 0 → b ≡ allFalse ds literalsOf
+  rest-all b z f t e k = by-cases b (λ y. y ∙ (sym t ∙ rest-short b z e y k f)) (λ y. y ∙ rest-none b e y k)
+
+  -- or one is not
+  pub rest-some : (z : Bool) → z ≡ all (falseOf vs ds) (concatMap (matching c) (listed ranges 14 st)) → z ≡ false → count ≡ 0 → false ≡ allFalse ds literalsOf
+  rest-some z f t k =
+      let b = not (eqb (length (concatMap (matching c) (listed ranges 14 st))) 0) in
+      by-cases b (λ y. sym t ∙ rest-short b z refl y k f) (λ y. rest-none b refl y k)
 
 -- the same of the code's area
 pub rest-held : {c : Catalogue} {q ranges : ℕ} {l : Limits} (b : List ℕ) → AtHand c q ranges (held l b) → (ds : List Decision) (vs : List Origin) (start count : ℕ) → Fits l (length b)

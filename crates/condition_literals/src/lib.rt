@@ -213,8 +213,8 @@ pub fn rest_false(
     ensures { λ b. ⌜ b ≡ allFalse (decisions (n .decisions) (held l (now (s .entry)))) (literalsIn ((held l (now (s .entry))) 19) (n .literals) count ++ map pos (map (partVariable (variables (n .variables) (held l (now (s .entry))))) (candidates (catalogue k (now (marks .entry)) (now (unions .entry)) (now (t .entry))) (goalAt (catalogue k (now (marks .entry)) (now (unions .entry)) (now (t .entry))) q)))) ⌝ }
 {
     if count == 0 {
-        if goals::some_candidate(marks, unions, t, k, s, l, ranges) {
-            return goals::all_false(marks, unions, t, k, s, l, n, ranges);
+        if goals::all_false(marks, unions, t, k, s, l, n, ranges) {
+            return goals::some_candidate(marks, unions, t, k, s, l, ranges);
         }
         return false;
     }

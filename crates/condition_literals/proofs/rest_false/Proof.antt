@@ -1,20 +1,20 @@
 -- `condition_literals::rest_false` tells whether there are literals beside the owner's, and all are decided false.
 use borrow.Author.Needs.{needs}
-use Rattle.condition_literals.proofs.Falsified.{hand-known, rest-none, rest-fails, rest-short, rest-held}
+use Rattle.condition_literals.proofs.Falsified.{hand-known, rest-all, rest-some, rest-fails, rest-held}
 use Rattle.condition_literals.proofs.rest_false.Statement.{statement}
 use Rattle.condition_literals.proofs.rest_false.Tie as tie
-
-some-candidate-requires : tie.Need-some-candidate-requires
-some-candidate-requires c κs = search needs
 
 all-false-requires : tie.Need-all-false-requires
 all-false-requires c κs = (search needs, (search needs, (search needs, (search needs, search (needs, hand-known)))))
 
+some-candidate-requires : tie.Need-some-candidate-requires
+some-candidate-requires c κs = search needs
+
 returns : tie.Need-returns
-returns c = search (needs, rest-short)
+returns c = search (needs, rest-all)
 
 returns-2 : tie.Need-returns-2
-returns-2 c = search (needs, rest-none)
+returns-2 c = search (needs, rest-some)
 
 literals-false-requires : tie.Need-literals-false-requires
 literals-false-requires c κs = search needs
@@ -32,8 +32,8 @@ pub rest-false-spec : {M : Type 1} → statement M
 rest-false-spec =
     tie.close
     (tie.spec
-    some-candidate-requires
     all-false-requires
+    some-candidate-requires
     returns
     returns-2
     literals-false-requires
