@@ -3,7 +3,7 @@ use mathlib.Core.Path.{_≡_, refl, sym, _∙_}
 use mathlib.Core.List.{List, map}
 use Prim.Native.Nat.{ℕ, zero, suc, _+_, _*_, _<_, _≤_}
 use native.Mathlib.Omega.{arith}
-use lib.ListN.{length, getD, set, drop, length-set}
+use lib.ListN.{length, getD, set, length-set}
 use lib.Seq.{getD-set-same, getD-set-other}
 use Rattle.rules.specs.Lists.{upTo}
 use Rattle.words.specs.Words.{words, words-in}
@@ -60,15 +60,6 @@ module _ (l : Limits) (n i : ℕ) (b : List ℕ) (e : Entry) (h : i < n) where
   unfolding drawnIn
   drawn-is d = d ∙ sym (row-at (λ k. rowAt b (l .waiting + k)) noEntry n i h)
 
-module _ {A : Type 0} (f g : ℕ → A) where
-  -- from place i on
-  drop-same : (a i k : ℕ) → ((j : ℕ) → a + i ≤ j → f j ≡ g j) → drop i (map f (upTo a k)) ≡ drop i (map g (upTo a k))
-  unfolding upTo
-  drop-same a zero zero h = refl
-  drop-same a zero (suc k) h = rw (h a (omega arith), drop-same (suc a) zero k (λ j m. h j (omega arith)))
-  drop-same a (suc i) zero h = refl
-  drop-same a (suc i) (suc k) h = drop-same (suc a) i k (λ j m. h j (omega arith))
-
 module _ {n : ℕ} {x : ℕ × ℕ} {b b′ : List ℕ} (l : Limits) (h : n < l .waiting) where
   pub push-waiting-is : RowSet n x b b′ → PushedWaiting l n x b (n + 1) b′
   unfolding waitingIn drawnIn
@@ -76,7 +67,6 @@ module _ {n : ℕ} {x : ℕ × ℕ} {b b′ : List ℕ} (l : Limits) (h : n < l 
       record {
         count = refl;
         waiting = rows-more (λ i. rowAt b′ i) n ∙ rw (r .there, rows-same (λ i. rowAt b′ i) (λ i. rowAt b i) n (λ i m. r .others i (λ e. omega arith)));
-        rest = λ i k m. drop-same (λ j. rowAt b′ j) (λ j. rowAt b j) 0 i k (λ j g. r .others j (λ e. omega arith));
         drawn = λ k. rows-same (λ i. rowAt b′ (l .waiting + i)) (λ i. rowAt b (l .waiting + i)) k (λ i m. r .others (l .waiting + i) (λ e. omega arith));
       }
 

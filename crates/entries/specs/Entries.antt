@@ -2,7 +2,7 @@
 use mathlib.Core.Path.{_≡_}
 use mathlib.Core.List.{List, map}
 use Prim.Native.Nat.{ℕ, _+_, _*_, _<_, _≤_}
-use lib.ListN.{getD, drop}
+use lib.ListN.{getD}
 use Rattle.rules.specs.Lists.{snoc, upTo}
 use Rattle.words.specs.Words.{words}
 use Rattle.state.specs.declared.Limits.{Limits}
@@ -40,7 +40,6 @@ drawnIn l n bytes = map (λ i. rowAt bytes (l .waiting + i)) (upTo 0 n)
 pub record PushedWaiting (l : Limits) (n : ℕ) (x : ℕ × ℕ) (b : List ℕ) (n′ : ℕ) (b′ : List ℕ) : Type 0 where
   pub count : n′ ≡ n + 1
   pub waiting : waitingIn l n′ b′ ≡ snoc (waitingIn l n b) x
-  pub rest : (i k : ℕ) → n < i → drop i (waitingIn l k b′) ≡ drop i (waitingIn l k b)
   pub drawn : (k : ℕ) → drawnIn l k b′ ≡ drawnIn l k b
 
 -- one more is drawn

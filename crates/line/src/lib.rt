@@ -5,7 +5,7 @@ ghost use Prim.Native.Nat.{_+_, _<_};
 ghost use lib.ListN.{length};
 ghost use Rattle.state.specs.Layout.{held, Fits};
 ghost use Rattle.line.specs.Line.{lineAt, Queued};
-ghost use Rattle.line.specs.Tasks.{numberOf, taskOf, InRange};
+ghost use Rattle.line.specs.Tasks.{taskOf};
 
 // By number: an owner's is its part's, or 1,024 for the root; a drawn entry's is its place among the drawn ones.
 pub enum Task {
@@ -55,18 +55,4 @@ pub fn task_of(number: u16) -> Task
         return Task::Constraint(number - 3137);
     }
     Task::Drawn(number - 3649)
-}
-
-pub fn number_of(task: Task) -> u16
-    requires { ⌜ InRange task ⌝ }
-    ensures { λ x. ⌜ x ≡ numberOf task ⌝ }
-{
-    match task {
-        Task::Owner(o) => o,
-        Task::Name(n) => 1025 + n,
-        Task::Condition(q) => 1089 + q,
-        Task::Requirement(q) => 2113 + q,
-        Task::Constraint(k) => 3137 + k,
-        Task::Drawn(e) => 3649 + e,
-    }
 }

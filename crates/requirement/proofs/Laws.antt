@@ -1,18 +1,12 @@
 -- Requirements against the definitions: a law for each way out of each method.
-use mathlib.Core.Path.{_≡_, refl, ap}
-use mathlib.Core.Bool.{Bool, true, false, not, cond}
-use mathlib.Core.Option.{none, some}
+use mathlib.Core.Path.{_≡_, refl}
 use Prim.Native.Nat.{ℕ}
-use lib.Dec.{eqb}
 use borrow.Author.Tests.{ne-eqb}
-use Rattle.rules.specs.Catalogue.{Goal, range, union, root, part, sameOwner}
-use Rattle.rules.specs.Conditions.{isNone}
-use Rattle.rules.specs.Items.{ownerOf, conditionOf}
+use Rattle.rules.specs.Catalogue.{Goal, range, union}
 use Rattle.rules.specs.Items as rules
 use Rattle.requirement.specs.declared.Requirement.{Requirement}
 use Rattle.requirement.specs.declared.Requirement.the-variants.{Single, Union}
-use Rattle.requirement.specs.declared.ConditionalRequirement.{ConditionalRequirement}
-use Rattle.requirement.specs.Requirements.{goalOf, requirementIs, formOf, numberOf}
+use Rattle.requirement.specs.Requirements.{goalOf, formOf, numberOf}
 
 pub range-made : (f n : ℕ) → f ≡ 0 → goalOf (Single n) ≡ rules.goalOf f n
 unfolding goalOf rules.goalOf
@@ -44,20 +38,3 @@ pub goal-from-parts : (g : Goal) → rules.goalOf (formOf g) (numberOf g) ≡ g
 unfolding formOf numberOf rules.goalOf
 goal-from-parts (range r) = refl
 goal-from-parts (union u) = refl
-
-module _ (q : ConditionalRequirement) where
-  pub conditional-is : not (eqb (q .condition) 65535) ≡ not (isNone ((requirementIs q) .condition))
-  unfolding requirementIs conditionOf
-  conditional-is = ap not (tested (eqb (q .condition) 65535))
-    where
-      tested : (b : Bool) → b ≡ isNone (cond b none (some (q .condition)))
-      tested true = refl
-      tested false = refl
-
-  pub of-root-is : eqb (q .owner) 65535 ≡ sameOwner ((requirementIs q) .owner) root
-  unfolding requirementIs ownerOf
-  of-root-is = tested (eqb (q .owner) 65535)
-    where
-      tested : (b : Bool) → b ≡ sameOwner (cond b root (part (q .owner))) root
-      tested true = refl
-      tested false = refl

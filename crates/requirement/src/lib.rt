@@ -1,10 +1,7 @@
 // Requirements, after requirement.rs and conditional_requirement.rs: a goal, and a goal with its owner and condition.
 ghost use mathlib.Core.Path.{_≡_};
-ghost use mathlib.Core.Bool.{not};
-ghost use Rattle.rules.specs.Catalogue.{root, sameOwner};
-ghost use Rattle.rules.specs.Conditions.{isNone};
 ghost use Rattle.rules.specs.Items as rules;
-ghost use Rattle.requirement.specs.Requirements.{goalOf, formOf, numberOf, requirementIs};
+ghost use Rattle.requirement.specs.Requirements.{goalOf, formOf, numberOf};
 
 // What is asked for: a range or a union, by its number.
 pub enum Requirement {
@@ -47,20 +44,5 @@ impl Requirement {
             Requirement::Single(range) => range,
             Requirement::Union(union) => union,
         }
-    }
-}
-
-impl ConditionalRequirement {
-    pub fn conditional(self) -> bool
-        ensures { λ r. ⌜ r ≡ not (isNone ((requirementIs self) .condition)) ⌝ }
-    {
-        self.condition != 65535
-    }
-
-    // Is its owner the root?
-    pub fn of_root(self) -> bool
-        ensures { λ r. ⌜ r ≡ sameOwner ((requirementIs self) .owner) root ⌝ }
-    {
-        self.owner == 65535
     }
 }

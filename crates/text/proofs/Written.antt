@@ -141,10 +141,6 @@ unfolding fields concatMap
 fields-append [] gs = refl
 fields-append (f ∷ fs) gs = ap (λ (l : List ℕ). 32 ∷ l) (ap (λ (l : List ℕ). f ++ l) (fields-append fs gs) ∙ sym (append-assoc f (fields fs) (fields gs)))
 
-pub fields-none : (room at : ℕ) (o : List ℕ) → Wrote at at (fields []) room o o
-unfolding fields concatMap
-fields-none room at o = nothing room at o
-
 pub fields-one : {room at r : ℕ} {o o1 f : List ℕ} → Wrote at r (32 ∷ f) room o o1 → Wrote at r (fields (f ∷ [])) room o o1
 unfolding fields concatMap
 fields-one w = rw append-nil w
@@ -155,9 +151,6 @@ module _ {room at r : ℕ} {o o1 : List ℕ} where
     unfolding fields concatMap
     fields-first v w = then v w
 
-    pub fields-last : Wrote at r (fields fs) room o o1 → Wrote r s (32 ∷ f) room o1 o2 → Wrote at s (fields (fs ++ (f ∷ []))) room o o2
-    fields-last v w = rw (fields-append fs (f ∷ [])) (then v (fields-one w))
-
     pub line-is : {t : ℕ} {o3 : List ℕ} → Wrote at r f room o o1 → Wrote r s (fields fs) room o1 o2 → Wrote s t (10 ∷ []) room o2 o3 → Wrote at t (line (f ∷ fs)) room o o3
     line-is u v w = rw (line-of f fs) (then u (then v w))
 
@@ -165,13 +158,6 @@ module _ {room at r : ℕ} {o o1 : List ℕ} where
   fields-then fs gs v w = rw (fields-append fs gs) (then v w)
 
 -- ---- two passes
-
--- what the two passes over the same bytes leave: the pass that measures says whether they fit and gives their number, the other the area
-pub record Passed (area bs : List ℕ) (n : ℕ) (area′ : List ℕ) : Type 0 where
-  pub fits : n ≤ length area → length bs ≤ length area
-  pub tight : length bs ≤ length area → n ≤ length area
-  pub count : n ≤ length area → n ≡ length bs
-  pub is : n ≤ length area → area′ ≡ bs ++ drop (length bs) area
 
 module _ (room : ℕ) (bs z z′ : List ℕ) (n : ℕ) (f : Wrote 0 n bs room z z′) where
   pub measured : length bs ≤ room → n ≡ length bs
@@ -188,13 +174,3 @@ written area bs area′ r g h =
     let q : 0 + length bs ≤ length area = omega arith in
     let d : 0 + length bs ≡ length bs = omega arith in
     is g ∙ rw (take-all (length area - 0) bs (omega arith)) (sets-eq bs area 0 q ∙ rw d)
-
-pub two-passes : {bs z z′ area area′ : List ℕ} {n r : ℕ} → Wrote 0 n bs (length area) z z′ → Wrote 0 r bs (length area) area area′ → Passed area bs n area′
-two-passes {bs} {z} {z′} {area} {area′} {n} {r} f g =
-    let k = fits (length area) bs z z′ n f in
-    record {
-      fits = k;
-      tight = λ h. omega (arith, measured (length area) bs z z′ n f h);
-      count = λ h. measured (length area) bs z z′ n f (k h);
-      is = λ h. written area bs area′ r g (k h);
-    }
