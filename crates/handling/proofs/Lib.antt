@@ -5,4 +5,5 @@ pub mod Required
 pub mod Owning
 pub mod Adding
 pub mod Steps
+pub mod Settled
 pub mod Serving

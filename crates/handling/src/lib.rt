@@ -12,7 +12,9 @@ ghost use mathlib.Core.Bool.{true, false};
 ghost use mathlib.Core.List.{[]};
 ghost use Prim.Native.Nat.{_<_};
 ghost use lib.ListN.{length};
+ghost use Rattle.rules.specs.Lists.{distinct};
 ghost use Rattle.rules.specs.Catalogue.{goalAt};
+ghost use Rattle.rules.specs.Candidates.{goalRanges};
 ghost use Rattle.rules.specs.Conditions.{disjunctAt, disjunctsOf, unconditional};
 ghost use Rattle.rules.specs.Opening.{requirement};
 ghost use Rattle.rules.specs.Variables.{gate};
@@ -27,6 +29,7 @@ ghost use Rattle.goals.specs.Goals.{Catalogued};
 ghost use Rattle.owners.specs.Owners.{serving};
 ghost use Rattle.firing.specs.Firing.{indicesIn};
 ghost use Rattle.naming.specs.Naming.{nameDisjuncts, GivenIndices};
+ghost use Rattle.naming.specs.Settled.{Settles};
 ghost use Rattle.condition_literals.specs.Literals.{AtHand, ownerOrigin, Named, Found, FiredKnown, DisjunctKnown};
 ghost use Rattle.handling.specs.Handling.{addDirect, addGate, addThroughGate, addFired, addAllFired, addUnconditional, handled};
 
@@ -329,7 +332,7 @@ fn handle_unconditional(
     add_through_gate(marks, unions, t, k, s, clauses, l, n, r, q, ranges)
 }
 
-// Its goal's ranges being at hand.
+// Its goal's ranges being at hand. Candidates that are known to be settled are not named again.
 fn handle(
     marks: &[u8],
     unions: &[u8],
@@ -343,6 +346,7 @@ fn handle(
     q: usize,
     is: Indices,
     ranges: usize,
+    settled: bool,
 ) -> Counters
     requires { ⌜ Catalogued k (now marks) (now unions) (now t) ⌝ }
     requires { ⌜ Fits l (length (now s)) ⌝ }
@@ -351,6 +355,7 @@ fn handle(
     requires { ⌜ (q < k .requirements) × (0 < r .number) ⌝ }
     requires { ⌜ AtHand (catalogue k (now marks) (now unions) (now t)) q ranges (held l (now s)) ⌝ }
     requires { ⌜ GivenIndices (catalogue k (now marks) (now unions) (now t)) q is ⌝ }
+    requires { ⌜ (settled ≡ true → Settles (catalogue k (now marks) (now unions) (now t)) l (distinct (goalRanges (catalogue k (now marks) (now unions) (now t)) (goalAt (catalogue k (now marks) (now unions) (now t)) q))) n (held l (now s))) ⌝ }
     ensures { λ m. ⌜ ClausesDid (catalogue k (now (marks .entry)) (now (unions .entry)) (now (t .entry))) l (λ v. handled (catalogue k (now (marks .entry)) (now (unions .entry)) (now (t .entry))) (runOf r) q (indicesIn is)) n (held l (now (s .entry))) (now (clauses .entry)) m (held l (now (s .exit))) (now (clauses .exit)) ⌝ }
 {
     let it = tables::requirement_at(t, k, q);
@@ -360,7 +365,7 @@ fn handle(
         n,
         owners::owner_origin(owners::owner_number(it.owner)),
     );
-    let b = naming::all_candidates(marks, unions, t, k, s, l, a, ranges);
+    let b = naming::name_candidates(marks, unions, t, k, s, l, a, ranges, settled);
     if b.full {
         return b;
     }
@@ -370,7 +375,7 @@ fn handle(
     handle_conditional(marks, unions, t, k, s, clauses, l, b, r, q, ranges, is)
 }
 
-// Requirement q is handled for these disjuncts.
+// Requirement q is handled for these disjuncts. `settled`: its candidates are known to be settled.
 pub fn serve_requirement(
     marks: &[u8],
     unions: &[u8],
@@ -383,6 +388,7 @@ pub fn serve_requirement(
     r: Run,
     q: usize,
     is: Indices,
+    settled: bool,
 ) -> Counters
     requires { ⌜ Catalogued k (now marks) (now unions) (now t) ⌝ }
     requires { ⌜ Fits l (length (now s)) ⌝ }
@@ -391,12 +397,27 @@ pub fn serve_requirement(
     requires { ⌜ (q < k .requirements) × (0 < r .number) ⌝ }
     requires { ⌜ Marked 14 15 0 (held l (now s)) ⌝ }
     requires { ⌜ GivenIndices (catalogue k (now marks) (now unions) (now t)) q is ⌝ }
+    requires { ⌜ (settled ≡ true → Settles (catalogue k (now marks) (now unions) (now t)) l (distinct (goalRanges (catalogue k (now marks) (now unions) (now t)) (goalAt (catalogue k (now marks) (now unions) (now t)) q))) n (held l (now s))) ⌝ }
     ensures { λ m. ⌜ ClausesDid (catalogue k (now (marks .entry)) (now (unions .entry)) (now (t .entry))) l (λ v. serving (catalogue k (now (marks .entry)) (now (unions .entry)) (now (t .entry))) (runOf r) (requirement q (indicesIn is))) n (held l (now (s .entry))) (now (clauses .entry)) m (held l (now (s .exit))) (now (clauses .exit)) ⌝ }
 {
     let it = tables::requirement_at(t, k, q);
     let goal = it.requirement;
     let ranges = goals::gather(marks, unions, t, k, s, l, goal);
-    let m = handle(marks, unions, t, k, s, clauses, l, n, r, q, is, ranges);
+    let m = handle(
+        marks,
+        unions,
+        t,
+        k,
+        s,
+        clauses,
+        l,
+        n,
+        r,
+        q,
+        is,
+        ranges,
+        settled,
+    );
     goals::release(s, l, ranges);
     m
 }

@@ -7,7 +7,7 @@ use parts::Parts;
 use state::Limits;
 use tables::Counts;
 ghost use mathlib.Core.Path.{_≡_};
-ghost use mathlib.Core.Bool.{false};
+ghost use mathlib.Core.Bool.{true, false};
 ghost use Prim.Native.Nat.{_<_};
 ghost use lib.ListN.{length};
 ghost use Rattle.rules.specs.Lists.{fold};
@@ -23,6 +23,7 @@ ghost use Rattle.parts.specs.declared.Naming.the-variants.{Candidate};
 ghost use Rattle.parts.specs.Parts.{namingOf};
 ghost use Rattle.firing.specs.Firing.{indicesIn};
 ghost use Rattle.naming.specs.Naming.{nameRange, nameDisjuncts, GivenIndices};
+ghost use Rattle.naming.specs.Settled.{Settles};
 
 // ---- candidates
 
@@ -73,7 +74,7 @@ fn range_candidates(
 }
 
 // Those of the ranges at hand.
-pub fn all_candidates(
+fn all_candidates(
     marks: &[u8],
     unions: &[u8],
     t: &[u8],
@@ -97,6 +98,31 @@ pub fn all_candidates(
         j += 1;
     }
     m
+}
+
+// The same, unless they are known to be settled.
+pub fn name_candidates(
+    marks: &[u8],
+    unions: &[u8],
+    t: &[u8],
+    k: Counts,
+    s: &mut [u8],
+    l: Limits,
+    n: Counters,
+    ranges: usize,
+    settled: bool,
+) -> Counters
+    requires { ⌜ Catalogued k (now marks) (now unions) (now t) ⌝ }
+    requires { ⌜ Fits l (length (now s)) ⌝ }
+    requires { ⌜ GoodAlone (catalogue k (now marks) (now unions) (now t)) l n (held l (now s)) ⌝ }
+    requires { ⌜ Marked 14 15 ranges (held l (now s)) ⌝ }
+    requires { ⌜ (settled ≡ true → Settles (catalogue k (now marks) (now unions) (now t)) l (listed ranges 14 (held l (now s))) n (held l (now s))) ⌝ }
+    ensures { λ m. ⌜ StateDid (catalogue k (now (marks .entry)) (now (unions .entry)) (now (t .entry))) l (λ v. fold (λ r. fold (namingOf (catalogue k (now (marks .entry)) (now (unions .entry)) (now (t .entry))) Candidate) (sorted (catalogue k (now (marks .entry)) (now (unions .entry)) (now (t .entry))) r)) (listed ranges 14 (held l (now (s .entry))))) n (held l (now (s .entry))) m (held l (now (s .exit))) ⌝ }
+{
+    if settled {
+        return n;
+    }
+    all_candidates(marks, unions, t, k, s, l, n, ranges)
 }
 
 // ---- fired disjuncts

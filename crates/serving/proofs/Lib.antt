@@ -6,3 +6,5 @@ pub mod Point
 pub mod Behind
 pub mod Passing
 pub mod Line
+pub mod Stands
+pub mod Flags

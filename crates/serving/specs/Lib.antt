@@ -1,2 +1,3 @@
 pub mod Serving
 pub mod Line
+pub mod Flags

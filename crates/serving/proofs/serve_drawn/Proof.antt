@@ -15,13 +15,14 @@ none-requires c κs = search needs
 pushed-requires : tie.Need-pushed-requires
 pushed-requires c κs = search needs
 
-cast-serve-requirement : tie.Need-cast-serve-requirement
-cast-serve-requirement c = search needs
+cast-serve-flagged : tie.Need-cast-serve-flagged
+cast-serve-flagged c = search needs
 
-serve-requirement-requires : tie.Need-serve-requirement-requires
-serve-requirement-requires c κs = let p = (c .before .before .before .before .before .before .before .before .before .before .before .before .pre) in
+serve-flagged-requires : tie.Need-serve-flagged-requires
+serve-flagged-requires c κs = let p = (c .before .before .before .before .before .before .before .before .before .before .before .before .before .pre) in
     let given = p .1 .1 .1 .1 .1 .0 in
-    (p .0, (p .1 .0, (p .1 .1 .0, (p .1 .1 .1 .0, ((drawn-below _ _ _ _ _ given (c .before .before .before .before .before .drawn-at .ensures), p .1 .1 .1 .1 .1 .1 .0 .0), (p .1 .1 .1 .1 .1 .1 .1, drawn-given _ given (c .before .before .before .before .before .drawn-at .ensures) (c .before .before .before .before .none .ensures) (c .before .before .before .pushed .ensures)))))))
+    let entry = c .before .before .before .before .before .before .drawn-at .ensures in
+    (p .0, (p .1 .0, (p .1 .1 .0, (p .1 .1 .1 .0, ((drawn-below _ _ _ _ _ given entry, p .1 .1 .1 .1 .1 .1 .0 .0), (p .1 .1 .1 .1 .1 .1 .1 .0, (drawn-given _ given entry (c .before .before .before .before .before .none .ensures) (c .before .before .before .before .pushed .ensures), p .1 .1 .1 .1 .1 .1 .1 .1)))))))
 
 same-length : tie.Need-same-length
 same-length c = search needs
@@ -30,7 +31,7 @@ same-length-2 : tie.Need-same-length-2
 same-length-2 c = search needs
 
 returns : tie.Need-returns
-returns c = drawn-served _ _ _ _ (c .before .before .before .before .before .before .before .before .before .before .drawn-at .ensures) (c .before .before .before .before .before .before .before .before .before .none .ensures) (c .before .before .before .before .before .before .before .before .pushed .ensures) (c .before .before .before .before .serve-requirement .ensures)
+returns c = (drawn-served _ _ _ _ (c .before .before .before .before .before .before .before .before .before .before .before .drawn-at .ensures) (c .before .before .before .before .before .before .before .before .before .before .none .ensures) (c .before .before .before .before .before .before .before .before .before .pushed .ensures) (c .before .before .before .before .serve-flagged .ensures .0), (c .before .before .before .before .serve-flagged .ensures .1))
 
 pub serve-drawn-spec : {M : Type 1} → statement M
 serve-drawn-spec =
@@ -39,8 +40,8 @@ serve-drawn-spec =
     drawn-at-requires
     none-requires
     pushed-requires
-    cast-serve-requirement
-    serve-requirement-requires
+    cast-serve-flagged
+    serve-flagged-requires
     same-length
     same-length-2
     returns)
