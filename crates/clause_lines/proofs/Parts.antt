@@ -16,7 +16,7 @@ use Rattle.rules.specs.Listing.{signed}
 use Rattle.rules.proofs.Bools.{by-cases}
 use Rattle.rules.proofs.Each.{each-out, each-left, each-right}
 use Rattle.rules.proofs.Membership.{filter-in}
-use Rattle.rules.proofs.ListLaws.{upTo-member}
+use Rattle.rules.proofs.ListLaws.{concatMap-append, upTo-member}
 use Rattle.text.specs.Text.{Wrote, fields, literalOf}
 use Rattle.text.proofs.Written.{then, nothing, fields-one}
 use Rattle.tables.specs.declared.Counts.{Counts}
@@ -33,7 +33,7 @@ use Rattle.variable_map.specs.declared.Origin.{Origin}
 use Rattle.variable_map.specs.Mapping.{originOf, inTables, AllKnown}
 use Rattle.encoder.specs.Did.{Looked}
 use Rattle.line_fields.specs.Listed.{texts, partText, chosenText}
-use Rattle.line_fields.proofs.Printing.{Printing, printing-start, printing-step, printing-end, concatMap-append}
+use Rattle.line_fields.proofs.Printing.{Printing, printing-start, printing-step, printing-end}
 
 -- ---- the literals of parts
 

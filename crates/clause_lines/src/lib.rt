@@ -137,8 +137,8 @@ fn range_literals(
     )
 }
 
-// The literals of a range; and where they stand is kept, if they fitted.
-fn new_literals(
+// The literals of a range, copied if they stand in the listing already; where they stand is kept.
+fn shared_range(
     marks: &[u8],
     unions: &[u8],
     t: &[u8],
@@ -147,7 +147,7 @@ fn new_literals(
     l: Limits,
     n: Counters,
     out: &mut [u8],
-    spans: &mut [u32; 1024],
+    spans: &mut [u32; 1280],
     room: usize,
     at: usize,
     r: usize,
@@ -158,53 +158,19 @@ fn new_literals(
     ensures { λ x. ⌜ Wrote at x (partText (variables (n .variables) (held l (now (s .entry)))) (sorted (catalogue k (now (marks .entry)) (now (unions .entry)) (now (t .entry))) r)) room (now (out .entry)) (now (out .exit)) ⌝ }
     ensures { λ x. ⌜ Spans (catalogue k (now (marks .entry)) (now (unions .entry)) (now (t .entry))) (variables (n .variables) (held l (now (s .entry)))) x (now (spans .exit)) (now (out .exit)) ⌝ }
 {
-    let a = range_literals(marks, unions, t, k, s, l, n, out, room, at, r);
-    if room < a {
-        return a;
-    }
     if 511 < r {
-        return a;
+        return range_literals(marks, unions, t, k, s, l, n, out, room, at, r);
     }
-    // beyond the places that the spans can hold
-    if 4294967295 < a {
-        return a;
+    let next = spans::again(out, spans, room, at, r);
+    if 0 < next {
+        return next - 1;
     }
-    let i = 2 * r;
-    spans[i] = at as u32;
-    spans[i + 1] = (a - at) as u32;
+    let a = range_literals(marks, unions, t, k, s, l, n, out, room, at, r);
+    spans::keep(spans, room, at, a, r);
     a
 }
 
-// The literals of a range, copied if they stand in the listing already.
-fn shared_literals(
-    marks: &[u8],
-    unions: &[u8],
-    t: &[u8],
-    k: Counts,
-    s: &[u8],
-    l: Limits,
-    n: Counters,
-    out: &mut [u8],
-    spans: &mut [u32; 1024],
-    room: usize,
-    at: usize,
-    r: usize,
-) -> usize
-    requires { ⌜ Ready k (now marks) (now unions) (now t) l n (now s) room ⌝ }
-    requires { ⌜ AllKnown (variables (n .variables) (held l (now s))) (sorted (catalogue k (now marks) (now unions) (now t)) r) ⌝ }
-    requires { ⌜ Spans (catalogue k (now marks) (now unions) (now t)) (variables (n .variables) (held l (now s))) at (now spans) (now out) ⌝ }
-    ensures { λ x. ⌜ Wrote at x (partText (variables (n .variables) (held l (now (s .entry)))) (sorted (catalogue k (now (marks .entry)) (now (unions .entry)) (now (t .entry))) r)) room (now (out .entry)) (now (out .exit)) ⌝ }
-    ensures { λ x. ⌜ Spans (catalogue k (now (marks .entry)) (now (unions .entry)) (now (t .entry))) (variables (n .variables) (held l (now (s .entry)))) x (now (spans .exit)) (now (out .exit)) ⌝ }
-{
-    let count = spans::standing(spans, room, at, r);
-    if 0 < count {
-        let begin = spans::wide(spans[2 * r]);
-        spans::copy(out, begin, count, at);
-        return at + count;
-    }
-    new_literals(marks, unions, t, k, s, l, n, out, spans, room, at, r)
-}
-
+// The literals of a union, row by row.
 fn union_literals(
     marks: &[u8],
     unions: &[u8],
@@ -214,7 +180,7 @@ fn union_literals(
     l: Limits,
     n: Counters,
     out: &mut [u8],
-    spans: &mut [u32; 1024],
+    spans: &mut [u32; 1280],
     room: usize,
     at: usize,
     u: u16,
@@ -222,8 +188,8 @@ fn union_literals(
     requires { ⌜ Ready k (now marks) (now unions) (now t) l n (now s) room ⌝ }
     requires { ⌜ AllKnown (variables (n .variables) (held l (now s))) (candidates (catalogue k (now marks) (now unions) (now t)) (goalOf 1 u)) ⌝ }
     requires { ⌜ Spans (catalogue k (now marks) (now unions) (now t)) (variables (n .variables) (held l (now s))) at (now spans) (now out) ⌝ }
-    ensures { λ r. ⌜ Wrote at r (partText (variables (n .variables) (held l (now (s .entry)))) (candidates (catalogue k (now (marks .entry)) (now (unions .entry)) (now (t .entry))) (goalOf 1 u))) room (now (out .entry)) (now (out .exit)) ⌝ }
-    ensures { λ r. ⌜ Spans (catalogue k (now (marks .entry)) (now (unions .entry)) (now (t .entry))) (variables (n .variables) (held l (now (s .entry)))) r (now (spans .exit)) (now (out .exit)) ⌝ }
+    ensures { λ x. ⌜ Wrote at x (partText (variables (n .variables) (held l (now (s .entry)))) (candidates (catalogue k (now (marks .entry)) (now (unions .entry)) (now (t .entry))) (goalOf 1 u))) room (now (out .entry)) (now (out .exit)) ⌝ }
+    ensures { λ x. ⌜ Spans (catalogue k (now (marks .entry)) (now (unions .entry)) (now (t .entry))) (variables (n .variables) (held l (now (s .entry)))) x (now (spans .exit)) (now (out .exit)) ⌝ }
 {
     let mut a = at;
     let mut i = index::first_of_union(marks, unions, t, k, u);
@@ -232,7 +198,7 @@ fn union_literals(
             return a;
         }
         let member = unions::member_at(unions, k.members, i);
-        a = shared_literals(
+        a = shared_range(
             marks,
             unions,
             t,
@@ -246,8 +212,39 @@ fn union_literals(
             a,
             member.range as usize,
         );
-        i = index::next_of_union(marks, unions, t, k, i);
+        i = unions::next_of(unions, k.members, u, i + 1);
     }
+    a
+}
+
+// The same, copied if they stand in the listing already; where they stand is kept.
+fn shared_union(
+    marks: &[u8],
+    unions: &[u8],
+    t: &[u8],
+    k: Counts,
+    s: &[u8],
+    l: Limits,
+    n: Counters,
+    out: &mut [u8],
+    spans: &mut [u32; 1280],
+    room: usize,
+    at: usize,
+    u: u16,
+) -> usize
+    requires { ⌜ Ready k (now marks) (now unions) (now t) l n (now s) room ⌝ }
+    requires { ⌜ AllKnown (variables (n .variables) (held l (now s))) (candidates (catalogue k (now marks) (now unions) (now t)) (goalOf 1 u)) ⌝ }
+    requires { ⌜ Spans (catalogue k (now marks) (now unions) (now t)) (variables (n .variables) (held l (now s))) at (now spans) (now out) ⌝ }
+    ensures { λ x. ⌜ Wrote at x (partText (variables (n .variables) (held l (now (s .entry)))) (candidates (catalogue k (now (marks .entry)) (now (unions .entry)) (now (t .entry))) (goalOf 1 u))) room (now (out .entry)) (now (out .exit)) ⌝ }
+    ensures { λ x. ⌜ Spans (catalogue k (now (marks .entry)) (now (unions .entry)) (now (t .entry))) (variables (n .variables) (held l (now (s .entry)))) x (now (spans .exit)) (now (out .exit)) ⌝ }
+{
+    let g = 512 + u as usize;
+    let next = spans::again(out, spans, room, at, g);
+    if 0 < next {
+        return next - 1;
+    }
+    let a = union_literals(marks, unions, t, k, s, l, n, out, spans, room, at, u);
+    spans::keep(spans, room, at, a, g);
     a
 }
 
@@ -260,7 +257,7 @@ fn candidate_literals(
     l: Limits,
     n: Counters,
     out: &mut [u8],
-    spans: &mut [u32; 1024],
+    spans: &mut [u32; 1280],
     room: usize,
     at: usize,
     form: u16,
@@ -273,7 +270,7 @@ fn candidate_literals(
     ensures { λ r. ⌜ Spans (catalogue k (now (marks .entry)) (now (unions .entry)) (now (t .entry))) (variables (n .variables) (held l (now (s .entry)))) r (now (spans .exit)) (now (out .exit)) ⌝ }
 {
     if form == 0 {
-        return shared_literals(
+        return shared_range(
             marks,
             unions,
             t,
@@ -288,7 +285,7 @@ fn candidate_literals(
             number as usize,
         );
     }
-    union_literals(marks, unions, t, k, s, l, n, out, spans, room, at, number)
+    shared_union(marks, unions, t, k, s, l, n, out, spans, room, at, number)
 }
 
 // The j-th condition literal from `start` on.
@@ -367,7 +364,7 @@ fn requires_fields(
     l: Limits,
     n: Counters,
     out: &mut [u8],
-    spans: &mut [u32; 1024],
+    spans: &mut [u32; 1280],
     room: usize,
     at: usize,
     row: Stored,
@@ -407,7 +404,7 @@ fn gated_fields(
     l: Limits,
     n: Counters,
     out: &mut [u8],
-    spans: &mut [u32; 1024],
+    spans: &mut [u32; 1280],
     room: usize,
     at: usize,
     row: Stored,
@@ -447,7 +444,7 @@ fn clause_fields(
     l: Limits,
     n: Counters,
     out: &mut [u8],
-    spans: &mut [u32; 1024],
+    spans: &mut [u32; 1280],
     room: usize,
     at: usize,
     row: Stored,
@@ -557,7 +554,7 @@ fn row_fields(
     l: Limits,
     n: Counters,
     out: &mut [u8],
-    spans: &mut [u32; 1024],
+    spans: &mut [u32; 1280],
     room: usize,
     at: usize,
     i: usize,
@@ -583,7 +580,7 @@ fn clause_line(
     l: Limits,
     n: Counters,
     out: &mut [u8],
-    spans: &mut [u32; 1024],
+    spans: &mut [u32; 1280],
     room: usize,
     at: usize,
     i: usize,
@@ -626,7 +623,7 @@ fn all_lines(
     l: Limits,
     n: Counters,
     out: &mut [u8],
-    spans: &mut [u32; 1024],
+    spans: &mut [u32; 1280],
     room: usize,
     at: usize,
 ) -> usize
@@ -680,7 +677,7 @@ pub fn clause_lines(
     requires { ⌜ GoodRows (catalogue k (now marks) (now unions) (now t)) l n (held l (now s)) (now clauses) ⌝ }
     ensures { λ r. ⌜ Wrote at r (texts (clauseText (catalogue k (now (marks .entry)) (now (unions .entry)) (now (t .entry))) (clausesOf (catalogue k (now (marks .entry)) (now (unions .entry)) (now (t .entry))) n (held l (now (s .entry))) (now (clauses .entry)))) (n .clauses)) room (now (out .entry)) (now (out .exit)) ⌝ }
 {
-    let mut spans = [0; 1024];
+    let mut spans = [0; 1280];
     all_lines(
         marks,
         unions,

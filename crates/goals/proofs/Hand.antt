@@ -56,7 +56,7 @@ pub record Gathering (k : Counts) (us : List ℕ) (u : ℕ) (l : Limits) (b₀ b
 
 module _ (k : Counts) (ms us t : List ℕ) (u : ℕ) (c : Catalogued k ms us t) where
   pub gather-start : (l : Limits) (b : List ℕ) (i : ℕ) → Fits l (length b) → Marked 14 15 0 (held l b)
-      → Passes k ms (rows (k .members) us) u 0 i → Gathering k us u l b b 0 i
+      → Passes k (rows (k .members) us) u 0 i → Gathering k us u l b b 0 i
   unfolding listed
   gather-start l b i f d x =
       record { fits = f; same = refl; marked = d; others = changed-none (14 ∷ 15 ∷ []) (held l b); at = x .at; is = sym (distinct-start k ms us t (c .kept) x) }
@@ -64,7 +64,7 @@ module _ (k : Counts) (ms us t : List ℕ) (u : ℕ) (c : Catalogued k ms us t) 
   module _ {l : Limits} {b₀ b : List ℕ} {m i : ℕ} (x : Gathering k us u l b₀ b m i) where
     pub gather-step : (a : Member) {b′ : List ℕ} {m′ i′ : ℕ} → i < k .members → rowOf a ≡ getD (rows (k .members) us) i noRow
         → Notes (a .range) m (held l b) m′ (held l b′) → length b′ ≡ length b
-        → Passes k ms (rows (k .members) us) ((getD (rows (k .members) us) i noRow) .union) (i + 1) i′ → Gathering k us u l b₀ b′ m′ i′
+        → Passes k (rows (k .members) us) ((getD (rows (k .members) us) i noRow) .union) (i + 1) i′ → Gathering k us u l b₀ b′ m′ i′
     unfolding noted
     gather-step a h e q s y =
         record {

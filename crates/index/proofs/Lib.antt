@@ -5,5 +5,6 @@ pub mod Selecting
 pub mod Owners
 pub mod Walking
 pub mod Counting
+pub mod Times
 pub mod Members
 pub mod Unions

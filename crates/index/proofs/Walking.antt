@@ -28,7 +28,7 @@ pub walk : {n : ℕ} {f : ℕ → Bool} {p x : ℕ} (P : ℕ → Type 0) → ((i
 walk {n} {f} {p} {x} P past k y = onward n (λ i. f i ≡ false) P past p x (k .onward) (k .inside) (k .none) y
 
 -- past rows of other unions, and idle rows of this one
-pub walk-union : {k : Counts} {m : List ℕ} {rs : List Row} {u p x : ℕ} (P : ℕ → Type 0)
-    → ((i : ℕ) → i < k .members → ((getD rs i noRow) .union ≡ u → Idle k m rs i) → P i → P (i + 1)) → Passes k m rs u p x → P p → P x
-walk-union {k} {m} {rs} {u} {p} {x} P past d y =
-    onward (k .members) (λ i. (getD rs i noRow) .union ≡ u → Idle k m rs i) P past p x (d .onward) (d .at .most) (d .idle) y
+pub walk-union : {k : Counts} {rs : List Row} {u p x : ℕ} (P : ℕ → Type 0)
+    → ((i : ℕ) → i < k .members → ((getD rs i noRow) .union ≡ u → Idle rs u i) → P i → P (i + 1)) → Passes k rs u p x → P p → P x
+walk-union {k} {rs} {u} {p} {x} P past d y =
+    onward (k .members) (λ i. (getD rs i noRow) .union ≡ u → Idle rs u i) P past p x (d .onward) (d .at .most) (d .idle) y

@@ -17,4 +17,4 @@ pub record Indexed (k : Counts) (m u t : List ℕ) : Type 0 where
   pub given : Given (k .unions) (rows (k .members) u)
   pub sized : Sized (tables k t)
   pub chains : Chains k m t
-  pub members : Threaded k m (rows (k .members) u) 0 (words t) (words u)
+  pub members : Threaded k (rows (k .members) u) 0 (words t) (words u)

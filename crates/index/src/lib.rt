@@ -35,11 +35,11 @@ ghost use Rattle.index.specs.Chains.{
   Skips,
 };
 ghost use Rattle.index.specs.Members.{
-  EmptyIf,
-  IdleIf,
   Passes,
+  Links,
   Threaded,
   UnionOf,
+  RangeOf,
   Unlinked,
   Threading,
   Relinked,
@@ -262,11 +262,11 @@ fn union_of(unions: &[u8], k: Counts, i: usize) -> usize
 }
 
 // Row i, those behind it being linked.
-fn link_member(marks: &[u8], unions: &mut [u8], t: &mut [u8], k: Counts, i: usize)
-    requires { ⌜ Held k (length (now marks)) (length (now unions)) (length (now t)) ⌝ }
+fn link_member(unions: &mut [u8], t: &mut [u8], k: Counts, i: usize)
+    requires { ⌜ Laid k (length (now t)) × (52428 ≤ length (now unions)) ⌝ }
     requires { ⌜ Given (k .unions) (rows (k .members) (now unions)) ⌝ }
-    requires { ⌜ Threaded k (now marks) (rows (k .members) (now unions)) (i + 1) (words (now t)) (words (now unions)) × (i < k .members) ⌝ }
-    ensures { λ _. ⌜ Threading k (now (marks .entry)) i (now (unions .entry)) (now (t .entry)) (now (unions .exit)) (now (t .exit)) ⌝ }
+    requires { ⌜ Threaded k (rows (k .members) (now unions)) (i + 1) (words (now t)) (words (now unions)) × (i < k .members) ⌝ }
+    ensures { λ _. ⌜ Threading k i (now (unions .entry)) (now (t .entry)) (now (unions .exit)) (now (t .exit)) ⌝ }
 {
     let union = union_of(unions, k, i);
     let first = words::get(t, 11652 + 3 * union);
@@ -275,130 +275,82 @@ fn link_member(marks: &[u8], unions: &mut [u8], t: &mut [u8], k: Counts, i: usiz
 }
 
 // All rows by their unions.
-fn link_members(marks: &[u8], unions: &mut [u8], t: &mut [u8], k: Counts)
-    requires { ⌜ Held k (length (now marks)) (length (now unions)) (length (now t)) ⌝ }
+fn link_members(unions: &mut [u8], t: &mut [u8], k: Counts)
+    requires { ⌜ Laid k (length (now t)) × (52428 ≤ length (now unions)) ⌝ }
     requires { ⌜ Given (k .unions) (rows (k .members) (now unions)) ⌝ }
-    ensures { λ _. ⌜ Threading k (now (marks .entry)) 0 (now (unions .entry)) (now (t .entry)) (now (unions .exit)) (now (t .exit)) ⌝ }
+    ensures { λ _. ⌜ Threading k 0 (now (unions .entry)) (now (t .entry)) (now (unions .exit)) (now (t .exit)) ⌝ }
 {
     start_unions(t, k);
     let mut i = k.members;
     while 0 < i {
         i -= 1;
-        link_member(marks, unions, t, k, i);
+        link_member(unions, t, k, i);
     }
 }
 
-// Range r is given, and has no members.
-fn is_empty(marks: &[u8], t: &[u8], k: Counts, r: usize) -> bool
-    requires { ⌜ Laid k (length (now t)) × Chains k (now marks) (now t) ⌝ }
-    ensures { λ b. ⌜ EmptyIf b k (now (marks .entry)) r ⌝ }
+// The range of row i.
+fn range_of(unions: &[u8], k: Counts, i: usize) -> usize
+    requires { ⌜ (k .members ≤ 13107) × (52428 ≤ length (now unions)) × (i < k .members) ⌝ }
+    ensures { λ r. ⌜ RangeOf (rows (k .members) (now (unions .entry))) i r ⌝ }
 {
-    if r < k.ranges {
-        return first_member(marks, t, k, r) == k.parts;
-    }
-    false
-}
-
-// Row i is idle: it repeats row e, which is earlier, and its range has no members.
-fn is_idle(marks: &[u8], unions: &[u8], t: &[u8], k: Counts, e: usize, i: usize) -> bool
-    requires { ⌜ Held k (length (now marks)) (length (now unions)) (length (now t)) × Chains k (now marks) (now t) × (i < k .members) ⌝ }
-    ensures { λ b. ⌜ IdleIf b k (now (marks .entry)) (rows (k .members) (now (unions .entry))) i ⌝ }
-{
-    if e < i {
-        if unions::same(unions, k.members, e, i) {
-            let m = unions::member_at(unions, k.members, i);
-            return is_empty(marks, t, k, m.range as usize);
-        }
-    }
-    false
+    let m = unions::member_at(unions, k.members, i);
+    m.range as usize
 }
 
 // The chain from row `last` leads to row i: if that is idle, on to the one behind it. The last row that the chain keeps.
-fn pass_row(
-    marks: &[u8],
-    unions: &mut [u8],
-    t: &[u8],
-    k: Counts,
-    e: u16,
-    last: usize,
-    i: usize,
-) -> usize
-    requires { ⌜ Held k (length (now marks)) (length (now unions)) (length (now t)) × Chains k (now marks) (now t) × (i < k .members) ⌝ }
-    requires { ⌜ Shortened k (now marks) (now unions) (now t) last i (now unions) ⌝ }
-    ensures { λ r. ⌜ Passed k (now (marks .entry)) (now (unions .entry)) (now (t .entry)) i r (now (unions .exit)) ⌝ }
-{
-    if is_idle(marks, unions, t, k, e as usize, i) {
-        unions::set_next(unions, last, unions::next(unions, i));
-        return last;
-    }
-    i
-}
-
-// The range of row i, below the ceiling of ranges.
-fn range_of(unions: &[u8], k: Counts, i: usize) -> usize
-    requires { ⌜ (k .members ≤ 13107) × (52428 ≤ length (now unions)) ⌝ }
-    ensures { λ r. ⌜ r < 512 ⌝ }
-{
-    let m = unions::member_at(unions, k.members, i);
-    (m.range % 512) as usize
-}
-
-// The same, an idle row being one that repeats the row where its range was last seen.
-fn pass_seen(
-    marks: &[u8],
-    unions: &mut [u8],
-    t: &[u8],
-    k: Counts,
-    seen: &mut [u16; 512],
-    last: usize,
-    i: usize,
-) -> usize
-    requires { ⌜ Held k (length (now marks)) (length (now unions)) (length (now t)) × Chains k (now marks) (now t) × (i < k .members) ⌝ }
-    requires { ⌜ Shortened k (now marks) (now unions) (now t) last i (now unions) ⌝ }
-    ensures { λ r. ⌜ Passed k (now (marks .entry)) (now (unions .entry)) (now (t .entry)) i r (now (unions .exit)) ⌝ }
+fn pass_row(unions: &mut [u8], k: Counts, seen: &mut [u8; 512], last: usize, i: usize) -> usize
+    requires { ⌜ (k .members ≤ 13107) × (52428 ≤ length (now unions)) × (i < k .members) ⌝ }
+    requires { ⌜ Shortened k (now unions) last i (now unions) (now seen) ⌝ }
+    ensures { λ r. ⌜ Passed k (now (unions .entry)) i r (now (unions .exit)) (now (seen .exit)) ⌝ }
 {
     let r = range_of(unions, k, i);
-    let e = seen[r];
-    seen[r] = i as u16;
-    pass_row(marks, unions, t, k, e, last, i)
+    let n = seen[r];
+    if n < 4 {
+        seen[r] = n + 1;
+        return i;
+    }
+    unions::set_next(unions, last, unions::next(unions, i));
+    last
 }
 
 // The chain from its first row on passes idle rows.
-fn shorten(marks: &[u8], unions: &mut [u8], t: &[u8], k: Counts, first: u16)
-    requires { ⌜ Held k (length (now marks)) (length (now unions)) (length (now t)) × Chains k (now marks) (now t) × (first < k .members) ⌝ }
-    requires { ⌜ Threaded k (now marks) (rows (k .members) (now unions)) 0 (words (now t)) (words (now unions)) ⌝ }
-    ensures { λ _. ⌜ Relinked k (now (marks .entry)) (now (unions .entry)) (now (t .entry)) (now (unions .exit)) ⌝ }
+fn shorten(unions: &mut [u8], k: Counts, first: usize)
+    requires { ⌜ (k .members ≤ 13107) × (52428 ≤ length (now unions)) × (first < k .members) ⌝ }
+    requires { ⌜ Links k (rows (k .members) (now unions)) 0 (words (now unions)) ⌝ }
+    ensures { λ _. ⌜ Relinked k (now (unions .entry)) (now (unions .exit)) ⌝ }
 {
-    let mut seen = [first; 512];
-    let mut last = first as usize;
-    let mut i = unions::next(unions, last) as usize;
+    let mut seen = [0; 512];
+    let r = range_of(unions, k, first);
+    seen[r] = 1;
+    let mut last = first;
+    let mut i = unions::next(unions, first) as usize;
     while i < k.members {
-        last = pass_seen(marks, unions, t, k, &mut seen, last, i);
+        last = pass_row(unions, k, &mut seen, last, i);
         i = unions::next(unions, last) as usize;
     }
 }
 
 // The chain of union x.
-fn shorten_union(marks: &[u8], unions: &mut [u8], t: &[u8], k: Counts, x: usize)
-    requires { ⌜ Held k (length (now marks)) (length (now unions)) (length (now t)) × Chains k (now marks) (now t) × (x < k .unions) ⌝ }
-    requires { ⌜ Threaded k (now marks) (rows (k .members) (now unions)) 0 (words (now t)) (words (now unions)) ⌝ }
-    ensures { λ _. ⌜ Relinked k (now (marks .entry)) (now (unions .entry)) (now (t .entry)) (now (unions .exit)) ⌝ }
+fn shorten_union(unions: &mut [u8], t: &[u8], k: Counts, x: usize)
+    requires { ⌜ Laid k (length (now t)) × (52428 ≤ length (now unions)) × (x < k .unions) ⌝ }
+    requires { ⌜ Links k (rows (k .members) (now unions)) 0 (words (now unions)) ⌝ }
+    ensures { λ _. ⌜ Relinked k (now (unions .entry)) (now (unions .exit)) ⌝ }
 {
-    let first = words::get(t, 11652 + 3 * x);
-    if (first as usize) < k.members {
-        shorten(marks, unions, t, k, first);
+    let first = words::get(t, 11652 + 3 * x) as usize;
+    if first < k.members {
+        shorten(unions, k, first);
     }
 }
 
 // The chains of all unions.
-fn shorten_unions(marks: &[u8], unions: &mut [u8], t: &[u8], k: Counts)
-    requires { ⌜ Held k (length (now marks)) (length (now unions)) (length (now t)) × Chains k (now marks) (now t) ⌝ }
-    requires { ⌜ Threaded k (now marks) (rows (k .members) (now unions)) 0 (words (now t)) (words (now unions)) ⌝ }
-    ensures { λ _. ⌜ Relinked k (now (marks .entry)) (now (unions .entry)) (now (t .entry)) (now (unions .exit)) ⌝ }
+fn shorten_unions(unions: &mut [u8], t: &[u8], k: Counts)
+    requires { ⌜ Laid k (length (now t)) × (52428 ≤ length (now unions)) ⌝ }
+    requires { ⌜ Links k (rows (k .members) (now unions)) 0 (words (now unions)) ⌝ }
+    ensures { λ _. ⌜ Relinked k (now (unions .entry)) (now (unions .exit)) ⌝ }
 {
     let mut x = 0;
     while x < k.unions {
-        shorten_union(marks, unions, t, k, x);
+        shorten_union(unions, t, k, x);
         x += 1;
     }
 }
@@ -411,8 +363,8 @@ pub fn build(marks: &[u8], unions: &mut [u8], t: &mut [u8], k: Counts)
     ensures { λ _. ⌜ Built k (now (marks .entry)) (now (unions .entry)) (now (t .entry)) (now (unions .exit)) (now (t .exit)) ⌝ }
 {
     chain_tables(marks, t, k);
-    link_members(marks, unions, t, k);
-    shorten_unions(marks, unions, t, k);
+    link_members(unions, t, k);
+    shorten_unions(unions, t, k);
 }
 
 // ---- walking along them
@@ -521,7 +473,7 @@ fn next_member(marks: &[u8], t: &[u8], k: Counts, r: usize, i: usize) -> usize
 // The first row of a union, or one behind it if that is idle; or how many rows there are.
 pub fn first_of_union(marks: &[u8], unions: &[u8], t: &[u8], k: Counts, u: u16) -> usize
     requires { ⌜ Indexed k (now marks) (now unions) (now t) ⌝ }
-    ensures { λ r. ⌜ Passes k (now (marks .entry)) (rows (k .members) (now (unions .entry))) u 0 r ⌝ }
+    ensures { λ r. ⌜ Passes k (rows (k .members) (now (unions .entry))) u 0 r ⌝ }
 {
     if (u as usize) < k.unions {
         words::get(t, 11652 + 3 * u as usize) as usize
@@ -534,7 +486,7 @@ pub fn first_of_union(marks: &[u8], unions: &[u8], t: &[u8], k: Counts, u: u16) 
 pub fn next_of_union(marks: &[u8], unions: &[u8], t: &[u8], k: Counts, i: usize) -> usize
     requires { ⌜ Indexed k (now marks) (now unions) (now t) ⌝ }
     requires { ⌜ i < k .members ⌝ }
-    ensures { λ r. ⌜ Passes k (now (marks .entry)) (rows (k .members) (now (unions .entry))) ((getD (rows (k .members) (now (unions .entry))) i noRow) .union) (i + 1) r ⌝ }
+    ensures { λ r. ⌜ Passes k (rows (k .members) (now (unions .entry))) ((getD (rows (k .members) (now (unions .entry))) i noRow) .union) (i + 1) r ⌝ }
 {
     unions::next(unions, i) as usize
 }

@@ -1,7 +1,7 @@
 -- A loop that prints: in its turn i what `t i` says. And the lists of the definitions, as such turns.
 use mathlib.Core.Path.{_≡_, refl, _∙_}
 use mathlib.Core.Bool.{Bool, true}
-use mathlib.Core.List.{List, [], _∷_, _++_, map, append-assoc}
+use mathlib.Core.List.{List, [], _∷_, _++_, map}
 use Prim.Native.Nat.{ℕ, suc, _+_, _-_, _<_, _≤_}
 use native.Mathlib.Nat.{add-zero}
 use native.Mathlib.Numerals.{add-one}
@@ -81,11 +81,6 @@ module _ {A : Type 0} (f : A → List ℕ) where
 
   pub each-is : (t : ℕ → List ℕ) (d : A) (xs : List A) (n : ℕ) → length xs ≡ n → ((i : ℕ) → i < length xs → t i ≡ f (getD xs i d)) → texts t n ≡ concatMap f xs
   each-is t d xs n e h = indexed-is (λ _ x. f x) t d xs n e h ∙ indexed-each 0 xs
-
-pub concatMap-append : {A : Type 0} (f : A → List ℕ) (xs ys : List A) → concatMap f (xs ++ ys) ≡ concatMap f xs ++ concatMap f ys
-unfolding concatMap
-concatMap-append f [] ys = refl
-concatMap-append f (x ∷ xs) ys = rw (concatMap-append f xs ys, append-assoc)
 
 pub concatMap-map : {A B : Type 0} (f : B → List ℕ) (g : A → B) (xs : List A) → concatMap f (map g xs) ≡ concatMap (λ x. f (g x)) xs
 unfolding concatMap

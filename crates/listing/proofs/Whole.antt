@@ -11,6 +11,7 @@ use Rattle.rules.specs.Conditions.{isCondition}
 use Rattle.rules.specs.Variables.{Origin, chosen}
 use Rattle.rules.specs.Listing.{ascii, decimal, line, numbered, ownerField, originFields, clauseFields, decisionLine, assertions, waitingLines, listing}
 use Rattle.rules.proofs.Bools.{by-cases}
+use Rattle.rules.proofs.ListLaws.{concatMap-append}
 use Rattle.rules.proofs.WellFormed.{WellFormed}
 use Rattle.text.specs.Text.{Addressable, Wrote}
 use Rattle.text.proofs.Written.{then}
@@ -32,7 +33,7 @@ use Rattle.encoder.specs.declared.Counters.{Counters}
 use Rattle.encoder.specs.Held.{Reading, conflictIf, conflictsFrom, openingOf, stateOf, Good, LongEnough}
 use Rattle.encoder.proofs.Frames.{clauses-counted, waiting-counted}
 use Rattle.line_fields.specs.Listed.{texts, variableText, clauseText, ownerText, nameText, conflictLines, conflictText, assertionText, decisionText, entryText, conditionText, clausesOf, firstHalf, clauseNotes, stateNotes, secondHalf, Ready, GoodRows, Lists}
-use Rattle.line_fields.proofs.Printing.{indexed, indexed-is, each-is, concatMap-append, concatMap-map}
+use Rattle.line_fields.proofs.Printing.{indexed, indexed-is, each-is, concatMap-map}
 use Rattle.clause_lines.proofs.Clauses.{rows-counted}
 
 -- ---- the lists of the definitions, place by place

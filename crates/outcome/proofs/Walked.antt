@@ -104,7 +104,7 @@ module _ {job : List ℕ} {at : ℕ} {k : Counts} {m u t : List ℕ} {x : Read} 
         }
 
   -- what the sheet asks for, with the rest
-  sheet-asks : {A : Type 0} → Chains k m t × Threaded k m (rows (k .members) u) 0 (words t) (words u) → A
+  sheet-asks : {A : Type 0} → Chains k m t × Threaded k (rows (k .members) u) 0 (words t) (words u) → A
       → Catalogued k m u t × (UpToSheet job at k m u t × (Given (catalogue k m u t) × A))
   sheet-asks d a =
       let b = read-up .ended .kept in (

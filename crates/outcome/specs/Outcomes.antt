@@ -24,7 +24,7 @@ pub record RunsFrom (l : Limits) (job : List ℕ) (at : ℕ) (p : Progress) (r :
 
 -- the chains of a catalogue that was read whole
 abbrev pub ChainsOf : Read → (m u t : List ℕ) → Type 0
-ChainsOf (Read.Sheet at k) m u t = Chains k m t × Threaded k m (rows (k .members) u) 0 (words t) (words u)
+ChainsOf (Read.Sheet at k) m u t = Chains k m t × Threaded k (rows (k .members) u) 0 (words t) (words u)
 ChainsOf (Read.Refused f at) m u t = Unit {0}
 
 -- the catalogue was read, and its chains are made

@@ -73,7 +73,7 @@ pub record Opened (k : Counts) (m us t : List ℕ) (l : Limits) (u : ℕ) (n₀ 
   pub did : StateDid (catalogue k m us t) l (λ v. onOpening (openNames (catalogue k m us t) seen)) n₀ st₀ n st
 
 module _ {k : Counts} {m us t : List ℕ} {l : Limits} {u : ℕ} where
-  pub opened-start : {n : Counters} {st : ℕ → List ℕ} {i : ℕ} → Indexed k m us t → GoodAlone (catalogue k m us t) l n st → Passes k m (rows (k .members) us) u 0 i
+  pub opened-start : {n : Counters} {st : ℕ → List ℕ} {i : ℕ} → Indexed k m us t → GoodAlone (catalogue k m us t) l n st → Passes k (rows (k .members) us) u 0 i
       → Opened k m us t l u n st i n st
   unfolding distinct fold
   opened-start d g x =
@@ -99,7 +99,7 @@ module _ {k : Counts} {m us t : List ℕ} {l : Limits} {u : ℕ} where
 
     pub opened-step : {n′ : Counters} {st′ : ℕ → List ℕ} {j : ℕ} (x : Member) → i < k .members → rowOf x ≡ getD (rows (k .members) us) i noRow
         → StateDid (catalogue k m us t) l (λ v. onOpening (openName (rangeName (catalogue k m us t) (x .range)))) n st n′ st′
-        → Passes k m (rows (k .members) us) ((getD (rows (k .members) us) i noRow) .union) (i + 1) j → Opened k m us t l u n₀ st₀ j n′ st′
+        → Passes k (rows (k .members) us) ((getD (rows (k .members) us) i noRow) .union) (i + 1) j → Opened k m us t l u n₀ st₀ j n′ st′
     opened-step x h e d y =
         record {
           indexed = o .indexed;

@@ -1,7 +1,7 @@
 -- Laws of the lists of specs/Lists.antt that say nothing of catalogues: what holds of every element, lists grown by one, folds, sums.
 use mathlib.Core.Path.{_≡_, refl, _∙_, ap}
 use mathlib.Core.Bool.{Bool, true, false, not, _||_, cond}
-use mathlib.Core.List.{List, [], _∷_, _++_, map, List·Memᴰ, List·Memᴰ·head, List·Memᴰ·tail}
+use mathlib.Core.List.{List, [], _∷_, _++_, map, append-assoc, List·Memᴰ, List·Memᴰ·head, List·Memᴰ·tail}
 use Prim.Native.Nat.{ℕ, zero, suc, _+_, _*_, _<_, _≤_, zero-le}
 use native.Mathlib.Nat.{le-refl, mul-le-mul-right, add-zero, zero-add, add-suc, suc-add}
 use native.Mathlib.Numerals.{add-one}
@@ -68,6 +68,11 @@ module _ {A B : Type 0} where
 
   pub every-concatMap : (P : B → Type 0) (f : A → List B) → ((x : A) → All P (f x)) → (xs : List A) → All P (concatMap f xs)
   every-concatMap P f h xs = all-concatMap P f xs (all-every _ h xs)
+
+  pub concatMap-append : (f : A → List B) (xs ys : List A) → concatMap f (xs ++ ys) ≡ concatMap f xs ++ concatMap f ys
+  unfolding concatMap
+  concatMap-append f [] ys = refl
+  concatMap-append f (x ∷ xs) ys = rw (concatMap-append f xs ys, append-assoc)
 
 pub no-element : {A : Type 0} (xs : List A) → length xs ≡ 0 → xs ≡ []
 no-element [] e = refl

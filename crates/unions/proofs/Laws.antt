@@ -1,23 +1,19 @@
 -- Unions against their code: a law for each way out of each function, and a union's ranges from a row on and before it.
 use mathlib.Core.Path.{_≡_, refl, sym, _∙_, ap}
-use mathlib.Core.Bool.{Bool, true}
 use mathlib.Core.List.{List, [], _∷_, _++_, map, append-nil}
-use Prim.Native.Nat.{ℕ, zero, suc, _+_, _*_, _/_, _%_, _<_, _≤_}
+use Prim.Native.Nat.{ℕ, zero, suc, _+_, _-_, _*_, _/_, _%_, _<_, _≤_}
 use native.Mathlib.Nat.{le-of-suc-le-suc, not-suc-le-zero, add-zero}
 use native.Mathlib.Numerals.{add-one}
 use native.Mathlib.Decide.{decLt, ℕ-discrete}
 use native.Mathlib.Omega.{arith}
-use lib.Dec.{eqb}
 use lib.ListN.{length, getD, set, take, drop, length-map, take-append-drop, drop-of-length-le, List·getD-eq-default, List·getD-append}
-use lib.Seq.{getD-at, getD-set-same, getD-set-other, drop-cons, take-suc, take-all, ext-getD}
-use borrow.Author.Tests.{eq-eqb, ne-eqb, eqb-true}
-use Rattle.rules.specs.Called.{_∈_}
+use lib.Seq.{getD-at, getD-set-same, getD-set-other, drop-cons, take-suc, take-add, take-all, ext-getD}
+use borrow.Author.Tests.{eq-eqb, ne-eqb}
 use Rattle.rules.specs.Lists.{filter, snoc, upTo}
 use Rattle.rules.proofs.ListLaws.{length-upTo, length-snoc}
-use Rattle.rules.proofs.Membership.{at-end, in-left}
 use Rattle.words.specs.Words.{words, words-in}
 use Rattle.unions.specs.declared.Member.{Member}
-use Rattle.unions.specs.Unions.{Row, noRow, rowFrom, rowIn, rows, rowOf, pushed, rangesOf, left, before, SameIf}
+use Rattle.unions.specs.Unions.{Row, noRow, rowFrom, rowIn, rows, rowOf, pushed, rangesOf, left, before, NoneOf, NextOf}
 
 -- ---- rows
 
@@ -49,12 +45,34 @@ member-past n i b h =
     let g : length (rows n b) ≤ i = rw length-rows h in
     sym (List·getD-eq-default (rows n b) noRow g)
 
-pub same-if : (n i j x y : ℕ) (b : Bool) (bytes : List ℕ) → i < n → j < n → x ≡ getD (words bytes) (2 * i) 0 → y ≡ getD (words bytes) (2 * j) 0 → b ≡ eqb x y
-    → SameIf b (rows n bytes) i j
-same-if n i j x y b bytes h g e f d = record { so = λ q. (row-at n bytes i h ∙ (alike q ∙ sym (row-at n bytes j g))) }
-  where
-    alike : b ≡ true → rowIn (words bytes) i ≡ rowIn (words bytes) j
-    alike q = unfold rowIn in rw (← e, ← f, eqb-true x y (sym d ∙ q))
+-- ---- the next row of a union
+
+module _ {u : ℕ} {rs : List Row} where
+  pub none-start : {from : ℕ} → NoneOf rs u from from
+  none-start = record { onward = omega arith; none = λ j a b e. omega arith }
+
+  none-more : {from i : ℕ} → NoneOf rs u from i → ((getD rs i noRow) .union ≡ u → ⊥) → NoneOf rs u from (i + 1)
+  none-more {from} {i} f other = record { onward = let o = f .onward in omega arith; none = passed }
+    where
+      passed : (j : ℕ) → from ≤ j → j < i + 1 → (getD rs j noRow) .union ≡ u → ⊥
+      passed j a b e = elim (ℕ-discrete j i) [ yes q ↦ other (rw q at e) | no q ↦ f .none j a (omega arith) e ]
+
+module _ (n : ℕ) (b : List ℕ) {u from i : ℕ} (f : NoneOf (rows n b) u from i) where
+  pub none-end : i ≤ n → n ≤ i → NextOf n (rows n b) u from n
+  none-end l h =
+      let e : i ≡ n = omega arith in
+      record { before = rw e at f; most = omega arith; here = λ g. omega arith }
+
+  module _ (x : ℕ) (h : i < n) (e : x ≡ getD (words b) (2 * i) 0) where
+    union-is : (getD (rows n b) i noRow) .union ≡ x / 512
+    unfolding rowIn rowFrom
+    union-is = rw (row-at n b i h, e)
+
+    pub none-passed : (x / 512 ≡ u → ⊥) → NoneOf (rows n b) u from (i + 1)
+    none-passed d = none-more f (λ q. d (sym union-is ∙ q))
+
+    pub next-found : x / 512 ≡ u → NextOf n (rows n b) u from i
+    next-found d = record { before = f; most = omega arith; here = λ g. union-is ∙ d }
 
 -- ---- one row more
 
@@ -159,7 +177,7 @@ module _ (u i : ℕ) (rs : List Row) (h : i < length rs) where
   unfolding left
   left-here e = ap (rangesOf u) opened ∙ ranges-here u (getD rs i noRow) (drop (i + 1) rs) e
 
-  pub left-other : ((getD rs i noRow) .union ≡ u → ⊥) → left u i rs ≡ left u (i + 1) rs
+  left-other : ((getD rs i noRow) .union ≡ u → ⊥) → left u i rs ≡ left u (i + 1) rs
   unfolding left
   left-other e = ap (rangesOf u) opened ∙ ranges-other u (getD rs i noRow) (drop (i + 1) rs) e
 
@@ -175,10 +193,6 @@ module _ (u i : ℕ) (rs : List Row) (h : i < length rs) where
   unfolding before
   before-other e = ap (rangesOf u) taken ∙ ranges-pushed-other u (getD rs i noRow) (take i rs) e
 
-pub left-all : (u : ℕ) (rs : List Row) → left u 0 rs ≡ rangesOf u rs
-unfolding left
-left-all u rs = refl
-
 pub before-none : (u : ℕ) (rs : List Row) → before u 0 rs ≡ []
 unfolding before
 before-none u rs = ranges-none u
@@ -187,23 +201,28 @@ pub before-all : (u i : ℕ) (rs : List Row) → length rs ≤ i → before u i 
 unfolding before
 before-all u i rs h = ap (rangesOf u) (take-all i rs h)
 
--- a row of the union among the first i
-pub before-in : (u j i : ℕ) (rs : List Row) → j < i → i ≤ length rs → (getD rs j noRow) .union ≡ u → (getD rs j noRow) .range ∈ before u i rs
-before-in u j zero rs h l e = absurd (not-suc-le-zero h)
-before-in u j (suc i) rs h l e = rw (← add-one i) (elim (ℕ-discrete j i) [
-  | yes q ↦ rw (before-here u i rs l (rw q at e), q) (unfold snoc in at-end (before u i rs) ((getD rs i noRow) .range))
-  | no q ↦ further (before-in u j i rs (omega arith) (omega arith) e)
-])
-  where
-    further : (getD rs j noRow) .range ∈ before u i rs → (getD rs j noRow) .range ∈ before u (i + 1) rs
-    further m = elim (ℕ-discrete ((getD rs i noRow) .union) u) [
-      | yes q ↦ rw (before-here u i rs l q) (unfold snoc in in-left (((getD rs i noRow) .range) ∷ []) m)
-      | no q ↦ rw (before-other u i rs l q) m
-    ]
+-- those of the first i rows, and of d rows behind them
+pub before-more : (u i d : ℕ) (rs : List Row) → before u (i + d) rs ≡ before u i rs ++ rangesOf u (take d (drop i rs))
+unfolding before
+before-more u i d rs = ap (rangesOf u) (take-add i d rs) ∙ ranges-append u (take i rs) (take d (drop i rs))
 
 pub before-left : (u i : ℕ) (rs : List Row) → before u i rs ++ left u i rs ≡ rangesOf u rs
 unfolding before left
 before-left u i rs = sym (ranges-append u (take i rs) (drop i rs)) ∙ ap (rangesOf u) (take-append-drop i rs)
+
+-- rows of other unions are passed
+left-passed : (u from d : ℕ) (rs : List Row) → from + d ≤ length rs → NoneOf rs u from (from + d) → left u from rs ≡ left u (from + d) rs
+left-passed u from zero rs l f = let e : from + 0 ≡ from = omega arith in rw e
+left-passed u from (suc d) rs l f =
+    let e : from + suc d ≡ (from + d) + 1 = omega arith in
+    left-passed u from d rs (omega arith) (record { onward = omega arith; none = λ j a b. f .none j a (omega arith) })
+    ∙ (left-other u (from + d) rs (omega arith) (f .none (from + d) (omega arith) (omega arith)) ∙ rw e)
+
+pub left-next : {n u from r : ℕ} (b : List ℕ) → NextOf n (rows n b) u from r → left u from (rows n b) ≡ left u r (rows n b)
+left-next {n} {u} {from} {r} b f =
+    let o = f .before .onward in
+    let e : r ≡ from + (r - from) = omega arith in
+    rw (e) (left-passed u from (r - from) (rows n b) (rw (length-rows n b) (let m = f .most in omega arith)) (rw e at (f .before)))
 
 -- ---- a range is below its ceiling
 

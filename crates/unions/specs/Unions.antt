@@ -1,8 +1,7 @@
 -- Rows of union members, and the ranges of one union: in order of arrival, repeats kept.
 use mathlib.Core.Path.{_≡_}
-use mathlib.Core.Bool.{Bool, true}
 use mathlib.Core.List.{List, map}
-use Prim.Native.Nat.{ℕ, _*_, _/_, _%_}
+use Prim.Native.Nat.{ℕ, _*_, _/_, _%_, _<_, _≤_}
 use lib.Dec.{eqb}
 use lib.ListN.{getD, take, drop}
 use Rattle.rules.specs.Lists.{filter, snoc, upTo}
@@ -44,6 +43,13 @@ left u i rs = rangesOf u (drop i rs)
 unfoldable pub before : ℕ → ℕ → List Row → List ℕ
 before u i rs = rangesOf u (take i rs)
 
--- b says that rows i and j are the same
-pub record SameIf (b : Bool) (rs : List Row) (i j : ℕ) : Type 0 where
-  pub so : b ≡ true → getD rs i noRow ≡ getD rs j noRow
+-- no row of union u from place `from` on and before i
+pub record NoneOf (rs : List Row) (u from i : ℕ) : Type 0 where
+  pub onward : from ≤ i
+  pub none : (j : ℕ) → from ≤ j → j < i → (getD rs j noRow) .union ≡ u → ⊥
+
+-- and i is a row of it, or the end of n rows
+pub record NextOf (n : ℕ) (rs : List Row) (u from i : ℕ) : Type 0 where
+  pub before : NoneOf rs u from i
+  pub most : i ≤ n
+  pub here : i < n → (getD rs i noRow) .union ≡ u

@@ -4,7 +4,7 @@ ghost use mathlib.Core.Path.{_≡_};
 ghost use Prim.Native.Nat.{_+_, _*_, _<_, _≤_};
 ghost use lib.ListN.{length, getD, set};
 ghost use Rattle.words.specs.Words.{words};
-ghost use Rattle.unions.specs.Unions.{noRow, rows, rowOf, pushed, SameIf};
+ghost use Rattle.unions.specs.Unions.{noRow, rows, rowOf, pushed, NextOf};
 
 pub struct Member {
     pub union: u16,
@@ -53,10 +53,17 @@ pub fn set_next(u: &mut [u8], i: usize, next: u16)
     words::put(u, 2 * i + 1, next);
 }
 
-// Rows i and j hold the same member.
-pub fn same(u: &[u8], n: usize, i: usize, j: usize) -> bool
-    requires { ⌜ (n ≤ 13107) × (52428 ≤ length (now u)) × (i < n) × (j < n) ⌝ }
-    ensures { λ b. ⌜ SameIf b (rows n (now (u .entry))) i j ⌝ }
+// The first row of a union from row `from` on, or n.
+pub fn next_of(u: &[u8], n: usize, union: u16, from: usize) -> usize
+    requires { ⌜ (n ≤ 13107) × (52428 ≤ length (now u)) × (from ≤ n) ⌝ }
+    ensures { λ r. ⌜ NextOf n (rows n (now (u .entry))) union from r ⌝ }
 {
-    words::get(u, 2 * i) == words::get(u, 2 * j)
+    let mut i = from;
+    while i < n {
+        if words::get(u, 2 * i) / 512 == union {
+            return i;
+        }
+        i += 1;
+    }
+    n
 }

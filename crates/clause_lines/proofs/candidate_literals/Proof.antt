@@ -4,8 +4,8 @@ use Rattle.clause_lines.proofs.Walks.{known-range, known-union, range-t
 use Rattle.clause_lines.proofs.candidate_literals.Statement.{statement}
 use Rattle.clause_lines.proofs.candidate_literals.Tie as tie
 
-shared-literals-requires : tie.Need-shared-literals-requires
-shared-literals-requires c κs = (search needs, (search (needs, known-range), search needs))
+shared-range-requires : tie.Need-shared-range-requires
+shared-range-requires c κs = (search needs, (search (needs, known-range), search needs))
 
 same-length : tie.Need-same-length
 same-length c = search needs
@@ -13,8 +13,8 @@ same-length c = search needs
 returns : tie.Need-returns
 returns c = (search (needs, range-text), search needs)
 
-union-literals-requires : tie.Need-union-literals-requires
-union-literals-requires c κs = (search needs, (search (needs, known-union), search needs))
+shared-union-requires : tie.Need-shared-union-requires
+shared-union-requires c κs = (search needs, (search (needs, known-union), search needs))
 
 same-length-2 : tie.Need-same-length-2
 same-length-2 c = search needs
@@ -26,9 +26,9 @@ pub candidate-literals-spec : {M : Type 1} → statement M
 candidate-literals-spec =
     tie.close
     (tie.spec
-    shared-literals-requires
+    shared-range-requires
     same-length
     returns
-    union-literals-requires
+    shared-union-requires
     same-length-2
     returns-2)

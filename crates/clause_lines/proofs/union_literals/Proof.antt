@@ -1,6 +1,7 @@
--- `clause_lines::union_literals` prints the literals of a union, range by range; past the room it stops. The invariant: all is printed but the ranges from row i on, and the spans are kept.
+-- `clause_lines::union_literals` prints the literals of a union, row by row; past the room it stops. The invariant: all is printed but the ranges from row i on, and the spans are kept.
 use borrow.Author.Needs.{needs}
 use Prim.Native.Nat.{_-_}
+use native.Mathlib.Omega.{arith}
 use Rattle.state.specs.Layout.{held}
 use Rattle.variable_map.specs.Mapping.{variables}
 use Rattle.cache.specs.Areas.{catalogue}
@@ -33,14 +34,19 @@ returns c = (search (needs, walking-over), search needs)
 member-at-requires : tie.Need-member-at-requires Inv-loop μ-loop
 member-at-requires c κs = search needs
 
-cast-shared-literals : tie.Need-cast-shared-literals Inv-loop μ-loop
-cast-shared-literals c = search needs
+cast-shared-range : tie.Need-cast-shared-range Inv-loop μ-loop
+cast-shared-range c = search needs
 
-shared-literals-requires : tie.Need-shared-literals-requires Inv-loop μ-loop
-shared-literals-requires c κs = (search needs, (search (needs, walking-known), search needs))
+shared-range-requires : tie.Need-shared-range-requires Inv-loop μ-loop
+shared-range-requires c κs = (search needs, (search (needs, walking-known), search needs))
 
-next-of-union-requires : tie.Need-next-of-union-requires Inv-loop μ-loop
-next-of-union-requires c κs = search needs
+add-next-of : tie.Need-add-next-of Inv-loop μ-loop
+add-next-of c = omega (arith, c .before .before .before .before .before .before .before .before .before .if1 .taken, c .before .before .before .before .before .before .before .before .before .before .before .loop .inv .0 .ready .kept .held .laid .members)
+
+next-of-requires : tie.Need-next-of-requires Inv-loop μ-loop
+next-of-requires c κs =
+    let held = c .before .before .before .before .before .before .before .before .before .before .before .loop .inv .0 .ready .kept .held in
+    (held .laid .members, held .unions-fit, omega (arith, c .before .before .before .before .before .before .before .before .before .if1 .taken))
 
 loop-less : tie.Need-loop-less Inv-loop μ-loop
 loop-less c = search needs
@@ -66,9 +72,10 @@ union-literals-spec =
     same-length
     returns
     member-at-requires
-    cast-shared-literals
-    shared-literals-requires
-    next-of-union-requires
+    cast-shared-range
+    shared-range-requires
+    add-next-of
+    next-of-requires
     loop-less
     loop-again
     same-length-2

@@ -1,7 +1,7 @@
--- `goals::count_union` counts the candidates of a union, and stops at `most`. The invariant: what was counted and what is left are the whole.
+-- `goals::count_union` counts the candidates of a union, and stops at `most`. The invariant: what was counted are the candidates of the rows before.
 use borrow.Author.Needs.{needs}
 use Prim.Native.Nat.{_-_}
-use Rattle.goals.proofs.Counting.{Totalling, total-start, total-step, total-full, total-end}
+use Rattle.goals.proofs.Counting.{Totalling, counting-start, counting-step, counting-full, counting-end}
 use Rattle.goals.proofs.count_union.Statement.{statement}
 use Rattle.goals.proofs.count_union.Tie as tie
 
@@ -15,7 +15,7 @@ first-of-union-requires : tie.Need-first-of-union-requires Inv-loop μ-loop
 first-of-union-requires c κs = search needs
 
 loop-holds : tie.Need-loop-holds Inv-loop μ-loop
-loop-holds c = search (needs, total-start)
+loop-holds c = search (needs, counting-start)
 
 member-at-requires : tie.Need-member-at-requires Inv-loop μ-loop
 member-at-requires c κs = search needs
@@ -30,7 +30,7 @@ add-total : tie.Need-add-total Inv-loop μ-loop
 add-total c = search needs
 
 returns : tie.Need-returns Inv-loop μ-loop
-returns c = search (needs, total-full)
+returns c = search (needs, counting-full)
 
 next-of-union-requires : tie.Need-next-of-union-requires Inv-loop μ-loop
 next-of-union-requires c κs = search needs
@@ -39,10 +39,10 @@ loop-less : tie.Need-loop-less Inv-loop μ-loop
 loop-less c = search needs
 
 loop-again : tie.Need-loop-again Inv-loop μ-loop
-loop-again c = search (needs, total-step)
+loop-again c = search (needs, counting-step)
 
 returns-2 : tie.Need-returns-2 Inv-loop μ-loop
-returns-2 c = search (needs, total-end)
+returns-2 c = search (needs, counting-end)
 
 pub count-union-spec : {M : Type 1} → statement M
 count-union-spec =

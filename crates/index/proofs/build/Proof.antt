@@ -1,6 +1,6 @@
 -- `index::build` makes the chains one after another; each leaves the others.
 use borrow.Author.Needs.{needs}
-use Rattle.index.proofs.Members.{chains-still, threaded-now, all-linked}
+use Rattle.index.proofs.Members.{linked-now, all-linked}
 use Rattle.index.proofs.build.Statement.{statement}
 use Rattle.index.proofs.build.Tie as tie
 
@@ -11,7 +11,7 @@ link-members-requires : tie.Need-link-members-requires
 link-members-requires c κs = search needs
 
 shorten-unions-requires : tie.Need-shorten-unions-requires
-shorten-unions-requires c κs = ((search needs, chains-still (c .before .before .before .before .before .before .before .before .before .before .before .before .before .before .before .before .pre .0 .laid) (search needs) (c .before .before .before .before .before .before .before .before .before .before .before .chain-tables .ensures) (c .before .before .before .before .before .before .link-members .ensures)), threaded-now (c .before .before .before .before .before .before .link-members .ensures))
+shorten-unions-requires c κs = (search needs, linked-now (c .before .before .before .before .before .before .link-members .ensures))
 
 same-length : tie.Need-same-length
 same-length c = search needs

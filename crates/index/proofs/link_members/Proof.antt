@@ -9,10 +9,10 @@ use Rattle.index.proofs.link_members.Statement.{statement}
 use Rattle.index.proofs.link_members.Tie as tie
 
 abbrev Inv-loop : tie.InvT-loop
-Inv-loop marks unions₀ t₀ k i₀ unions t i = (length unions ≡ length unions₀) × (length t ≡ length t₀) × (i ≤ k .members) × Threading k marks i unions₀ t₀ unions t
+Inv-loop unions₀ t₀ k i₀ unions t i = (length unions ≡ length unions₀) × (length t ≡ length t₀) × (i ≤ k .members) × Threading k i unions₀ t₀ unions t
 
 abbrev μ-loop : tie.MeasureT-loop
-μ-loop marks unions₀ t₀ k i₀ unions t i = i
+μ-loop unions₀ t₀ k i₀ unions t i = i
 
 start-unions-requires : tie.Need-start-unions-requires Inv-loop μ-loop
 start-unions-requires c κs = search needs

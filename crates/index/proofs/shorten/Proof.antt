@@ -9,10 +9,16 @@ use Rattle.index.proofs.shorten.Statement.{statement}
 use Rattle.index.proofs.shorten.Tie as tie
 
 abbrev Inv-loop : tie.InvT-loop
-Inv-loop marks unions₀ t k first seen₀ last₀ i₀ unions seen last i = (length unions ≡ length unions₀) × Shortened k marks unions₀ t last i unions
+Inv-loop unions₀ k first seen₀ r last₀ i₀ unions seen last i = (length unions ≡ length unions₀) × Shortened k unions₀ last i unions seen
 
 abbrev μ-loop : tie.MeasureT-loop
-μ-loop marks unions₀ t k first seen₀ last₀ i₀ unions seen last i = k .members - i
+μ-loop unions₀ k first seen₀ r last₀ i₀ unions seen last i = k .members - i
+
+range-of-requires : tie.Need-range-of-requires Inv-loop μ-loop
+range-of-requires c κs = search needs
+
+array-write-seen : tie.Need-array-write-seen Inv-loop μ-loop
+array-write-seen c = search needs
 
 next-requires : tie.Need-next-requires Inv-loop μ-loop
 next-requires c κs = search needs
@@ -23,8 +29,8 @@ cast-i c = search needs
 loop-holds : tie.Need-loop-holds Inv-loop μ-loop
 loop-holds c = (search needs, search (needs, shortened-start))
 
-pass-seen-requires : tie.Need-pass-seen-requires Inv-loop μ-loop
-pass-seen-requires c κs = (search needs, search (needs, shortened-now))
+pass-row-requires : tie.Need-pass-row-requires Inv-loop μ-loop
+pass-row-requires c κs = (search needs, search (needs, shortened-now))
 
 next-requires-2 : tie.Need-next-requires-2 Inv-loop μ-loop
 next-requires-2 c κs = search needs
@@ -50,10 +56,12 @@ shorten-spec =
     (tie.spec
     Inv-loop
     μ-loop
+    range-of-requires
+    array-write-seen
     next-requires
     cast-i
     loop-holds
-    pass-seen-requires
+    pass-row-requires
     next-requires-2
     cast-i-2
     loop-less

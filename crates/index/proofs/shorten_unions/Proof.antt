@@ -9,10 +9,10 @@ use Rattle.index.proofs.shorten_unions.Statement.{statement}
 use Rattle.index.proofs.shorten_unions.Tie as tie
 
 abbrev Inv-loop : tie.InvT-loop
-Inv-loop marks unions₀ t k x₀ unions x = (length unions ≡ length unions₀) × Relinked k marks unions₀ t unions
+Inv-loop unions₀ t k x₀ unions x = (length unions ≡ length unions₀) × Relinked k unions₀ unions
 
 abbrev μ-loop : tie.MeasureT-loop
-μ-loop marks unions₀ t k x₀ unions x = k .unions - x
+μ-loop unions₀ t k x₀ unions x = k .unions - x
 
 loop-holds : tie.Need-loop-holds Inv-loop μ-loop
 loop-holds c = (search needs, search (needs, relinked-none))

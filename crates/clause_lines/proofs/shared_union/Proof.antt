@@ -1,0 +1,47 @@
+-- `clause_lines::shared_union` copies the literals of a union that stand already; others it prints, and keeps where.
+use borrow.Author.Needs.{needs}
+use Rattle.text.proofs.Written.{onward}
+use Rattle.clause_lines.proofs.Copying.{spans-behind, again-spans, still-spans, after-none, union-again, union-new}
+use Rattle.clause_lines.proofs.shared_union.Statement.{statement}
+use Rattle.clause_lines.proofs.shared_union.Tie as tie
+
+add-g : tie.Need-add-g
+add-g c = search needs
+
+again-requires : tie.Need-again-requires
+again-requires c κs = (search needs, search (needs, spans-behind))
+
+sub-result : tie.Need-sub-result
+sub-result c = search needs
+
+same-length : tie.Need-same-length
+same-length c = search needs
+
+returns : tie.Need-returns
+returns c = (search (needs, union-again), search (needs, again-spans))
+
+union-literals-requires : tie.Need-union-literals-requires
+union-literals-requires c κs = (search needs, (search needs, search (needs, still-spans)))
+
+keep-requires : tie.Need-keep-requires
+keep-requires c κs = onward (c .before .before .before .union-literals .ensures .0)
+
+same-length-2 : tie.Need-same-length-2
+same-length-2 c = search needs
+
+returns-2 : tie.Need-returns-2
+returns-2 c = (search (needs, after-none), search (needs, union-new))
+
+pub shared-union-spec : {M : Type 1} → statement M
+shared-union-spec =
+    tie.close
+    (tie.spec
+    add-g
+    again-requires
+    sub-result
+    same-length
+    returns
+    union-literals-requires
+    keep-requires
+    same-length-2
+    returns-2)
