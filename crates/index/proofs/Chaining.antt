@@ -142,7 +142,7 @@ pub record Beside (h : Chain) (n most : ℕ) (g : Chain) (m top : ℕ) : Type 0 
   pub keys : (i : ℕ) → i < n → ((y : ℕ) → y < top → h .keyAt i ≡ g .headAt y → ⊥) × ((j : ℕ) → j < m → h .keyAt i ≡ g .linkAt j → ⊥)
 
 module _ {h : Chain} {n most : ℕ} {g : Chain} {m top : ℕ} {w w′ : List ℕ} (b : Beside h n most g m top) (o : Only g m top w w′) where
-  key-beside : (i : ℕ) → i < n → keyOf h w′ i ≡ keyOf h w i
+  pub key-beside : (i : ℕ) → i < n → keyOf h w′ i ≡ keyOf h w i
   unfolding keyOf
   key-beside i l = ap (h .row) (o .others _ (b .keys i l .0) (b .keys i l .1))
 

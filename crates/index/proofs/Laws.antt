@@ -13,8 +13,8 @@ use Rattle.words.specs.Words.{words}
 use Rattle.marks.specs.Marks.{NextMember, EndOfMembers}
 use Rattle.tables.specs.declared.Counts.{Counts}
 use Rattle.tables.specs.Tables.{tablesIn, tables, Laid}
-use Rattle.index.specs.Chains.{First, Chain, ownerRow, partsByName, requirementsByOwner, constraintsByOwner, keyOf, Linked, Key, Keyed, Only, rangeBounds, Bounded, Chains, Keys, Linking, Heading, BoundSet, boundSet, Bounding, Chained, Skips}
-use Rattle.index.proofs.Chaining.{Apart, only-none, only-then, only-head, only-link, linked-only, linked-more, linked-none, keyed-kept, keyed-beside, linked-beside}
+use Rattle.index.specs.Chains.{First, Chain, ownerRow, partsByName, requirementsByOwner, constraintsByOwner, keyOf, Linked, Key, Keyed, Only, rangeBounds, favouredBounds, Bounded, Chains, Keys, Linking, Heading, BoundSet, boundSet, Bounding, Favouring, Chained, Skips}
+use Rattle.index.proofs.Chaining.{Apart, Beside, only-none, only-then, only-head, only-link, linked-only, linked-more, linked-none, keyed-kept, keyed-beside, linked-beside}
 use Rattle.index.proofs.Places as places
 
 -- ---- owners' rows
@@ -167,21 +167,40 @@ constraints-more-linked a b = record { same = b .same ∙ a .same; only = only-t
 
 -- ---- all
 
--- what each stage leaves of the others
-pub all-built : {k : Counts} {m t u v w x : List ℕ} → Laid k (length t) → Linking partsByName k (k .parts) (k .names) 0 t u
-    → Linking requirementsByOwner k (k .requirements) (k .parts + 1) 0 u v → Linking constraintsByOwner k (k .constraints) (k .parts + 1) 0 v w
-    → Bounding k m (k .ranges) w x → Chained k m t x
-all-built {k} {m} {t} l a b c d =
+bounded-beside : {k : Counts} {m : List ℕ} {w w′ : List ℕ} → Beside rangeBounds (k .ranges) (k .ranges) favouredBounds (k .names) (k .names)
+    → Only favouredBounds (k .names) (k .names) w w′ → Bounded k m (k .ranges) w → Bounded k m (k .ranges) w′
+bounded-beside b o g =
     record {
-      same = d .same ∙ (c .same ∙ (b .same ∙ a .same));
+      firsts = λ r h. rw (o .others _ (b .heads r h .0) (b .heads r h .1)) (g .firsts r h);
+      ends = λ r h. rw (o .others _ (b .links r h .0) (b .links r h .1)) (g .ends r h);
+    }
+
+-- what each stage leaves of the others
+pub all-built : {k : Counts} {m t u v w x y : List ℕ} → Laid k (length t) → Linking partsByName k (k .parts) (k .names) 0 t u
+    → Linking requirementsByOwner k (k .requirements) (k .parts + 1) 0 u v → Linking constraintsByOwner k (k .constraints) (k .parts + 1) 0 v w
+    → Bounding k m (k .ranges) w x → Favouring k 0 x y → Chained k m t y
+all-built {k} {m} {t} l a b c d f =
+    record {
+      same = f .same ∙ (d .same ∙ (c .same ∙ (b .same ∙ a .same)));
       chains = record {
-        parts = linked-beside (places.parts-beside-ranges k t l) (d .only)
-            (linked-beside (places.parts-beside-constraints k t l) (c .only) (linked-beside (places.parts-beside-requirements k t l) (b .only) (a .linked)));
-        requirements = linked-beside (places.requirements-beside-ranges k t l) (d .only) (linked-beside (places.requirements-beside-constraints k t l) (c .only) (b .linked));
-        constraints = linked-beside (places.constraints-beside-ranges k t l) (d .only) (c .linked);
-        ranges = d .bounded;
+        parts = linked-beside (places.parts-beside-favoured k t l) (f .only) (linked-beside (places.parts-beside-ranges k t l) (d .only)
+            (linked-beside (places.parts-beside-constraints k t l) (c .only) (linked-beside (places.parts-beside-requirements k t l) (b .only) (a .linked))));
+        requirements = linked-beside (places.requirements-beside-favoured k t l) (f .only)
+            (linked-beside (places.requirements-beside-ranges k t l) (d .only) (linked-beside (places.requirements-beside-constraints k t l) (c .only) (b .linked)));
+        constraints = linked-beside (places.constraints-beside-favoured k t l) (f .only) (linked-beside (places.constraints-beside-ranges k t l) (d .only) (c .linked));
+        ranges = bounded-beside (places.ranges-beside-favoured k t l) (f .only) (d .bounded);
+        favoured = f .favoured;
       };
     }
+
+-- the parts' keys are where they were
+pub parts-keyed-last : {k : Counts} {m t u v w x : List ℕ} → Laid k (length t) → Keys k t → Linking partsByName k (k .parts) (k .names) 0 t u
+    → Linking requirementsByOwner k (k .requirements) (k .parts + 1) 0 u v → Linking constraintsByOwner k (k .constraints) (k .parts + 1) 0 v w → Bounding k m (k .ranges) w x
+    → Keyed partsByName (k .parts) (k .names) (words x)
+parts-keyed-last {k} {m} {t} l d a b c e =
+    keyed-beside (places.parts-beside-ranges k t l) (e .only)
+    (keyed-beside (places.parts-beside-constraints k t l) (c .only)
+    (keyed-beside (places.parts-beside-requirements k t l) (b .only) (keyed-kept (places.parts-apart k t l) (a .only) (d .parts))))
 
 pub requirements-keyed : {k : Counts} {t u : List ℕ} → Laid k (length t) → Keys k t → Linking partsByName k (k .parts) (k .names) 0 t u
     → Keyed requirementsByOwner (k .requirements) (k .parts + 1) (words u)

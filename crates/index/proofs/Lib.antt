@@ -1,5 +1,6 @@
 pub mod Chaining
 pub mod Places
+pub mod Favoured
 pub mod Laws
 pub mod Selecting
 pub mod Owners

@@ -19,6 +19,7 @@ use Rattle.index.specs.Members.{times, Idle, Passes, Links, Threaded, Un
 use Rattle.index.specs.Indexed.{Indexed}
 use Rattle.index.proofs.Chaining.{only-none, only-then, only-head, linked-beside}
 use Rattle.index.proofs.Places as places
+use Rattle.index.proofs.Favoured.{favoured-beside}
 use Rattle.index.proofs.Times.{times-append, times-snoc}
 
 -- ---- from a row to another
@@ -122,6 +123,7 @@ chains-beside {k} {m} {t} {u} l h c =
       requirements = linked-beside (places.requirements-beside-unions k t l) o (c .requirements);
       constraints = linked-beside (places.constraints-beside-unions k t l) o (c .constraints);
       ranges = record { firsts = λ r q. rw (first r q) (c .ranges .firsts r q); ends = λ r q. rw (end r q) (c .ranges .ends r q) };
+      favoured = favoured-beside l (h .same) o (c .favoured);
     }
   where
     first : (r : ℕ) → r < k .ranges → getD (words u) (9604 + 4 * r + 2) 0 ≡ getD (words t) (9604 + 4 * r + 2) 0

@@ -10,9 +10,9 @@ use Rattle.tables.specs.Tables.{tablesIn, Laid}
 use Rattle.tables.proofs.Rows.{Free}
 use Rattle.tables.proofs.Stores.{first}
 use Rattle.tables.proofs.Rows.{free-kept}
-use Rattle.index.specs.Chains.{partsByName, requirementsByOwner, constraintsByOwner, rangeBounds}
+use Rattle.index.specs.Chains.{partsByName, requirementsByOwner, constraintsByOwner, keyOf, Only, rangeBounds, favouredBounds}
 use Rattle.index.specs.Members.{unionHeads}
-use Rattle.index.proofs.Chaining.{Apart, Beside}
+use Rattle.index.proofs.Chaining.{Apart, Beside, key-beside}
 
 module _ (k : Counts) (t : List ℕ) (l : Laid k (length t)) where
   abbrev room : 25348 ≤ length (words t)
@@ -67,6 +67,20 @@ module _ (k : Counts) (t : List ℕ) (l : Laid k (length t)) where
   ranges-apart =
       let r = room in
       let a = l .ranges in
+      record {
+        heads-in = λ x h. omega arith;
+        links-in = λ i h. omega arith;
+        heads = λ x y h g e. omega arith;
+        links = λ i j h g e. omega arith;
+        head-link = λ x i h g e. omega arith;
+        key-head = λ i x h g e. omega arith;
+        key-link = λ i j h g e. omega arith;
+      }
+
+  pub favoured-apart : Apart favouredBounds (k .names) (k .names) (length (words t))
+  favoured-apart =
+      let r = room in
+      let a = l .names in
       record {
         heads-in = λ x h. omega arith;
         links-in = λ i h. omega arith;
@@ -132,6 +146,18 @@ module _ (k : Counts) (t : List ℕ) (l : Laid k (length t)) where
       let p = l .parts in
       let n = l .ranges in
       free (9604 + 4 * i + 3) (record { names = λ a b c d e g. omega arith; parts = λ a b c d e g. omega arith; ranges = λ a b c d e g. omega arith; conditions = λ a b c d e g. omega arith; requirements = λ a b c d e g. omega arith; constraints = λ a b c d e g. omega arith }) w v
+
+  pub favoured-head-free : (x v : ℕ) (w : List ℕ) → x < k .names → tablesIn k (set w (6 * x + 4) v) ≡ tablesIn k w
+  favoured-head-free x v w h =
+      let p = l .parts in
+      let n = l .names in
+      free (6 * x + 4) (record { names = λ a b c d e g. omega arith; parts = λ a b c d e g. omega arith; ranges = λ a b c d e g. omega arith; conditions = λ a b c d e g. omega arith; requirements = λ a b c d e g. omega arith; constraints = λ a b c d e g. omega arith }) w v
+
+  pub favoured-link-free : (x v : ℕ) (w : List ℕ) → x < k .names → tablesIn k (set w (6 * x + 5) v) ≡ tablesIn k w
+  favoured-link-free x v w h =
+      let p = l .parts in
+      let n = l .names in
+      free (6 * x + 5) (record { names = λ a b c d e g. omega arith; parts = λ a b c d e g. omega arith; ranges = λ a b c d e g. omega arith; conditions = λ a b c d e g. omega arith; requirements = λ a b c d e g. omega arith; constraints = λ a b c d e g. omega arith }) w v
 
   pub unions-head-free : (x v : ℕ) (w : List ℕ) → x < k .unions → tablesIn k (set w (11652 + 3 * x) v) ≡ tablesIn k w
   unions-head-free x v w h =
@@ -252,6 +278,65 @@ module _ (k : Counts) (t : List ℕ) (l : Laid k (length t)) where
         links = λ i h. ((λ y g e. omega arith), (λ j g e. omega arith));
         keys = λ i h. ((λ y g e. omega arith), (λ j g e. omega arith));
       }
+
+  pub parts-beside-favoured : Beside partsByName (k .parts) (k .names) favouredBounds (k .names) (k .names)
+  parts-beside-favoured =
+      let p = l .parts in
+      let n = l .names in
+      let q = l .requirements in
+      let c = l .constraints in
+      record {
+        heads = λ x h. ((λ y g e. omega arith), (λ j g e. omega arith));
+        links = λ i h. ((λ y g e. omega arith), (λ j g e. omega arith));
+        keys = λ i h. ((λ y g e. omega arith), (λ j g e. omega arith));
+      }
+
+  pub requirements-beside-favoured : Beside requirementsByOwner (k .requirements) (k .parts + 1) favouredBounds (k .names) (k .names)
+  requirements-beside-favoured =
+      let p = l .parts in
+      let n = l .names in
+      let q = l .requirements in
+      let c = l .constraints in
+      record {
+        heads = λ x h. ((λ y g e. omega arith), (λ j g e. omega arith));
+        links = λ i h. ((λ y g e. omega arith), (λ j g e. omega arith));
+        keys = λ i h. ((λ y g e. omega arith), (λ j g e. omega arith));
+      }
+
+  pub constraints-beside-favoured : Beside constraintsByOwner (k .constraints) (k .parts + 1) favouredBounds (k .names) (k .names)
+  constraints-beside-favoured =
+      let p = l .parts in
+      let n = l .names in
+      let q = l .requirements in
+      let c = l .constraints in
+      record {
+        heads = λ x h. ((λ y g e. omega arith), (λ j g e. omega arith));
+        links = λ i h. ((λ y g e. omega arith), (λ j g e. omega arith));
+        keys = λ i h. ((λ y g e. omega arith), (λ j g e. omega arith));
+      }
+
+  pub ranges-beside-favoured : Beside rangeBounds (k .ranges) (k .ranges) favouredBounds (k .names) (k .names)
+  ranges-beside-favoured =
+      let n = l .names in
+      let r = l .ranges in
+      record {
+        heads = λ x h. ((λ y g e. omega arith), (λ j g e. omega arith));
+        links = λ i h. ((λ y g e. omega arith), (λ j g e. omega arith));
+        keys = λ i h. ((λ y g e. omega arith), (λ j g e. omega arith));
+      }
+
+  pub favoured-beside-unions : Beside favouredBounds (k .names) (k .names) unionHeads 0 (k .unions)
+  favoured-beside-unions =
+      let n = l .names in
+      let u = l .unions in
+      record {
+        heads = λ x h. ((λ y g e. omega arith), (λ j g e. omega arith));
+        links = λ i h. ((λ y g e. omega arith), (λ j g e. omega arith));
+        keys = λ i h. ((λ y g e. omega arith), (λ j g e. omega arith));
+      }
+
+  pub keys-beside : {w : List ℕ} → Only favouredBounds (k .names) (k .names) (words t) w → (p : ℕ) → p < k .parts → keyOf partsByName w p ≡ keyOf partsByName (words t) p
+  keys-beside o = key-beside parts-beside-favoured o
 
   pub parts-beside-unions : Beside partsByName (k .parts) (k .names) unionHeads 0 (k .unions)
   parts-beside-unions =

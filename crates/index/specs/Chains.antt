@@ -1,11 +1,11 @@
 -- Chains through the rows of the catalogue's tables: for each key the first row that has it, and for each row the next one with the same key.
 use mathlib.Core.Path.{_≡_}
-use mathlib.Core.Bool.{Bool, false, cond}
+use mathlib.Core.Bool.{Bool, true, false, cond, _&&_}
 use mathlib.Core.List.{List}
 use Prim.Native.Nat.{ℕ, _+_, _*_, _<_, _≤_}
 use lib.Dec.{eqb}
 use lib.ListN.{getD, set}
-use Rattle.rules.specs.Catalogue.{Owner, root, part}
+use Rattle.rules.specs.Catalogue.{Owner, root, part, noPart}
 use Rattle.words.specs.Words.{words}
 use Rattle.marks.specs.Marks.{NextMember, EndOfMembers}
 use Rattle.tables.specs.declared.Counts.{Counts}
@@ -72,12 +72,25 @@ pub record Bounded (k : Counts) (m : List ℕ) (x : ℕ) (w : List ℕ) : Type 0
   pub firsts : (r : ℕ) → r < x → NextMember m r 0 (k .parts) (getD w (9604 + 4 * r + 2) 0)
   pub ends : (r : ℕ) → r < x → EndOfMembers m r (k .parts) (getD w (9604 + 4 * r + 3) 0)
 
--- the chains by name and by owner lead through all rows, and the members of every range are bounded
+-- of a name bounds of its favoured parts, the second behind them: their places are those of heads and links too
+abbrev pub favouredBounds : Chain
+favouredBounds = record { keyAt = λ x. 6 * x; headAt = λ x. 6 * x + 4; linkAt = λ x. 6 * x + 5; row = λ x. x }
+
+unfoldable pub isFavoured : Counts → (t : List ℕ) → ℕ → Bool
+isFavoured k t p = (getD (tables k t .parts) p noPart) .favoured
+
+-- the favoured parts from `from` on lie within the bounds of their names
+pub record Favoured (k : Counts) (from : ℕ) (t : List ℕ) : Type 0 where
+  pub above : (x p : ℕ) → x < k .names → from ≤ p → p < k .parts → keyOf partsByName (words t) p ≡ x → isFavoured k t p ≡ true → getD (words t) (6 * x + 4) 0 ≤ p
+  pub below : (x p : ℕ) → x < k .names → from ≤ p → p < k .parts → keyOf partsByName (words t) p ≡ x → isFavoured k t p ≡ true → p < getD (words t) (6 * x + 5) 0
+
+-- the chains by name and by owner lead through all rows, and the members of every range and the favoured parts of every name are bounded
 pub record Chains (k : Counts) (m t : List ℕ) : Type 0 where
   pub parts : Linked partsByName (k .parts) (k .names) 0 (words t)
   pub requirements : Linked requirementsByOwner (k .requirements) (k .parts + 1) 0 (words t)
   pub constraints : Linked constraintsByOwner (k .constraints) (k .parts + 1) 0 (words t)
   pub ranges : Bounded k m (k .ranges) (words t)
+  pub favoured : Favoured k 0 t
 
 -- names of parts and owners are given
 pub record Keys (k : Counts) (t : List ℕ) : Type 0 where
@@ -108,6 +121,12 @@ pub record Bounding (k : Counts) (m : List ℕ) (x : ℕ) (t t′ : List ℕ) : 
   pub only : Only rangeBounds (k .ranges) (k .ranges) (words t) (words t′)
   pub bounded : Bounded k m x (words t′)
 
+-- the same of the favoured parts from `from` on
+pub record Favouring (k : Counts) (from : ℕ) (t t′ : List ℕ) : Type 0 where
+  pub same : tables k t′ ≡ tables k t
+  pub only : Only favouredBounds (k .names) (k .names) (words t) (words t′)
+  pub favoured : Favoured k from t′
+
 -- the tables with their chains
 pub record Chained (k : Counts) (m t t′ : List ℕ) : Type 0 where
   pub same : tables k t′ ≡ tables k t
@@ -120,3 +139,7 @@ pub record Skips (n : ℕ) (selected : ℕ → Bool) (from r : ℕ) : Type 0 whe
   pub onward : from ≤ r
   pub inside : r ≤ n
   pub none : (i : ℕ) → from ≤ i → i < r → selected i ≡ false
+
+-- part p is a favoured one of this name
+unfoldable pub favouredOf : Counts → (t : List ℕ) (name : ℕ) → ℕ → Bool
+favouredOf k t name p = eqb (keyOf partsByName (words t) p) name && isFavoured k t p

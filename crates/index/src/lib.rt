@@ -14,6 +14,7 @@ ghost use Rattle.kept.specs.Kept.{Given};
 ghost use Rattle.marks.specs.Marks.{NextMember, EndOfMembers};
 ghost use Rattle.cache.specs.Areas.{catalogue, Held};
 ghost use Rattle.cache.specs.Lists.{chosen, choice, Counted};
+ghost use Rattle.cache.specs.declared.Choice.the-variants.{Matching};
 ghost use Rattle.tables.specs.Tables.{Laid};
 ghost use Rattle.index.specs.Chains.{
   First,
@@ -30,6 +31,9 @@ ghost use Rattle.index.specs.Chains.{
   Keys,
   BoundSet,
   Bounding,
+  Favoured,
+  Favouring,
+  favouredOf,
   Chains,
   Chained,
   Skips,
@@ -226,6 +230,56 @@ fn bound_ranges(marks: &[u8], t: &mut [u8], k: Counts)
     }
 }
 
+// No name has a favoured part yet.
+fn start_favoured(t: &mut [u8], k: Counts)
+    requires { ⌜ Laid k (length (now t)) ⌝ }
+    ensures { λ _. ⌜ Favouring k (k .parts) (now (t .entry)) (now (t .exit)) ⌝ }
+{
+    let mut x = 0;
+    while x < k.names {
+        words::put(t, 6 * x + 5, 0);
+        x += 1;
+    }
+}
+
+// Part i, which is favoured, lies within the bounds of its name.
+fn bound_favoured(t: &mut [u8], k: Counts, i: usize)
+    requires { ⌜ Laid k (length (now t)) × Keyed partsByName (k .parts) (k .names) (words (now t)) ⌝ }
+    requires { ⌜ Favoured k (i + 1) (now t) × (i < k .parts) ⌝ }
+    ensures { λ _. ⌜ Favouring k i (now (t .entry)) (now (t .exit)) ⌝ }
+{
+    let name = part_key(t, k, i);
+    let end = words::get(t, 6 * name + 5);
+    words::put(t, 6 * name + 4, i as u16);
+    if end <= i as u16 {
+        words::put(t, 6 * name + 5, i as u16 + 1);
+    }
+}
+
+// Part i, if it is favoured.
+fn bound_part(t: &mut [u8], k: Counts, i: usize)
+    requires { ⌜ Laid k (length (now t)) × Keyed partsByName (k .parts) (k .names) (words (now t)) ⌝ }
+    requires { ⌜ Favoured k (i + 1) (now t) × (i < k .parts) ⌝ }
+    ensures { λ _. ⌜ Favouring k i (now (t .entry)) (now (t .exit)) ⌝ }
+{
+    if tables::favoured(t, k, i) {
+        bound_favoured(t, k, i);
+    }
+}
+
+// The favoured parts of all names.
+fn bound_parts(t: &mut [u8], k: Counts)
+    requires { ⌜ Laid k (length (now t)) × Keyed partsByName (k .parts) (k .names) (words (now t)) ⌝ }
+    ensures { λ _. ⌜ Favouring k 0 (now (t .entry)) (now (t .exit)) ⌝ }
+{
+    start_favoured(t, k);
+    let mut i = k.parts;
+    while 0 < i {
+        i -= 1;
+        bound_part(t, k, i);
+    }
+}
+
 // The chains through the tables.
 fn chain_tables(marks: &[u8], t: &mut [u8], k: Counts)
     requires { ⌜ Laid k (length (now t)) × (65536 ≤ length (now marks)) ⌝ }
@@ -236,6 +290,7 @@ fn chain_tables(marks: &[u8], t: &mut [u8], k: Counts)
     link_requirements(t, k);
     link_constraints(t, k);
     bound_ranges(marks, t, k);
+    bound_parts(t, k);
 }
 
 // ---- the members of unions
@@ -493,6 +548,39 @@ pub fn next_of_union(marks: &[u8], unions: &[u8], t: &[u8], k: Counts, i: usize)
 
 // ---- the chosen parts of a range, one after another
 
+// The first favoured part of a name from `from` on, or a part before it.
+fn favoured_from(marks: &[u8], t: &[u8], k: Counts, name: u16, from: usize) -> usize
+    requires { ⌜ Laid k (length (now t)) × Chains k (now marks) (now t) × (from ≤ k .parts) ⌝ }
+    ensures { λ x. ⌜ Skips (k .parts) (favouredOf k (now (t .entry)) name) from x ⌝ }
+{
+    if k.names <= name as usize {
+        return from;
+    }
+    let end = words::get(t, 6 * name as usize + 5) as usize;
+    if end <= from {
+        return k.parts;
+    }
+    let first = words::get(t, 6 * name as usize + 4) as usize;
+    if k.parts <= first {
+        return k.parts;
+    }
+    if from < first { first } else { from }
+}
+
+// The first member of range r from part i on, which is one of its name; or a part before it.
+fn member_from(marks: &[u8], t: &[u8], k: Counts, r: usize, i: usize) -> usize
+    requires { ⌜ Laid k (length (now t)) × Chains k (now marks) (now t) × (65536 ≤ length (now marks)) × (r < k .ranges) × (i ≤ k .parts) ⌝ }
+    ensures { λ x. ⌜ NextMember (now (marks .entry)) r i (k .parts) x ⌝ }
+{
+    if k.parts <= i {
+        return i;
+    }
+    if marks::marked(marks, r, i) {
+        return i;
+    }
+    next_member(marks, t, k, r, i)
+}
+
 // The first of them, or a part before it.
 pub fn first_chosen(marks: &[u8], unions: &[u8], t: &[u8], k: Counts, r: usize, w: Choice) -> usize
     requires { ⌜ Held k (length (now marks)) (length (now unions)) (length (now t)) × Chains k (now marks) (now t) ⌝ }
@@ -502,12 +590,21 @@ pub fn first_chosen(marks: &[u8], unions: &[u8], t: &[u8], k: Counts, r: usize, 
         match w {
             Choice::NonMatching => first_part(marks, t, k, tables::range_name(t, k, r)),
             Choice::Matching => first_member(marks, t, k, r),
-            Choice::Favoured => first_member(marks, t, k, r),
+            Choice::Favoured => favoured_from(marks, t, k, tables::range_name(t, k, r), 0),
             Choice::Others => first_member(marks, t, k, r),
         }
     } else {
         0
     }
+}
+
+// The next member of range r behind part i, or a part before it: most often it is the next part of the name.
+fn next_of_name(marks: &[u8], unions: &[u8], t: &[u8], k: Counts, r: usize, i: usize) -> usize
+    requires { ⌜ Held k (length (now marks)) (length (now unions)) (length (now t)) × Chains k (now marks) (now t) × (r < k .ranges) × (i < k .parts) ⌝ }
+    ensures { λ x. ⌜ Skips (k .parts) (chosen (catalogue k (now (marks .entry)) (now (unions .entry)) (now (t .entry))) r Matching) (i + 1) x ⌝ }
+{
+    let next = next_part(marks, t, k, tables::range_name(t, k, r), i);
+    member_from(marks, t, k, r, next)
 }
 
 // The next one behind part i, or a part before it.
@@ -526,9 +623,9 @@ pub fn next_chosen(
     if r < k.ranges {
         match w {
             Choice::NonMatching => next_part(marks, t, k, tables::range_name(t, k, r), i),
-            Choice::Matching => next_member(marks, t, k, r, i),
-            Choice::Favoured => next_member(marks, t, k, r, i),
-            Choice::Others => next_member(marks, t, k, r, i),
+            Choice::Matching => next_of_name(marks, unions, t, k, r, i),
+            Choice::Favoured => favoured_from(marks, t, k, tables::range_name(t, k, r), i + 1),
+            Choice::Others => next_of_name(marks, unions, t, k, r, i),
         }
     } else {
         i + 1

@@ -1,6 +1,6 @@
 -- `index::chain_tables` makes the chains one after another; each leaves the others.
 use borrow.Author.Needs.{needs}
-use Rattle.index.proofs.Laws.{requirements-keyed, constraints-keyed, all-built}
+use Rattle.index.proofs.Laws.{requirements-keyed, constraints-keyed, parts-keyed-last, all-built}
 use Rattle.index.proofs.chain_tables.Statement.{statement}
 use Rattle.index.proofs.chain_tables.Tie as tie
 
@@ -16,6 +16,9 @@ link-constraints-requires c κs = (search needs, search (needs, constraints-keye
 bound-ranges-requires : tie.Need-bound-ranges-requires
 bound-ranges-requires c κs = search needs
 
+bound-parts-requires : tie.Need-bound-parts-requires
+bound-parts-requires c κs = (search needs, parts-keyed-last (c .before .before .before .before .before .before .before .before .before .before .before .before .before .before .before .before .before .before .before .pre .0 .0) (c .before .before .before .before .before .before .before .before .before .before .before .before .before .before .before .before .before .before .before .pre .1) (c .before .before .before .before .before .before .before .before .before .before .before .before .before .before .before .link-parts .ensures) (c .before .before .before .before .before .before .before .before .before .before .before .link-requirements .ensures) (c .before .before .before .before .before .before .before .link-constraints .ensures) (c .before .before .before .bound-ranges .ensures))
+
 same-length : tie.Need-same-length
 same-length c = search needs
 
@@ -30,5 +33,6 @@ chain-tables-spec =
     link-requirements-requires
     link-constraints-requires
     bound-ranges-requires
+    bound-parts-requires
     same-length
     returns)
