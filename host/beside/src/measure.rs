@@ -11,7 +11,7 @@ use std::{
 };
 
 use job::answer::{Answer, Refusal, Request, Side as _};
-use kit::{Kit, Listing};
+use kit::{Kit, Limits, Listing, lent};
 use oracle::Rust;
 
 use crate::{clock::timed, jobs::Job};
@@ -24,6 +24,8 @@ const ENOUGH: Duration = Duration::from_millis(500);
 const FEWEST: usize = 3;
 /// unless they have taken so long.
 const TOO_LONG: Duration = Duration::from_secs(2);
+/// A round clears the areas so many times.
+const CLEARED: u32 = 20;
 /// A process that takes longer is given up.
 const GIVEN_UP: Duration = Duration::from_secs(90);
 
@@ -115,6 +117,20 @@ fn measured(side: Side, kit: &mut Kit, request: &Request) -> Given {
         Side::Rust => Given::Rust(Rust.answer(request)),
         Side::Unlisted => Given::Unlisted(oracle::carried_out(request).map(drop)),
     }
+}
+
+/// The areas' bytes at these limits, and the best time in which the C library clears them once: no call
+/// can take less.
+pub fn clearing(limits: &Limits) -> (usize, Duration) {
+    let mut areas = lent::needed(limits).map(|length| vec![0u8; length]);
+    let mut clear = || areas.iter_mut().for_each(|area| black_box(area).fill(0));
+    let (mut best, mut total) = (Duration::MAX, Duration::ZERO);
+    while total < ENOUGH {
+        let (time, ()) = timed(|| (0..CLEARED).for_each(|_| clear()));
+        best = best.min(time / CLEARED);
+        total += time;
+    }
+    (areas.iter().map(Vec::len).sum(), best)
 }
 
 /// The listing's length and a sum of the answer.

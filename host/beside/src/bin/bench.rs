@@ -1,17 +1,18 @@
 //! `bench` sets the proved library beside the Rust, job by job: processor time, the best of several
-//! rounds, and instructions, counted by callgrind where valgrind is installed; then families of jobs
-//! of rising size. Both sides must give the same answer. `bench times` and `bench growth` are parts of
-//! it. `bench time SIDE JOB` measures one job on one side (`ours`, `rust`, `unlisted`), `bench once
+//! rounds, and instructions, counted by callgrind where valgrind is installed; then how long the areas
+//! take to clear, and families of jobs of rising size. Both sides must give the same answer. `bench
+//! times`, `bench clearing` and `bench growth` are parts of it. `bench time SIDE JOB` measures one job on one side (`ours`, `rust`, `unlisted`), `bench once
 //! SIDE JOB` runs it once.
 
 use std::time::Duration;
 
 use beside::{
     jobs::{self, Job},
-    measure::{Found, Side, instructions, measure, time},
+    measure::{self, Found, Side, instructions, measure, time},
 };
+use kit::Limits;
 
-const USAGE: &str = "usage: bench [times | growth | time SIDE JOB | once SIDE JOB]";
+const USAGE: &str = "usage: bench [times | clearing | growth | time SIDE JOB | once SIDE JOB]";
 
 /// Instructions are counted where a call takes no longer: under callgrind it takes some fifty times
 /// as long.
@@ -24,9 +25,12 @@ fn main() {
         [] => {
             table(true);
             println!();
+            clearing();
+            println!();
             growth();
         }
         ["times"] => table(false),
+        ["clearing"] => clearing(),
         ["growth"] => growth(),
         ["time" | "once", side, name] => {
             let side = Side::of_word(side).expect(USAGE);
@@ -80,6 +84,21 @@ fn table(counting: bool) {
     }
 }
 
+/// What every call has to do: its areas are cleared once.
+fn clearing() {
+    row(&["limits", "bytes of areas", "cleared in"]);
+    row(&["---"; 3]);
+    let named = [
+        ("kitlist", Limits::KITLIST),
+        ("a branch's", Limits::BRANCH),
+        ("the ceilings", Limits::CEILINGS),
+    ];
+    for (name, limits) in named {
+        let (bytes, best) = measure::clearing(&limits);
+        row(&[name, &bytes.to_string(), &time_of(best.as_nanos() as f64)]);
+    }
+}
+
 /// Families of rising size, with the time for each byte of job and listing.
 fn growth() {
     row(&["job", "bytes", "listing", "ours", "ours, a byte", "Rust", "ratio"]);
@@ -126,10 +145,11 @@ fn nanoseconds(found: Found) -> f64 {
 
 /// A time with three digits.
 fn told(found: Option<Found>) -> String {
-    let Some(found) = found else {
-        return "given up".to_string();
-    };
-    match nanoseconds(found) {
+    found.map_or("given up".to_string(), |found| time_of(nanoseconds(found)))
+}
+
+fn time_of(nanoseconds: f64) -> String {
+    match nanoseconds {
         time if time < 1e6 => format!("{} µs", digits(time / 1e3)),
         time if time < 1e9 => format!("{} ms", digits(time / 1e6)),
         time => format!("{} s", digits(time / 1e9)),
