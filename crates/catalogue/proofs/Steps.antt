@@ -1,16 +1,17 @@
 -- One item of ten, one record, and the loop over them: what is left of the walks stays the same.
 use mathlib.Core.Path.{_≡_, refl, sym, _∙_, ap}
-use mathlib.Core.Bool.{Bool, true, false}
+use mathlib.Core.Bool.{Bool, true, false, _&&_, _||_}
 use mathlib.Core.List.{List, []}
 use mathlib.Core.Option.{Option, none, some}
 use Prim.Native.Nat.{ℕ, _+_, _-_, _*_, _<_, _≤_, zero-le}
 use native.Mathlib.Omega.{arith}
 use lib.Dec.{ltb, leb}
-use lib.ListN.{length, getD, take, drop, length-drop}
-use borrow.Author.Tests.{lt-leb, le-ltb, leb-true, ne-eqb}
+use lib.ListN.{length, getD, take, drop}
+use borrow.Author.Tests.{lt-leb, le-ltb, leb-true, ltb-true}
 use Rattle.rules.specs.Compute.{computing}
 use Rattle.rules.specs.Bytes.{byteAt, wordAt}
 use Rattle.rules.specs.Lists.{filter, all, upTo}
+use Rattle.rules.proofs.Bools.{and-left, and-right}
 use Rattle.rules.proofs.KindTable.{not-one, looked-up}
 use Rattle.rules.proofs.Member.{all-out, upTo-in}
 use Rattle.rules.proofs.WalkLaws.{walk-record, walk-still, read-ok, read-sheet, Reads, run-reads, check-reads}
@@ -34,53 +35,75 @@ use Rattle.conditions.proofs.Kept.{sized-none}
 use Rattle.cache.specs.Areas.{assembled, catalogue}
 use Rattle.kept.specs.declared.Added.{Added}
 use Rattle.kept.specs.declared.Added.the-variants.{Counted, Refused}
+use Rattle.catalogue.specs.declared.Step.{Step}
 use Rattle.catalogue.specs.declared.Step.the-variants as Step
 use Rattle.catalogue.specs.declared.Read.the-variants as Read
 use Rattle.kept.specs.Entered.{rowsOf, answered, After, Entered}
-use Rattle.catalogue.specs.Walking.{Same, Ready, ItemAt, placeAfter, progressAfter, Passed, AtSheet, Stepped, placeOf, progressOf, ReadUp}
+use Rattle.catalogue.specs.Walking.{Same, Ready, stepTo, Taken, ItemAt, placeAfter, progressAfter, Passed, AtSheet, Stepped, placeOf, progressOf, ReadUp}
 
 -- ---- one item of ten
 
-module _ (k : Counts) (c : Catalogue) (r : Added) (m u t : List ℕ) (kind : ℕ) (b : List ℕ) where
-  pub as-name : (f : ℕ) → kind ≡ 1 → f ≡ byteAt b 0 → Entered k c (Item.name f) r m u t → Entered k c (itemRead kind b) r m u t
-  unfolding itemRead
-  as-name f e h0 x = rw (e, ← h0) x
+module _ (next : ℕ) (a : Added) where
+  pub to-next : (r : Counts) → a ≡ Counted r → Step.Next next r ≡ stepTo next a
+  unfolding stepTo
+  to-next r e = rw e
 
-  pub as-part : (n f y z : ℕ) → kind ≡ 2 → n ≡ wordAt b 0 → f ≡ byteAt b 2 → y ≡ wordAt b 3 → z ≡ wordAt b 5 → Entered k c (Item.part n f y z) r m u t → Entered k c (itemRead kind b) r m u t
-  unfolding itemRead
-  as-part n f y z e h0 h1 h2 h3 x = rw (e, ← h0, ← h1, ← h2, ← h3) x
+  pub to-refused : (f : Refusal) → a ≡ Refused f → Step.Refused f ≡ stepTo next a
+  unfolding stepTo
+  to-refused f e = rw e
 
-  pub as-range : (n : ℕ) → kind ≡ 3 → n ≡ wordAt b 0 → Entered k c (Item.range n) r m u t → Entered k c (itemRead kind b) r m u t
-  unfolding itemRead
-  as-range n e h0 x = rw (e, ← h0) x
+-- the last of the ten kinds
+past-five : (n : ℕ) → 0 < n → (n ≡ 1 → ⊥) → (n ≡ 2 → ⊥) → (n ≡ 3 → ⊥) → (n ≡ 4 → ⊥) → (n ≡ 5 → ⊥) → 5 < n
+past-five n h e1 e2 e3 e4 e5 = omega arith
 
-  pub as-member : (n p : ℕ) → kind ≡ 4 → n ≡ wordAt b 0 → p ≡ wordAt b 2 → Entered k c (Item.member n p) r m u t → Entered k c (itemRead kind b) r m u t
-  unfolding itemRead
-  as-member n p e h0 h1 x = rw (e, ← h0, ← h1) x
+ten : (n : ℕ) → 5 < n → n ≤ 10 → (n ≡ 6 → ⊥) → (n ≡ 7 → ⊥) → (n ≡ 8 → ⊥) → (n ≡ 9 → ⊥) → n ≡ 10
+ten n h g e6 e7 e8 e9 = omega arith
 
-  pub as-union : kind ≡ 5 → Entered k c Item.union r m u t → Entered k c (itemRead kind b) r m u t
-  unfolding itemRead
-  as-union e x = rw (e) x
+module _ (at kind : ℕ) (k : Counts) (c : Catalogue) (b : List ℕ) (s : Step) (r : Added) (m u t : List ℕ) where
+  taken : (n : ℕ) → at + n ≡ at + 1 + bodyLength kind → Entered k c (itemRead kind b) r m u t → s ≡ stepTo (at + n) r → Taken at kind k c b s m u t
+  taken n q x y = record { added = r; entered = x; step = y ∙ ap (λ (p : ℕ). stepTo p r) q }
 
-  pub as-union-member : (n p : ℕ) → kind ≡ 6 → n ≡ wordAt b 0 → p ≡ wordAt b 2 → Entered k c (Item.unionMember n p) r m u t → Entered k c (itemRead kind b) r m u t
-  unfolding itemRead
-  as-union-member n p e h0 h1 x = rw (e, ← h0, ← h1) x
+  pub as-name : (f : ℕ) → kind ≡ 1 → f ≡ byteAt b 0 → Entered k c (Item.name f) r m u t → s ≡ stepTo (at + 2) r → Taken at kind k c b s m u t
+  unfolding itemRead bodyLength
+  as-name f e h0 x y = taken 2 (rw e (omega arith)) (rw (e, ← h0) x) y
 
-  pub as-leaf : (n : ℕ) → kind ≡ 7 → n ≡ wordAt b 0 → Entered k c (Item.leaf n) r m u t → Entered k c (itemRead kind b) r m u t
-  unfolding itemRead
-  as-leaf n e h0 x = rw (e, ← h0) x
+  pub as-part : (n f y₀ z : ℕ) → kind ≡ 2 → n ≡ wordAt b 0 → f ≡ byteAt b 2 → y₀ ≡ wordAt b 3 → z ≡ wordAt b 5 → Entered k c (Item.part n f y₀ z) r m u t → s ≡ stepTo (at + 8) r → Taken at kind k c b s m u t
+  unfolding itemRead bodyLength
+  as-part n f y₀ z e h0 h1 h2 h3 x y = taken 8 (rw e (omega arith)) (rw (e, ← h0, ← h1, ← h2, ← h3) x) y
 
-  pub as-joined : (o n p : ℕ) → kind ≡ 8 → o ≡ byteAt b 0 → n ≡ wordAt b 1 → p ≡ wordAt b 3 → Entered k c (Item.joined o n p) r m u t → Entered k c (itemRead kind b) r m u t
-  unfolding itemRead
-  as-joined o n p e h0 h1 h2 x = rw (e, ← h0, ← h1, ← h2) x
+  pub as-range : (n : ℕ) → kind ≡ 3 → n ≡ wordAt b 0 → Entered k c (Item.range n) r m u t → s ≡ stepTo (at + 3) r → Taken at kind k c b s m u t
+  unfolding itemRead bodyLength
+  as-range n e h0 x y = taken 3 (rw e (omega arith)) (rw (e, ← h0) x) y
 
-  pub as-requirement : (o f n q : ℕ) → kind ≡ 9 → o ≡ wordAt b 0 → f ≡ byteAt b 2 → n ≡ wordAt b 3 → q ≡ wordAt b 5 → Entered k c (Item.requirement o f n q) r m u t → Entered k c (itemRead kind b) r m u t
-  unfolding itemRead
-  as-requirement o f n q e h0 h1 h2 h3 x = rw (e, ← h0, ← h1, ← h2, ← h3) x
+  pub as-member : (n p : ℕ) → kind ≡ 4 → n ≡ wordAt b 0 → p ≡ wordAt b 2 → Entered k c (Item.member n p) r m u t → s ≡ stepTo (at + 5) r → Taken at kind k c b s m u t
+  unfolding itemRead bodyLength
+  as-member n p e h0 h1 x y = taken 5 (rw e (omega arith)) (rw (e, ← h0, ← h1) x) y
 
-  pub as-constraint : (o n : ℕ) → (kind ≡ 1 → ⊥) → (kind ≡ 2 → ⊥) → (kind ≡ 3 → ⊥) → (kind ≡ 4 → ⊥) → (kind ≡ 5 → ⊥) → (kind ≡ 6 → ⊥) → (kind ≡ 7 → ⊥) → (kind ≡ 8 → ⊥) → (kind ≡ 9 → ⊥) → o ≡ wordAt b 0 → n ≡ wordAt b 2 → Entered k c (Item.constraint o n) r m u t → Entered k c (itemRead kind b) r m u t
-  unfolding itemRead
-  as-constraint o n e1 e2 e3 e4 e5 e6 e7 e8 e9 h0 h1 x = rw (ne-eqb kind 1 e1, ne-eqb kind 2 e2, ne-eqb kind 3 e3, ne-eqb kind 4 e4, ne-eqb kind 5 e5, ne-eqb kind 6 e6, ne-eqb kind 7 e7, ne-eqb kind 8 e8, ne-eqb kind 9 e9, ← h0, ← h1) x
+  pub as-union : kind ≡ 5 → Entered k c Item.union r m u t → s ≡ stepTo (at + 1) r → Taken at kind k c b s m u t
+  unfolding itemRead bodyLength
+  as-union e x y = taken 1 (rw e (omega arith)) (rw (e) x) y
+
+  pub as-union-member : (n p : ℕ) → kind ≡ 6 → n ≡ wordAt b 0 → p ≡ wordAt b 2 → Entered k c (Item.unionMember n p) r m u t → s ≡ stepTo (at + 5) r → Taken at kind k c b s m u t
+  unfolding itemRead bodyLength
+  as-union-member n p e h0 h1 x y = taken 5 (rw e (omega arith)) (rw (e, ← h0, ← h1) x) y
+
+  pub as-leaf : (n : ℕ) → kind ≡ 7 → n ≡ wordAt b 0 → Entered k c (Item.leaf n) r m u t → s ≡ stepTo (at + 3) r → Taken at kind k c b s m u t
+  unfolding itemRead bodyLength
+  as-leaf n e h0 x y = taken 3 (rw e (omega arith)) (rw (e, ← h0) x) y
+
+  pub as-joined : (o n p : ℕ) → kind ≡ 8 → o ≡ byteAt b 0 → n ≡ wordAt b 1 → p ≡ wordAt b 3 → Entered k c (Item.joined o n p) r m u t → s ≡ stepTo (at + 6) r → Taken at kind k c b s m u t
+  unfolding itemRead bodyLength
+  as-joined o n p e h0 h1 h2 x y = taken 6 (rw e (omega arith)) (rw (e, ← h0, ← h1, ← h2) x) y
+
+  pub as-requirement : (o f n q : ℕ) → kind ≡ 9 → o ≡ wordAt b 0 → f ≡ byteAt b 2 → n ≡ wordAt b 3 → q ≡ wordAt b 5 → Entered k c (Item.requirement o f n q) r m u t → s ≡ stepTo (at + 8) r → Taken at kind k c b s m u t
+  unfolding itemRead bodyLength
+  as-requirement o f n q e h0 h1 h2 h3 x y = taken 8 (rw e (omega arith)) (rw (e, ← h0, ← h1, ← h2, ← h3) x) y
+
+  pub as-constraint : (o n : ℕ) → 0 < kind → kind ≤ 10 → (kind ≡ 1 → ⊥) → (kind ≡ 2 → ⊥) → (kind ≡ 3 → ⊥) → (kind ≡ 4 → ⊥) → (kind ≡ 5 → ⊥) → (kind ≡ 6 → ⊥) → (kind ≡ 7 → ⊥) → (kind ≡ 8 → ⊥) → (kind ≡ 9 → ⊥) → o ≡ wordAt b 0 → n ≡ wordAt b 2 → Entered k c (Item.constraint o n) r m u t → s ≡ stepTo (at + 5) r → Taken at kind k c b s m u t
+  unfolding itemRead bodyLength
+  as-constraint o n l g e1 e2 e3 e4 e5 e6 e7 e8 e9 h0 h1 x y =
+      let e : kind ≡ 10 = ten kind (past-five kind l e1 e2 e3 e4 e5) g e6 e7 e8 e9 in
+      taken 5 (rw e (omega arith)) (rw (e, ← h0, ← h1) x) y
 
 -- a union member needs a row
 pub row-free : (k : Counts) (kind : ℕ) (b : List ℕ) → k .members + rowsOf (itemRead kind b) ≤ 13107 → kind ≡ 6 → k .members < 13107
@@ -212,55 +235,94 @@ module _ (job : List ℕ) (at next : ℕ) (x : Record) (d : next ≡ nextOf job 
   body-whole h = next-inside false job at next _ item-is d h
 
   pub item-at : (b : Bool) (l : List ℕ) → at < length job → b ≡ startsSheet (getD job at 0) (kindOf (getD job at 0)) → b ≡ false
-      → l ≡ take (next - (at + 1)) (drop (at + 1) job) → ItemAt job at next (itemRead (getD job at 0) l)
+      → l ≡ take (next - (at + 1)) (drop (at + 1) job) → ItemAt job at (getD job at 0) l
   item-at b l h s n f =
       let z : next - (at + 1) ≡ bodyLength (getD job at 0) = omega arith in
-      record { there = h; kind = sym s ∙ n; is = rw (f, z) item-is; behind = next-behind false job at next _ item-is d }
+      record { there = h; here = refl; class = sym s ∙ n; is = rw (f, z) item-is }
 
-module _ (job : List ℕ) (at next : ℕ) (k : Counts) (m u t : List ℕ) (i : Item) (y : Ready at k m u t) (x : ItemAt job at next i) where
+abbrev numbered : ℕ × Kind × ℕ → Bool
+numbered e = leb 32 (e .0) || (ltb 0 (e .0) && leb (e .0) 10)
+
+-- the kinds of items are 1 to 10
+item-numbers : (b : ℕ) (x : Kind × ℕ) → kindOf b ≡ some x → startsSheet b (kindOf b) ≡ false → (0 < b) × (b ≤ 10)
+unfolding kindOf startsSheet ofSheet
+item-numbers b x e s =
+    let l : leb 32 b ≡ false = rw e at s in
+    let n : (leb 32 b || (ltb 0 b && leb b 10)) ≡ true = looked-up numbered b kinds x (unfold computing in refl) e in
+    let w : (ltb 0 b && leb b 10) ≡ true = rw l at n in
+    (ltb-true 0 b (and-left (ltb 0 b) _ w), leb-true b 10 (and-right (ltb 0 b) _ w))
+
+module _ (job : List ℕ) (at kind : ℕ) (b : List ℕ) (k : Counts) (m u t : List ℕ) (x : ItemAt job at kind b) where
+  is-there : read false (getD job at 0) (drop (at + 1) job) ≡ rules.ok (records.catalogue (itemRead kind b))
+  is-there = rw (← x .here) (x .is)
+
+  class-there : startsSheet (getD job at 0) (kindOf (getD job at 0)) ≡ false
+  class-there = rw (← x .here) (x .class)
+
+  abbrev next : ℕ
+  next = at + 1 + bodyLength kind
+
+  next-there : next ≡ nextOf job at
+  next-there = rw (x .here)
+
+  behind : next ≡ at + 1 + bodyOf (kindOf (getD job at 0))
+  behind = next-behind false job at next _ is-there next-there
+
   whole : next ≤ length job
-  unfolding bodyOf
-  whole =
-      let r = read-ok false (getD job at 0) (drop (at + 1) job) (records.catalogue i) (x .is) in
-      let w : r .body ≤ length job - (at + 1) = rw length-drop at (r .whole) in
-      let e : next ≡ at + 1 + r .body = x .behind ∙ rw (r .found) in
-      omega (arith, x .there)
+  whole = next-inside false job at next _ is-there next-there (x .there)
 
-  light : 5 * rowsOf i ≤ 1 + bodyOf (kindOf (getD job at 0))
-  light = rows-light (getD job at 0) (drop (at + 1) job) i (x .is)
+  light : 5 * rowsOf (itemRead kind b) ≤ 1 + bodyOf (kindOf (getD job at 0))
+  light = rows-light (getD job at 0) (drop (at + 1) job) (itemRead kind b) is-there
 
-  pub item-room : length job ≤ 65536 → k .members + rowsOf i ≤ 13107
-  item-room w = omega (arith, y .few, whole, light, x .behind)
+  numbers : (0 < kind) × (kind ≤ 10)
+  numbers = let r = read-ok false kind (drop (at + 1) job) _ (x .is) in item-numbers kind (r .kind, r .body) (r .found) (x .class)
 
-  module _ (a : Added) (m′ u′ t′ : List ℕ) (g : Entered k (catalogue k m u t) i a m′ u′ t′) where
-    pub item-refused : (f : Refusal) → a ≡ Refused f → Stepped job at k m u t (Step.Refused f) m′ u′ t′
-    unfolding placeAfter progressAfter answered
-    item-refused f p =
-        let v : addItem (catalogue k m u t) i ≡ rules.refuse (refusalOf f) = sym (rw p at (g .is)) in
-        record {
-          same = record {
-            run = λ z. stopping job at _ (x .there) (runStep z job) _ (run-reads z job) (run-reads z job .item-refused _ at _ _ i (refusalOf f) (x .kind) (x .is) v);
-            check = λ z. stopping job at _ (x .there) (checkStep z job) _ (check-reads z job) (check-reads z job .item-refused _ at _ _ i (refusalOf f) (x .kind) (x .is) v);
-          };
-          then = tt;
-        }
+  pub item-from : 0 < kind
+  item-from = numbers .0
 
-    pub item-next : (r : Counts) → a ≡ Counted r → Stepped job at k m u t (Step.Next next r) m′ u′ t′
-    unfolding placeAfter progressAfter answered
-    item-next r p =
-        let v : addItem (catalogue k m u t) i ≡ rules.ok (catalogue r m′ u′ t′) = sym (rw p at (g .is)) in
-        let w : After k i r m′ u′ t′ = rw p at (g .still) in
-        record {
-          same = record {
-            run = λ z. going job at _ (x .there) (runStep z job) _ next (x .behind) (run-reads z job .item _ _ at _ _ i (x .kind) (x .is) v);
-            check = λ z. going job at _ (x .there) (checkStep z job) _ next (x .behind) (check-reads z job .item _ _ at _ _ i (x .kind) (x .is) v);
-          };
-          then = record {
-            onward = omega (arith, x .behind);
-            inside = whole;
-            ready = record { kept = w .kept; few = omega (arith, w .members, y .few, light, x .behind) };
-          };
-        }
+  pub item-to : kind ≤ 10
+  item-to = numbers .1
+
+  module _ (y : Ready at k m u t) where
+    pub item-room : length job ≤ 65536 → k .members + rowsOf (itemRead kind b) ≤ 13107
+    item-room w = omega (arith, y .few, whole, light, behind)
+
+    module _ (a : Added) (m′ u′ t′ : List ℕ) (g : Entered k (catalogue k m u t) (itemRead kind b) a m′ u′ t′) where
+      item-refused : (f : Refusal) → a ≡ Refused f → Stepped job at k m u t (Step.Refused f) m′ u′ t′
+      unfolding placeAfter progressAfter answered
+      item-refused f p =
+          let v : addItem (catalogue k m u t) (itemRead kind b) ≡ rules.refuse (refusalOf f) = sym (rw p at (g .is)) in
+          record {
+            same = record {
+              run = λ z. stopping job at _ (x .there) (runStep z job) _ (run-reads z job) (run-reads z job .item-refused _ at _ _ _ (refusalOf f) class-there is-there v);
+              check = λ z. stopping job at _ (x .there) (checkStep z job) _ (check-reads z job) (check-reads z job .item-refused _ at _ _ _ (refusalOf f) class-there is-there v);
+            };
+            then = tt;
+          }
+
+      item-next : (r : Counts) → a ≡ Counted r → Stepped job at k m u t (Step.Next next r) m′ u′ t′
+      unfolding placeAfter progressAfter answered
+      item-next r p =
+          let v : addItem (catalogue k m u t) (itemRead kind b) ≡ rules.ok (catalogue r m′ u′ t′) = sym (rw p at (g .is)) in
+          let w : After k (itemRead kind b) r m′ u′ t′ = rw p at (g .still) in
+          record {
+            same = record {
+              run = λ z. going job at _ (x .there) (runStep z job) _ next behind (run-reads z job .item _ _ at _ _ _ class-there is-there v);
+              check = λ z. going job at _ (x .there) (checkStep z job) _ next behind (check-reads z job .item _ _ at _ _ _ class-there is-there v);
+            };
+            then = record {
+              onward = omega arith;
+              inside = whole;
+              ready = record { kept = w .kept; few = omega (arith, w .members, y .few, light, behind) };
+            };
+          }
+
+    pub item-steps : (s : Step) (m′ u′ t′ : List ℕ) → Taken at kind k (catalogue k m u t) b s m′ u′ t′ → Stepped job at k m u t s m′ u′ t′
+    item-steps s m′ u′ t′ g = rw (g .step) (go (g .added) (g .entered))
+      where
+        go : (a : Added) → Entered k (catalogue k m u t) (itemRead kind b) a m′ u′ t′ → Stepped job at k m u t (stepTo next a) m′ u′ t′
+        go (Counted r) e = unfold stepTo in item-next (Counted r) m′ u′ t′ e r refl
+        go (Refused f) e = unfold stepTo in item-refused (Refused f) m′ u′ t′ e f refl
 
 -- ---- the loop
 

@@ -4,16 +4,20 @@ use mathlib.Core.Bool.{true, false}
 use mathlib.Core.List.{List}
 use Prim.Native.Nat.{ℕ, _+_, _*_, _<_, _≤_}
 use lib.ListN.{length, getD, drop}
-use Rattle.rules.specs.Catalogue.{emptyCatalogue}
+use Rattle.rules.specs.Catalogue.{Catalogue, emptyCatalogue}
 use Rattle.rules.specs.Refusals.{ok, numberAndPlace}
-use Rattle.rules.specs.Records.{kindOf, Item, read}
+use Rattle.rules.specs.Records.{kindOf, read}
 use Rattle.rules.specs.Records as rules
 use Rattle.rules.specs.Limits.{Terms}
-use Rattle.rules.specs.Job.{Progress, reading, stopped, bodyOf, walk, runStep, checkStep, startsSheet}
+use Rattle.rules.specs.Job.{Progress, reading, stopped, walk, runStep, checkStep, startsSheet}
 use Rattle.refusal.specs.Refusing.{refusalOf}
+use Rattle.reader.specs.Reading.{bodyLength, itemRead}
 use Rattle.tables.specs.declared.Counts.{Counts}
 use Rattle.cache.specs.Areas.{catalogue}
 use Rattle.kept.specs.Kept.{Kept}
+use Rattle.kept.specs.Entered.{Entered}
+use Rattle.kept.specs.declared.Added.{Added}
+use Rattle.kept.specs.declared.Added.the-variants as Added
 use Rattle.catalogue.specs.declared.Step.{Step}
 use Rattle.catalogue.specs.declared.Step.the-variants as Step
 use Rattle.catalogue.specs.declared.Read.{Read}
@@ -31,12 +35,22 @@ pub record Ready (at : ℕ) (k : Counts) (m u t : List ℕ) : Type 0 where
 
 -- ---- after a record
 
--- item i stands at `at`, whole, and `next` is past it
-pub record ItemAt (job : List ℕ) (at next : ℕ) (i : Item) : Type 0 where
+-- an item of this kind and body stands at `at`, whole
+pub record ItemAt (job : List ℕ) (at kind : ℕ) (b : List ℕ) : Type 0 where
   pub there : at < length job
-  pub kind : startsSheet (getD job at 0) (kindOf (getD job at 0)) ≡ false
-  pub is : read false (getD job at 0) (drop (at + 1) job) ≡ ok (rules.catalogue i)
-  pub behind : next ≡ at + 1 + bodyOf (kindOf (getD job at 0))
+  pub here : kind ≡ getD job at 0
+  pub class : startsSheet kind (kindOf kind) ≡ false
+  pub is : read false kind (drop (at + 1) job) ≡ ok (rules.catalogue (itemRead kind b))
+
+unfoldable pub stepTo : ℕ → Added → Step
+stepTo next (Added.Counted r) = Step.Next next r
+stepTo next (Added.Refused f) = Step.Refused f
+
+-- the item of this kind and body at `at`, of areas that held k things and the catalogue c: the step after it, and the areas m, u and t
+pub record Taken (at kind : ℕ) (k : Counts) (c : Catalogue) (b : List ℕ) (s : Step) (m u t : List ℕ) : Type 0 where
+  pub added : Added
+  pub entered : Entered k c (itemRead kind b) added m u t
+  pub step : s ≡ stepTo (at + 1 + bodyLength kind) added
 
 module _ (job : List ℕ) (at : ℕ) (k : Counts) where
   unfoldable pub placeAfter : Step → ℕ

@@ -12,8 +12,8 @@ ghost use Rattle.rules.specs.Job.{startsSheet};
 ghost use Rattle.reader.specs.Reading.{itemRead};
 ghost use Rattle.cache.specs.Areas.{catalogue};
 ghost use Rattle.kept.specs.Kept.{Kept};
-ghost use Rattle.kept.specs.Entered.{rowsOf, Entered};
-ghost use Rattle.catalogue.specs.Walking.{Ready, ItemAt, Stepped, ReadUp};
+ghost use Rattle.kept.specs.Entered.{rowsOf};
+ghost use Rattle.catalogue.specs.Walking.{Ready, stepTo, Taken, ItemAt, Stepped, ReadUp};
 
 // After the record at a place: the place and the counts after it, or the place is that of the first sheet record, or why it is refused.
 pub enum Step {
@@ -28,77 +28,116 @@ pub enum Read {
     Refused { refusal: Refusal, at: usize },
 }
 
-// The item of a kind, read from its body.
+// The step to `next` with the counts after an item, or why it is refused.
+fn step_to(next: usize, added: Added) -> Step
+    ensures { λ r. ⌜ r ≡ stepTo next added ⌝ }
+{
+    match added {
+        Added::Counted(counts) => Step::Next { at: next, counts },
+        Added::Refused(refusal) => Step::Refused(refusal),
+    }
+}
+
+// The item of a kind, read from the body of the record at `at`. Each kind has its own length: the next place does not wait for a table.
 pub fn add_item(
+    at: usize,
     marks: &mut [u8],
     unions: &mut [u8],
     t: &mut [u8],
     k: Counts,
     kind: u8,
     body: &[u8],
-) -> Added
+) -> Step
     requires { ⌜ Kept k (now marks) (now unions) (now t) ⌝ }
     requires { ⌜ k .members + rowsOf (itemRead kind (now body)) ≤ 13107 ⌝ }
-    ensures { λ r. ⌜ Entered k (catalogue k (now (marks .entry)) (now (unions .entry)) (now (t .entry))) (itemRead kind (now (body .entry)))
+    requires { ⌜ (at < 65536) × (0 < kind) × (kind ≤ 10) ⌝ }
+    ensures { λ r. ⌜ Taken at kind k (catalogue k (now (marks .entry)) (now (unions .entry)) (now (t .entry))) (now (body .entry))
         r (now (marks .exit)) (now (unions .exit)) (now (t .exit)) ⌝ }
 {
     match kind {
-        1 => part_items::add_name(marks, unions, t, k, reader::byte(body, 0)),
-        2 => part_items::add_part(
-            marks,
-            unions,
-            t,
-            k,
-            reader::word(body, 0),
-            reader::byte(body, 2),
-            reader::word(body, 3),
-            reader::word(body, 5),
+        1 => step_to(
+            at + 2,
+            part_items::add_name(marks, unions, t, k, reader::byte(body, 0)),
         ),
-        3 => part_items::add_range(marks, unions, t, k, reader::word(body, 0)),
-        4 => part_items::add_member(
-            marks,
-            unions,
-            t,
-            k,
-            reader::word(body, 0),
-            reader::word(body, 2),
+        2 => step_to(
+            at + 8,
+            part_items::add_part(
+                marks,
+                unions,
+                t,
+                k,
+                reader::word(body, 0),
+                reader::byte(body, 2),
+                reader::word(body, 3),
+                reader::word(body, 5),
+            ),
         ),
-        5 => rule_items::add_union(marks, unions, t, k),
-        6 => rule_items::add_union_member(
-            marks,
-            unions,
-            t,
-            k,
-            reader::word(body, 0),
-            reader::word(body, 2),
+        3 => step_to(
+            at + 3,
+            part_items::add_range(marks, unions, t, k, reader::word(body, 0)),
         ),
-        7 => rule_items::add_leaf(marks, unions, t, k, reader::word(body, 0)),
-        8 => rule_items::add_joined(
-            marks,
-            unions,
-            t,
-            k,
-            reader::byte(body, 0),
-            reader::word(body, 1),
-            reader::word(body, 3),
+        4 => step_to(
+            at + 5,
+            part_items::add_member(
+                marks,
+                unions,
+                t,
+                k,
+                reader::word(body, 0),
+                reader::word(body, 2),
+            ),
         ),
-        9 => rule_items::add_requirement(
-            marks,
-            unions,
-            t,
-            k,
-            reader::word(body, 0),
-            reader::byte(body, 2),
-            reader::word(body, 3),
-            reader::word(body, 5),
+        5 => step_to(at + 1, rule_items::add_union(marks, unions, t, k)),
+        6 => step_to(
+            at + 5,
+            rule_items::add_union_member(
+                marks,
+                unions,
+                t,
+                k,
+                reader::word(body, 0),
+                reader::word(body, 2),
+            ),
         ),
-        _ => rule_items::add_constraint(
-            marks,
-            unions,
-            t,
-            k,
-            reader::word(body, 0),
-            reader::word(body, 2),
+        7 => step_to(
+            at + 3,
+            rule_items::add_leaf(marks, unions, t, k, reader::word(body, 0)),
+        ),
+        8 => step_to(
+            at + 6,
+            rule_items::add_joined(
+                marks,
+                unions,
+                t,
+                k,
+                reader::byte(body, 0),
+                reader::word(body, 1),
+                reader::word(body, 3),
+            ),
+        ),
+        9 => step_to(
+            at + 8,
+            rule_items::add_requirement(
+                marks,
+                unions,
+                t,
+                k,
+                reader::word(body, 0),
+                reader::byte(body, 2),
+                reader::word(body, 3),
+                reader::word(body, 5),
+            ),
+        ),
+        _ => step_to(
+            at + 5,
+            rule_items::add_constraint(
+                marks,
+                unions,
+                t,
+                k,
+                reader::word(body, 0),
+                reader::word(body, 2),
+            ),
         ),
     }
 }
@@ -116,11 +155,10 @@ pub fn starts_sheet(kind: u8) -> bool
     true
 }
 
-// The item of the record at `at`, of this kind and body, the next record being at `next`.
+// The item of the record at `at`, of this kind and body.
 fn enter(
     job: &[u8],
     at: usize,
-    next: usize,
     marks: &mut [u8],
     unions: &mut [u8],
     t: &mut [u8],
@@ -130,15 +168,11 @@ fn enter(
 ) -> Step
     requires { ⌜ length (now job) ≤ 65536 ⌝ }
     requires { ⌜ Ready at k (now marks) (now unions) (now t) ⌝ }
-    requires { ⌜ ItemAt (now job) at next (itemRead kind (now body)) ⌝ }
+    requires { ⌜ ItemAt (now job) at kind (now body) ⌝ }
     ensures { λ r. ⌜ Stepped (now (job .entry)) at k (now (marks .entry)) (now (unions .entry)) (now (t .entry))
         r (now (marks .exit)) (now (unions .exit)) (now (t .exit)) ⌝ }
 {
-    let added = add_item(marks, unions, t, k, kind, body);
-    match added {
-        Added::Counted(counts) => Step::Next { at: next, counts },
-        Added::Refused(refusal) => Step::Refused(refusal),
-    }
+    add_item(at, marks, unions, t, k, kind, body)
 }
 
 // The record at `at`. A sheet record is left as it is, its body not looked at.
@@ -166,7 +200,7 @@ pub fn read_record(
         Record::Sheet => Step::Sheet,
         Record::Item => {
             let body = reader::body(job, at, next);
-            enter(job, at, next, marks, unions, t, k, kind, body)
+            enter(job, at, marks, unions, t, k, kind, body)
         }
     }
 }

@@ -1,25 +1,25 @@
 -- The reader's functions against the definitions: a law for each way out of each.
 use mathlib.Core.Path.{_≡_, refl, sym, _∙_, ap}
 use mathlib.Core.Bool.{Bool, true, false, not, _&&_, false≢true}
-use mathlib.Core.List.{List, [], _∷_, _++_}
+use mathlib.Core.List.{List}
 use mathlib.Core.Option.{Option, none, some}
-use Prim.Native.Nat.{ℕ, zero, suc, _+_, _*_, _-_, _/_, _%_, _^_, _<_, _≤_}
+use Prim.Native.Nat.{ℕ, suc, _+_, _*_, _-_, _/_, _%_, _^_, _<_, _≤_}
 use native.Mathlib.Omega.{arith}
 use native.Mathlib.Numerals.{add-one}
 use lib.Dec.{eqb, ltb, leb}
 use lib.ListN.{length, getD, take, drop, length-drop, List·getD-eq-default}
 use native.Mathlib.Decide.{decLt}
-use borrow.Author.Tests.{lt-ltb, le-ltb, lt-leb, le-leb, eq-eqb, ne-eqb, eqb-true}
+use borrow.Author.Tests.{lt-ltb, le-ltb, lt-leb, le-leb, ne-eqb, eqb-true}
 use Rattle.rules.specs.Lists.{all, upTo}
 use Rattle.rules.specs.Compute.{computing}
 use Rattle.rules.proofs.Bools.{and-left, and-right}
 use Rattle.rules.proofs.Member.{all-out, upTo-in}
-use Rattle.rules.proofs.KindTable.{not-one, looked-up}
+use Rattle.rules.proofs.KindTable.{looked-up}
 use Rattle.rules.proofs.WalkLaws.{read-ok}
 use Rattle.rules.specs.Job.{bodyOf}
 use Rattle.rules.specs.Bytes.{byteAt, wordAt}
-use Rattle.rules.specs.Refusals.{unknownKind, outOfPlace, cutShort, Result, ok, refuse}
-use Rattle.rules.specs.Records.{Kind, kinds, lookUp, kindOf, ofSheet, recordOf, readBody, readKind, read}
+use Rattle.rules.specs.Refusals.{ok}
+use Rattle.rules.specs.Records.{Kind, kinds, kindOf, ofSheet, recordOf, readBody, readKind, read}
 use Rattle.rules.specs.Records as rules
 use Rattle.reader.specs.declared.Command.{Command}
 use Rattle.reader.specs.declared.Command.the-variants.{Add, Draw, Run, Decide, Undo}

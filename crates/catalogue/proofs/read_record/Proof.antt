@@ -1,3 +1,4 @@
+-- `catalogue::read_record` takes one step of the walks, or stops before the first sheet record.
 use borrow.Author.Needs.{needs}
 use Rattle.catalogue.proofs.Steps.{step-sheet, body-whole, item-at, step-unread, step-command}
 use Rattle.catalogue.proofs.read_record.Statement.{statement}

@@ -1,3 +1,4 @@
+-- `reader::command_at` reads the command from the body of its record.
 use borrow.Author.Needs.{needs}
 use Rattle.reader.proofs.Laws.{command-in}
 use Rattle.reader.proofs.command_at.Statement.{statement}
