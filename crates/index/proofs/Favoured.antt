@@ -15,7 +15,7 @@ use Rattle.rules.proofs.Bools.{by-cases, and-left, and-right}
 use Rattle.words.specs.Words.{words}
 use Rattle.tables.specs.declared.Counts.{Counts}
 use Rattle.tables.specs.Tables.{Tables, tablesIn, tables, Laid}
-use Rattle.index.specs.Chains.{partsByName, keyOf, Keyed, Key, Only, favouredBounds, isFavoured, Favoured, favouredOf, Chains, Favouring, Skips}
+use Rattle.index.specs.Chains.{partsByName, keyOf, Keyed, Key, Only, favouredBounds, isFavoured, Favoured, FavouredBounded, favouredOf, Chains, Favouring, Skips}
 use Rattle.index.specs.Members.{unionHeads}
 use Rattle.index.proofs.Chaining.{only-none, only-then, only-head, only-link, key-beside, keyed-beside}
 use Rattle.index.proofs.Places as places
@@ -151,12 +151,12 @@ pub favoured-end : {k : Counts} {i j : ℕ} {s t u : List ℕ} → Favouring k j
 favoured-end {i = i} a b h = let e : i ≡ 0 = omega arith in rw e at (favoured-then a b)
 
 -- the names' bounds lie beside the heads of unions
-pub favoured-beside : {k : Counts} {t u : List ℕ} → Laid k (length t) → tables k u ≡ tables k t → Only unionHeads 0 (k .unions) (words t) (words u) → Favoured k 0 t → Favoured k 0 u
-favoured-beside {k} {t} {u} l same o g =
-    record {
+pub favoured-beside : {k : Counts} {t u : List ℕ} → Laid k (length t) → tables k u ≡ tables k t → Only unionHeads 0 (k .unions) (words t) (words u) → FavouredBounded k t → FavouredBounded k u
+favoured-beside {k} {t} {u} l same o (FavouredBounded.bounded g) =
+    FavouredBounded.bounded (record {
       above = λ x p h a c e r. rw (first x h) (g .above x p h a c (sym (keys p c) ∙ e) (before p r));
       below = λ x p h a c e r. rw (end x h) (g .below x p h a c (sym (keys p c) ∙ e) (before p r));
-    }
+    })
   where
     keys : (p : ℕ) → p < k .parts → keyOf partsByName (words u) p ≡ keyOf partsByName (words t) p
     keys = key-beside (places.parts-beside-unions k t l) o
@@ -171,6 +171,9 @@ favoured-beside {k} {t} {u} l same o g =
     end x h = o .others _ (places.favoured-beside-unions k t l .links x h .0) (places.favoured-beside-unions k t l .links x h .1)
 
 -- ---- walking
+
+opened : {k : Counts} {t : List ℕ} → FavouredBounded k t → Favoured k 0 t
+opened (FavouredBounded.bounded g) = g
 
 module _ {k : Counts} {m t : List ℕ} (name : ℕ) {from : ℕ} (d : Chains k m t) (h : from ≤ k .parts) where
   outside : (x : ℕ) → from ≤ x → x ≤ k .parts → ((p : ℕ) → from ≤ p → p < x → keyOf partsByName (words t) p ≡ name → isFavoured k t p ≡ true → ⊥)
@@ -189,13 +192,13 @@ module _ {k : Counts} {m t : List ℕ} (name : ℕ) {from : ℕ} (d : Chains k m
 
   module _ (low : name < k .names) where
     pub favoured-past : {end : ℕ} → end ≡ getD (words t) (6 * name + 5) 0 → end ≤ from → Skips (k .parts) (favouredOf k t name) from (k .parts)
-    favoured-past e g = outside (k .parts) h (omega arith) (λ p y z q f. (let o = d .favoured .below name p low (omega arith) z q f in omega arith))
+    favoured-past e g = outside (k .parts) h (omega arith) (λ p y z q f. (let o = opened (d .favoured) .below name p low (omega arith) z q f in omega arith))
 
     pub favoured-none : {first : ℕ} → first ≡ getD (words t) (6 * name + 4) 0 → k .parts ≤ first → Skips (k .parts) (favouredOf k t name) from (k .parts)
-    favoured-none e g = outside (k .parts) h (omega arith) (λ p y z q f. (let o = d .favoured .above name p low (omega arith) z q f in omega arith))
+    favoured-none e g = outside (k .parts) h (omega arith) (λ p y z q f. (let o = opened (d .favoured) .above name p low (omega arith) z q f in omega arith))
 
     pub favoured-ahead : {first : ℕ} → first ≡ getD (words t) (6 * name + 4) 0 → first < k .parts → from < first → Skips (k .parts) (favouredOf k t name) from first
-    favoured-ahead {first} e g y = outside first (omega arith) (omega arith) (λ p a z q f. (let o = d .favoured .above name p low (omega arith) (before z g) q f in omega arith))
+    favoured-ahead {first} e g y = outside first (omega arith) (omega arith) (λ p a z q f. (let o = opened (d .favoured) .above name p low (omega arith) (before z g) q f in omega arith))
       where
         before : {p : ℕ} → p < first → first < k .parts → p < k .parts
         before z g = omega arith

@@ -13,7 +13,7 @@ use Rattle.words.specs.Words.{words}
 use Rattle.marks.specs.Marks.{NextMember, EndOfMembers}
 use Rattle.tables.specs.declared.Counts.{Counts}
 use Rattle.tables.specs.Tables.{tablesIn, tables, Laid}
-use Rattle.index.specs.Chains.{First, Chain, ownerRow, partsByName, requirementsByOwner, constraintsByOwner, keyOf, Linked, Key, Keyed, Only, rangeBounds, favouredBounds, Bounded, Chains, Keys, Linking, Heading, BoundSet, boundSet, Bounding, Favouring, Chained, Skips}
+use Rattle.index.specs.Chains.{First, Chain, ownerRow, partsByName, requirementsByOwner, constraintsByOwner, keyOf, Linked, Key, Keyed, Only, rangeBounds, favouredBounds, FavouredBounded, Bounded, Chains, Keys, Linking, Heading, BoundSet, boundSet, Bounding, Favouring, Chained, Skips}
 use Rattle.index.proofs.Chaining.{Apart, Beside, only-none, only-then, only-head, only-link, linked-only, linked-more, linked-none, keyed-kept, keyed-beside, linked-beside}
 use Rattle.index.proofs.Places as places
 
@@ -189,7 +189,7 @@ all-built {k} {m} {t} l a b c d f =
             (linked-beside (places.requirements-beside-ranges k t l) (d .only) (linked-beside (places.requirements-beside-constraints k t l) (c .only) (b .linked)));
         constraints = linked-beside (places.constraints-beside-favoured k t l) (f .only) (linked-beside (places.constraints-beside-ranges k t l) (d .only) (c .linked));
         ranges = bounded-beside (places.ranges-beside-favoured k t l) (f .only) (d .bounded);
-        favoured = f .favoured;
+        favoured = FavouredBounded.bounded (f .favoured);
       };
     }
 

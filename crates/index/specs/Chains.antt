@@ -84,13 +84,17 @@ pub record Favoured (k : Counts) (from : ℕ) (t : List ℕ) : Type 0 where
   pub above : (x p : ℕ) → x < k .names → from ≤ p → p < k .parts → keyOf partsByName (words t) p ≡ x → isFavoured k t p ≡ true → getD (words t) (6 * x + 4) 0 ≤ p
   pub below : (x p : ℕ) → x < k .names → from ≤ p → p < k .parts → keyOf partsByName (words t) p ≡ x → isFavoured k t p ≡ true → p < getD (words t) (6 * x + 5) 0
 
+-- all of them do: closed, so that a search does not look through it
+pub data FavouredBounded (k : Counts) (t : List ℕ) : Type 0 where
+  bounded : Favoured k 0 t → FavouredBounded k t
+
 -- the chains by name and by owner lead through all rows, and the members of every range and the favoured parts of every name are bounded
 pub record Chains (k : Counts) (m t : List ℕ) : Type 0 where
   pub parts : Linked partsByName (k .parts) (k .names) 0 (words t)
   pub requirements : Linked requirementsByOwner (k .requirements) (k .parts + 1) 0 (words t)
   pub constraints : Linked constraintsByOwner (k .constraints) (k .parts + 1) 0 (words t)
   pub ranges : Bounded k m (k .ranges) (words t)
-  pub favoured : Favoured k 0 t
+  pub favoured : FavouredBounded k t
 
 -- names of parts and owners are given
 pub record Keys (k : Counts) (t : List ℕ) : Type 0 where
