@@ -2,7 +2,7 @@
 use mathlib.Core.Path.{_≡_}
 use mathlib.Core.Bool.{Bool, not, _&&_}
 use mathlib.Core.List.{List}
-use Prim.Native.Nat.{ℕ, _≤_}
+use Prim.Native.Nat.{ℕ, _≤_, min}
 use lib.Dec.{eqb}
 use lib.ListN.{length}
 use Rattle.rules.specs.Lists.{filter, upTo}
@@ -32,3 +32,7 @@ choice c r w = filter (chosen c r w) (upTo 0 (length (c .parts)))
 pub record Counted (n : ℕ) (xs : List ℕ) : Type 0 where
   pub is : n ≡ length xs
   pub most : n ≤ 1024
+
+-- n is a list's length, or `most` if it is longer
+pub record CountedTo (most n : ℕ) (xs : List ℕ) : Type 0 where
+  pub is : n ≡ min (length xs) most

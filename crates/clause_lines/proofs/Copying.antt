@@ -1,21 +1,27 @@
 -- The literals of goals that stand in the listing already: what is written keeps them, and a copy of them is what printing them would write.
 use mathlib.Core.Path.{_≡_, refl, ap, sym, _∙_}
+use mathlib.Core.Bool.{Bool, true}
 use mathlib.Core.List.{List, [], _∷_, _++_}
 use Prim.Native.Nat.{ℕ, _+_, _-_, _*_, _<_, _≤_, min}
 use native.Mathlib.Decide.{decLt, ℕ-discrete}
 use native.Mathlib.Numerals.{add-one}
 use native.Mathlib.Omega.{arith}
-use borrow.Author.Tests.{lt-ltb, le-ltb}
+use borrow.Author.Tests.{eqb-true, lt-ltb, le-ltb}
+use lib.Dec.{eqb}
 use lib.ListN.{length, getD, set, take, drop, replicate, length-set, length-replicate, getD-replicate, length-drop}
 use lib.Seq.{sets, length-sets, getD-set-same, getD-set-other, getD-take, getD-drop, take-suc, take-add, length-take-le, ext-getD}
-use Rattle.rules.specs.Catalogue.{Catalogue}
+use Rattle.rules.specs.Catalogue.{Catalogue, union}
 use Rattle.rules.specs.Candidates.{sorted, candidates}
 use Rattle.rules.specs.Items.{goalOf}
 use Rattle.rules.specs.Variables.{Origin}
+use Rattle.rules.proofs.ListLaws.{no-element}
 use Rattle.text.specs.Text.{Wrote}
-use Rattle.text.proofs.Written.{sets-append, sets-past, sets-before, onward, same-length, before-kept, fitted, there, whole}
+use Rattle.text.proofs.Written.{nothing, sets-append, sets-past, sets-before, onward, same-length, before-kept, fitted, there, whole}
+use Rattle.requirement.specs.declared.Requirement.the-variants.{Union}
+use Rattle.requirement.specs.Requirements as requirement
 use Rattle.line_fields.specs.Listed.{partText}
 use Rattle.clause_lines.specs.Spans.{goalText, Span, Spans, Behind, copied, Again, nowhere, copy, Kept, none, span}
+use Rattle.clause_lines.proofs.Parts.{parts-none}
 
 -- ---- bytes copied one by one
 
@@ -195,6 +201,12 @@ module _ (c : Catalogue) (vs : List Origin) where
       let e : 512 + u - 512 ≡ u = omega arith in
       rw (le-ltb (512 + u) 512 (omega arith), e)
 
+pub union-new : {c : Catalogue} {vs : List Origin} {at a room : ℕ} {sp sp′ o o1 : List ℕ} (u : ℕ) → Spans c vs a sp o1
+    → Wrote at a (partText vs (candidates c (goalOf 1 u))) room o o1 → Kept sp room at a (512 + u) sp′ → Spans c vs a sp′ o1
+union-new {c} {vs} {at} {a} {room} {o = o} {o1 = o1} u f w k =
+    let v : Wrote at a (goalText c vs (512 + u)) room o o1 = rw (union-text c vs u) w in
+    spans-new f v k
+
 module _ {c : Catalogue} {vs : List Origin} {at room x : ℕ} {sp o o1 : List ℕ} (f : Spans c vs at sp o) where
   module _ {r : ℕ} (h : r ≤ 511) (a : Again sp room at r x o o1) where
     pub range-again : 0 < x → Wrote at (x - 1) (partText vs (sorted c r)) room o o1
@@ -209,8 +221,14 @@ module _ {c : Catalogue} {vs : List Origin} {at room x : ℕ} {sp o o1 : List �
     pub union-again : 0 < x → Wrote at (x - 1) (partText vs (candidates c (goalOf 1 u))) room o o1
     union-again l = rw (union-text c vs u) at (again-text f a l)
 
-pub union-new : {c : Catalogue} {vs : List Origin} {at a room : ℕ} {sp sp′ o o1 : List ℕ} (u : ℕ) → Spans c vs a sp o1
-    → Wrote at a (partText vs (candidates c (goalOf 1 u))) room o o1 → Kept sp room at a (512 + u) sp′ → Spans c vs a sp′ o1
-union-new {c} {vs} {at} {a} {room} {o = o} {o1 = o1} u f w k =
-    let v : Wrote at a (goalText c vs (512 + u)) room o o1 = rw (union-text c vs u) w in
-    spans-new f v k
+    -- it has no candidate
+    module _ (l : x ≤ 0) {b : Bool} (e : b ≡ eqb (length (candidates c (requirement.goalOf (Union u)))) 0) (d : b ≡ true) where
+      nothing-listed : Wrote at at (partText vs (candidates c (goalOf 1 u))) room o1 o1
+      unfolding requirement.goalOf goalOf
+      nothing-listed = rw (no-element (candidates c (union u)) (eqb-true _ 0 (sym e ∙ d)), parts-none vs) (nothing room at o1)
+
+      pub union-none : Wrote at at (partText vs (candidates c (goalOf 1 u))) room o o1
+      union-none = after-none a l nothing-listed
+
+      pub none-kept : {sp′ : List ℕ} → Kept sp room at at (512 + u) sp′ → Spans c vs at sp′ o1
+      none-kept k = union-new u (still-spans f a l) nothing-listed k

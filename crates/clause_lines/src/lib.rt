@@ -243,6 +243,10 @@ fn shared_union(
     if 0 < next {
         return next - 1;
     }
+    if no_candidate(marks, unions, t, k, Requirement::Union(u)) {
+        spans::keep(spans, room, at, at, g);
+        return at;
+    }
     let a = union_literals(marks, unions, t, k, s, l, n, out, spans, room, at, u);
     spans::keep(spans, room, at, a, g);
     a

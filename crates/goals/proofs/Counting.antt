@@ -17,7 +17,7 @@ use Rattle.unions.specs.declared.Member.{Member}
 use Rattle.unions.specs.Unions.{Row, noRow, rows, rowOf, left, before}
 use Rattle.unions.proofs.Laws.{before-left}
 use Rattle.cache.specs.Areas.{catalogue}
-use Rattle.cache.specs.Lists.{Counted}
+use Rattle.cache.specs.Lists.{CountedTo}
 use Rattle.index.specs.Members.{At, Passes}
 use Rattle.index.proofs.Unions.{union-ranges, total-start, total-here, total-step, ranges-end, at-next}
 use Rattle.goals.specs.Goals.{Catalogued}
@@ -51,19 +51,19 @@ module _ (k : Counts) (ms us t : List ℕ) (u most : ℕ) (d : Catalogued k ms u
       rw (union-ranges k ms us t (d .kept) u, ← before-left u i rs, concatMap-append (sorted c) (before u i rs) (left u i rs), length-append) (omega arith)
 
   module _ {total i : ℕ} (x : Totalling k ms us t u most total i) where
-    module _ (h : i < k .members) (a : Member) (e : rowOf a ≡ getD rs i noRow) {n : ℕ} (q : Counted n (matching c (a .range))) where
-      counted : n ≡ length (sorted c (a .range))
-      counted = q .is ∙ sym (length-sorted c (a .range))
+    module _ (h : i < k .members) (a : Member) (e : rowOf a ≡ getD rs i noRow) {n : ℕ} (q : CountedTo most n (matching c (a .range))) where
+      counted : n ≡ min (length (sorted c (a .range))) most
+      counted = rw (length-sorted c (a .range)) (q .is)
 
       pub counting-step : {i′ : ℕ} → most ≤ 4 → total + n < most → Passes k rs ((getD rs i noRow) .union) (i + 1) i′ → Totalling k ms us t u most (total + n) i′
       counting-step l g y =
-          let s = counted in
           let z = x .is in
+          let s : n ≡ length (sorted c (a .range)) = omega (arith, counted) in
           record {
             at = at-next k ms us t (d .kept) (x .at) a h e y;
             few = omega arith;
             low = omega arith;
-            is = total-step k ms us t (d .kept) (x .at) a h e y (omega arith) ∙ rw (x .is, counted);
+            is = total-step k ms us t (d .kept) (x .at) a h e y (omega arith) ∙ rw (x .is, s);
           }
 
       pub counting-full : most ≤ total + n → most ≡ min (length (candidates c (union u))) most
@@ -78,16 +78,9 @@ module _ (k : Counts) (ms us t : List ℕ) (u most : ℕ) (d : Catalogued k ms u
 -- ---- of a goal
 
 module _ (c : Catalogue) (q : Requirement) (most : ℕ) where
-  module _ (r : ℕ) (e : q ≡ Single r) {n : ℕ} (d : Counted n (matching c r)) where
-    range-candidates : n ≡ length (candidates c (goalOf q))
-    unfolding goalOf candidates goalRanges concatMap
-    range-candidates = rw (e, append-nil (sorted c r)) (d .is ∙ sym (length-sorted c r))
-
-    pub count-few : n < most → n ≡ min (length (candidates c (goalOf q))) most
-    count-few h = rw (← range-candidates) (sym (min-eq-left (omega arith)))
-
-    pub count-enough : most ≤ n → most ≡ min (length (candidates c (goalOf q))) most
-    count-enough h = rw (← range-candidates) (sym (min-eq-right (omega arith)))
+  pub count-range : (r n : ℕ) → q ≡ Single r → CountedTo most n (matching c r) → n ≡ min (length (candidates c (goalOf q))) most
+  unfolding goalOf candidates goalRanges concatMap
+  count-range r n e d = rw (e, append-nil (sorted c r), length-sorted c r) (d .is)
 
   pub count-union : (u n : ℕ) → q ≡ Union u → n ≡ min (length (candidates c (union u))) most → n ≡ min (length (candidates c (goalOf q))) most
   unfolding goalOf

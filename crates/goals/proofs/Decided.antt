@@ -22,7 +22,7 @@ use Rattle.conditions.specs.declared.Disjunct as D
 use Rattle.conditions.specs.Sizes.{rangesOf, Carries}
 use Rattle.cache.specs.declared.Choice.the-variants.{Matching}
 use Rattle.cache.specs.Areas.{catalogue}
-use Rattle.cache.specs.Lists.{chosen, Counted}
+use Rattle.cache.specs.Lists.{chosen, CountedTo}
 use Rattle.index.specs.Chains.{Skips}
 use Rattle.index.proofs.Walking.{walk}
 use Rattle.variable_map.specs.declared.Origin as code
@@ -258,18 +258,18 @@ pub lack-start : (c : Catalogue) {m : ℕ} {st : ℕ → List ℕ} → Marked 14
 lack-start c k = record { marked = k; is = refl }
 
 module _ {c : Catalogue} {m : ℕ} {st : ℕ → List ℕ} {j : ℕ} (x : Lacking c m st j) where
-  module _ (r n : ℕ) (h : j < m) (e : r ≡ getD (listed m 14 st) j 0) (d : Counted n (matching c r)) where
-    counted : n + length (concatMap (matching c) (drop (j + 1) (listed m 14 st))) ≡ length (concatMap (matching c) (listed m 14 st))
+  module _ (r n : ℕ) (h : j < m) (e : r ≡ getD (listed m 14 st) j 0) (d : CountedTo 1 n (matching c r)) where
+    apart : length (matching c r) + length (concatMap (matching c) (drop (j + 1) (listed m 14 st))) ≡ length (concatMap (matching c) (listed m 14 st))
     unfolding concatMap
-    counted =
+    apart =
         let q = ap (λ (l : List ℕ). length (concatMap (matching c) l)) (at-hand (x .marked) j r h e) in
-        omega (arith, q, length-append (matching c r) (concatMap (matching c) (drop (j + 1) (listed m 14 st))), d .is, x .is)
+        omega (arith, q, length-append (matching c r) (concatMap (matching c) (drop (j + 1) (listed m 14 st))), x .is)
 
     pub lack-step : n ≤ 0 → Lacking c m st (j + 1)
-    lack-step q = record { marked = x .marked; is = omega (arith, counted) }
+    lack-step q = record { marked = x .marked; is = omega (arith, apart) }
 
     pub lack-found : 0 < n → true ≡ not (eqb (length (concatMap (matching c) (listed m 14 st))) 0)
-    lack-found q = rw (ne-eqb (length (concatMap (matching c) (listed m 14 st))) 0 (λ z. omega (arith, counted)))
+    lack-found q = rw (ne-eqb (length (concatMap (matching c) (listed m 14 st))) 0 (λ z. omega (arith, apart)))
 
   pub lack-end : m ≤ j → false ≡ not (eqb (length (concatMap (matching c) (listed m 14 st))) 0)
   unfolding concatMap

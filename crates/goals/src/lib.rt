@@ -111,7 +111,7 @@ fn count_union(marks: &[u8], unions: &[u8], t: &[u8], k: Counts, u: u16, most: u
     let mut i = index::first_of_union(marks, unions, t, k, u);
     while i < k.members {
         let member = unions::member_at(unions, k.members, i);
-        total += index::matching_count(marks, unions, t, k, member.range as usize);
+        total += index::matching_count(marks, unions, t, k, member.range as usize, most);
         if total >= most {
             return most;
         }
@@ -135,8 +135,7 @@ pub fn count(
 {
     match goal {
         Requirement::Single(range) => {
-            let n = index::matching_count(marks, unions, t, k, range as usize);
-            if n < most { n } else { most }
+            index::matching_count(marks, unions, t, k, range as usize, most)
         }
         Requirement::Union(union) => count_union(marks, unions, t, k, union, most),
     }
@@ -322,7 +321,7 @@ pub fn some_candidate(
     let mut j = 0;
     while j < m {
         let r = marked::at(s, l, state::CANDIDATES, m, j);
-        if index::matching_count(marks, unions, t, k, r as usize) > 0 {
+        if index::matching_count(marks, unions, t, k, r as usize, 1) > 0 {
             return true;
         }
         j += 1;

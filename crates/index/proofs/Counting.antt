@@ -1,8 +1,9 @@
 -- How many parts are chosen of a range: a pass over the parts, those before part p being counted.
-use mathlib.Core.Path.{_≡_, refl, ap, _∙_}
+use mathlib.Core.Path.{_≡_, refl, ap, sym, _∙_}
 use mathlib.Core.Bool.{Bool, true, false}
 use mathlib.Core.List.{List, [], _∷_, _++_}
 use Prim.Native.Nat.{ℕ, suc, _+_, _-_, _<_, _≤_}
+use native.Mathlib.Nat.{min-eq-left, min-eq-right}
 use native.Mathlib.Numerals.{add-one}
 use native.Mathlib.Omega.{arith}
 use lib.ListN.{length, length-append}
@@ -14,7 +15,7 @@ use Rattle.tables.specs.declared.Counts.{Counts}
 use Rattle.cache.specs.declared.Choice.{Choice}
 use Rattle.cache.specs.declared.Choice.the-variants.{Matching, NonMatching}
 use Rattle.cache.specs.Areas.{catalogue, Held}
-use Rattle.cache.specs.Lists.{chosen, choice, Counted}
+use Rattle.cache.specs.Lists.{chosen, choice, Counted, CountedTo}
 use Rattle.cache.proofs.Laws.{parts-held}
 use Rattle.cache.proofs.Lists.{matching-is, non-matching-is}
 use Rattle.index.specs.Chains.{Skips}
@@ -80,42 +81,60 @@ module _ (n p : ℕ) {b a : Bool} (e : b ≡ a) where
   unfolding listIf
   count-none d = rw (← e, d, listIf) (omega arith)
 
--- n were counted before part p
-pub record Counting (c : Catalogue) (r : ℕ) (w : Choice) (n p : ℕ) : Type 0 where
+-- n were counted before part p, `top` at most
+pub record Counting (c : Catalogue) (r : ℕ) (w : Choice) (top n p : ℕ) : Type 0 where
+  pub few : n ≤ top
   pub most : length (choice c r w) ≤ 1024
   pub is : n + length (left c r w p) ≡ length (choice c r w)
 
 module _ (k : Counts) (m u t : List ℕ) (r : ℕ) (w : Choice) where
-  count-start : Held k (length m) (length u) (length t) → Counting (catalogue k m u t) r w 0 0
-  count-start h = record { most = held-most k m u t r w h; is = rw (left-start k m u t r w) (omega arith) }
+  count-start : {top : ℕ} → Held k (length m) (length u) (length t) → Counting (catalogue k m u t) r w top 0 0
+  count-start h = record { few = omega arith; most = held-most k m u t r w h; is = rw (left-start k m u t r w) (omega arith) }
 
-  module _ (n p : ℕ) (x : Counting (catalogue k m u t) r w n p) where
-    count-step : (n′ : ℕ) → p < k .parts → n′ ≡ n + length (listIf (chosen (catalogue k m u t) r w p) (p ∷ [])) → Counting (catalogue k m u t) r w n′ (p + 1)
-    count-step n′ h e = record { most = x .most; is = omega (arith, left-length k m u t r w p h) }
+  module _ {top n p : ℕ} (x : Counting (catalogue k m u t) r w top n p) where
+    module _ (n′ : ℕ) (h : p < k .parts) (e : n′ ≡ n + length (listIf (chosen (catalogue k m u t) r w p) (p ∷ []))) where
+      count-step : n′ ≤ top → Counting (catalogue k m u t) r w top n′ (p + 1)
+      count-step l = record { few = l; most = x .most; is = omega (arith, left-length k m u t r w p h) }
 
-    pub count-end : k .parts ≤ p → Counted n (choice (catalogue k m u t) r w)
+      pub count-full : top ≤ n′ → CountedTo top top (choice (catalogue k m u t) r w)
+      count-full l = record { is = sym (min-eq-right (let z = x .is in omega (arith, left-length k m u t r w p h))) }
+
+    pub count-end : k .parts ≤ p → CountedTo top n (choice (catalogue k m u t) r w)
     count-end h =
         let e = ap length (left-end k m u t r w p h) in
-        record { is = omega arith; most = omega arith }
+        let q : n ≡ length (choice (catalogue k m u t) r w) = omega arith in
+        record { is = rw (← q) (sym (min-eq-left (x .few))) }
 
 -- ---- on a walk
 
 module _ (k : Counts) (m u t : List ℕ) (r : ℕ) (w : Choice) where
-  count-on : {n p x : ℕ} → Skips (k .parts) (chosen (catalogue k m u t) r w) p x → Counting (catalogue k m u t) r w n p → Counting (catalogue k m u t) r w n x
-  count-on {n} s y = walk (Counting (catalogue k m u t) r w n) (λ i h e z. count-step k m u t r w n i z n h (count-none n i refl e)) s y
+  count-on : {top n p x : ℕ} → Skips (k .parts) (chosen (catalogue k m u t) r w) p x → Counting (catalogue k m u t) r w top n p → Counting (catalogue k m u t) r w top n x
+  count-on {top} {n} s y = walk (Counting (catalogue k m u t) r w top n) (λ i h e z. count-step k m u t r w z n h (count-none n i refl e) (z .few)) s y
 
-  pub count-first : {x : ℕ} → Held k (length m) (length u) (length t) → Skips (k .parts) (chosen (catalogue k m u t) r w) 0 x → Counting (catalogue k m u t) r w 0 x
+  pub count-first : {top x : ℕ} → Held k (length m) (length u) (length t) → Skips (k .parts) (chosen (catalogue k m u t) r w) 0 x → Counting (catalogue k m u t) r w top 0 x
   count-first h s = count-on s (count-start k m u t r w h)
 
-  pub count-next : {n p x : ℕ} (n′ : ℕ) → Counting (catalogue k m u t) r w n p → p < k .parts → n′ ≡ n + length (listIf (chosen (catalogue k m u t) r w p) (p ∷ []))
-      → Skips (k .parts) (chosen (catalogue k m u t) r w) (p + 1) x → Counting (catalogue k m u t) r w n′ x
-  count-next {n} {p} n′ y h e s = count-on s (count-step k m u t r w n p y n′ h e)
+  pub count-next : {top n p x : ℕ} (n′ : ℕ) → Counting (catalogue k m u t) r w top n p → p < k .parts → n′ ≡ n + length (listIf (chosen (catalogue k m u t) r w p) (p ∷ []))
+      → n′ < top → Skips (k .parts) (chosen (catalogue k m u t) r w) (p + 1) x → Counting (catalogue k m u t) r w top n′ x
+  count-next n′ y h e l s = count-on s (count-step k m u t r w y n′ h e (omega arith))
+
+  pub count-nothing : {x : ℕ} (top : ℕ) → Held k (length m) (length u) (length t) → Skips (k .parts) (chosen (catalogue k m u t) r w) 0 x → k .parts ≤ x
+      → CountedTo top 0 (choice (catalogue k m u t) r w)
+  count-nothing top h s l = count-end k m u t r w (count-first h s) l
 
 -- ---- the definitions' lists
 
 module _ (k : Counts) (m u t : List ℕ) (r : ℕ) where
-  pub matching-counted : {n : ℕ} → Counted n (choice (catalogue k m u t) r Matching) → Counted n (matching (catalogue k m u t) r)
+  pub matching-counted : {top n : ℕ} → CountedTo top n (choice (catalogue k m u t) r Matching) → CountedTo top n (matching (catalogue k m u t) r)
   matching-counted x = rw (← matching-is (catalogue k m u t) r) x
 
-  pub non-matching-counted : {n : ℕ} → Counted n (choice (catalogue k m u t) r NonMatching) → Counted n (nonMatching (catalogue k m u t) r)
-  non-matching-counted x = rw (← non-matching-is (catalogue k m u t) r) x
+  pub matching-none : {x : ℕ} (top : ℕ) → Held k (length m) (length u) (length t) → Skips (k .parts) (chosen (catalogue k m u t) r Matching) 0 x → k .parts ≤ x
+      → CountedTo top 0 (matching (catalogue k m u t) r)
+  matching-none top h s l = matching-counted (count-nothing k m u t r Matching top h s l)
+
+  pub non-matching-counted : {n : ℕ} → Held k (length m) (length u) (length t) → CountedTo 1024 n (choice (catalogue k m u t) r NonMatching)
+      → Counted n (nonMatching (catalogue k m u t) r)
+  non-matching-counted h x =
+      let e = x .is in
+      let l = held-most k m u t r NonMatching h in
+      rw (← non-matching-is (catalogue k m u t) r) (record { is = omega arith; most = omega arith })

@@ -13,7 +13,7 @@ ghost use Rattle.unions.specs.Unions.{noRow, rows};
 ghost use Rattle.kept.specs.Kept.{Given};
 ghost use Rattle.marks.specs.Marks.{NextMember, EndOfMembers};
 ghost use Rattle.cache.specs.Areas.{catalogue, Held};
-ghost use Rattle.cache.specs.Lists.{chosen, choice, Counted};
+ghost use Rattle.cache.specs.Lists.{chosen, choice, Counted, CountedTo};
 ghost use Rattle.cache.specs.declared.Choice.the-variants.{Matching};
 ghost use Rattle.tables.specs.Tables.{Laid};
 ghost use Rattle.index.specs.Chains.{
@@ -655,26 +655,50 @@ fn count_chosen(
     n
 }
 
-// How many are chosen.
-fn count(marks: &[u8], unions: &[u8], t: &[u8], k: Counts, r: usize, w: Choice) -> usize
+// How many are chosen, or `most` if there are more; none is before part `first`.
+fn count(
+    marks: &[u8],
+    unions: &[u8],
+    t: &[u8],
+    k: Counts,
+    r: usize,
+    w: Choice,
+    first: usize,
+    most: usize,
+) -> usize
     requires { ⌜ Held k (length (now marks)) (length (now unions)) (length (now t)) × Chains k (now marks) (now t) ⌝ }
-    ensures { λ n. ⌜ Counted n (choice (catalogue k (now (marks .entry)) (now (unions .entry)) (now (t .entry))) r w) ⌝ }
+    requires { ⌜ Skips (k .parts) (chosen (catalogue k (now marks) (now unions) (now t)) r w) 0 first ⌝ }
+    ensures { λ n. ⌜ CountedTo most n (choice (catalogue k (now (marks .entry)) (now (unions .entry)) (now (t .entry))) r w) ⌝ }
 {
     let mut n = 0;
-    let mut p = first_chosen(marks, unions, t, k, r, w);
+    let mut p = first;
     while p < k.parts {
         n = count_chosen(marks, unions, t, k, r, w, p, n);
+        if n >= most {
+            return most;
+        }
         p = next_chosen(marks, unions, t, k, r, w, p);
     }
     n
 }
 
-// How many matching parts range r has.
-pub fn matching_count(marks: &[u8], unions: &[u8], t: &[u8], k: Counts, r: usize) -> usize
+// How many matching parts range r has, or `most` if it has more.
+pub fn matching_count(
+    marks: &[u8],
+    unions: &[u8],
+    t: &[u8],
+    k: Counts,
+    r: usize,
+    most: usize,
+) -> usize
     requires { ⌜ Held k (length (now marks)) (length (now unions)) (length (now t)) × Chains k (now marks) (now t) ⌝ }
-    ensures { λ n. ⌜ Counted n (matching (catalogue k (now (marks .entry)) (now (unions .entry)) (now (t .entry))) r) ⌝ }
+    ensures { λ n. ⌜ CountedTo most n (matching (catalogue k (now (marks .entry)) (now (unions .entry)) (now (t .entry))) r) ⌝ }
 {
-    count(marks, unions, t, k, r, Choice::Matching)
+    let first = first_chosen(marks, unions, t, k, r, Choice::Matching);
+    if first < k.parts {
+        return count(marks, unions, t, k, r, Choice::Matching, first, most);
+    }
+    0
 }
 
 // How many non-matching parts.
@@ -682,5 +706,6 @@ pub fn non_matching_count(marks: &[u8], unions: &[u8], t: &[u8], k: Counts, r: u
     requires { ⌜ Held k (length (now marks)) (length (now unions)) (length (now t)) × Chains k (now marks) (now t) ⌝ }
     ensures { λ n. ⌜ Counted n (nonMatching (catalogue k (now (marks .entry)) (now (unions .entry)) (now (t .entry))) r) ⌝ }
 {
-    count(marks, unions, t, k, r, Choice::NonMatching)
+    let first = first_chosen(marks, unions, t, k, r, Choice::NonMatching);
+    count(marks, unions, t, k, r, Choice::NonMatching, first, 1024)
 }

@@ -1,6 +1,6 @@
 -- `goals::count` gives how many candidates a goal has, or `most` if it has more.
 use borrow.Author.Needs.{needs}
-use Rattle.goals.proofs.Counting.{count-few, count-enough, count-union}
+use Rattle.goals.proofs.Counting.{count-range, count-union}
 use Rattle.goals.proofs.count.Statement.{statement}
 use Rattle.goals.proofs.count.Tie as tie
 
@@ -20,13 +20,10 @@ count-union-requires : tie.Need-count-union-requires
 count-union-requires c κs = search needs
 
 returns : tie.Need-returns
-returns c = search (needs, count-few)
+returns c = search (needs, count-range)
 
 returns-2 : tie.Need-returns-2
-returns-2 c = search (needs, count-enough)
-
-returns-3 : tie.Need-returns-3
-returns-3 c = search (needs, count-union)
+returns-2 c = search (needs, count-union)
 
 pub count-spec : {M : Type 1} → statement M
 count-spec =
@@ -38,5 +35,4 @@ count-spec =
     enum-known-goal-2
     count-union-requires
     returns
-    returns-2
-    returns-3)
+    returns-2)

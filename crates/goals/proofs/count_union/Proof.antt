@@ -30,7 +30,7 @@ add-total : tie.Need-add-total Inv-loop μ-loop
 add-total c = search needs
 
 returns : tie.Need-returns Inv-loop μ-loop
-returns c = search (needs, counting-full)
+returns c = counting-full _ _ _ _ _ _ (c .before .before .before .before .before .before .before .before .before .before .before .pre .0) (c .before .before .before .before .before .before .loop .inv) (c .before .before .before .before .if1 .taken) _ (c .before .before .before .member-at .ensures) (c .before .matching-count .ensures) (c .if2 .taken)
 
 next-of-union-requires : tie.Need-next-of-union-requires Inv-loop μ-loop
 next-of-union-requires c κs = search needs
