@@ -32,7 +32,7 @@ use Rattle.variable_map.proofs.Places.{known-after}
 use Rattle.marked.specs.Marked.{ownerOf}
 use Rattle.encoder.specs.declared.Counters.{Counters}
 use Rattle.encoder.specs.Did.{ClausesDid, PlainDid}
-use Rattle.encoder.proofs.Steps.{state-then-clauses}
+use Rattle.encoder.proofs.Steps.{clauses-none, state-then-clauses}
 use Rattle.parts.specs.declared.Naming.the-variants.{Variable}
 use Rattle.parts.specs.declared.Adding.the-variants.{Constrains, AuxOut}
 use Rattle.parts.specs.Parts.{namingOf, clauseFor, addingOf}
@@ -51,6 +51,20 @@ is-few c r k h = lt-ltb (length (nonMatching c r)) 4 (omega (arith, k .is))
 pub is-many : (c : Catalogue) (r : ℕ) {x : ℕ} → Counted x (nonMatching c r) → 4 ≤ x → few (nonMatching c r) ≡ false
 unfolding few
 is-many c r k h = le-ltb (length (nonMatching c r)) 4 (omega (arith, k .is))
+
+-- ---- where every part matches
+
+module _ (c : Catalogue) (run : Run) (o : Owner) (r : ℕ) where
+  nothing : nonMatching c r ≡ [] → (s : State) → s ≡ constrainFew c run o r s
+  unfolding constrainFew fold
+  nothing e s = rw e
+
+  pub none-constrained : {x : ℕ} {l : Limits} {n : Counters} {st : ℕ → List ℕ} {cl : List ℕ} → Counted x (nonMatching c r) → x ≡ 0 → ClausesDid c l (λ v. constrainFew c run o r) n st cl n st cl
+  none-constrained k h = clauses-none (λ v s. nothing (none-of (nonMatching c r) (sym (k .is) ∙ h)) s)
+    where
+      none-of : (xs : List ℕ) → length xs ≡ 0 → xs ≡ []
+      none-of [] e = refl
+      none-of (x ∷ xs) e = (let no : ⊥ = omega arith in absurd no)
 
 -- ---- the owner is no violation
 

@@ -17,6 +17,7 @@ ghost use Rattle.rules.specs.Opening.{constraint};
 ghost use Rattle.rules.specs.Variables.{chosen, violation, known};
 ghost use Rattle.rules.proofs.WellFormed.{WellFormed};
 ghost use Rattle.cache.specs.Areas.{catalogue};
+ghost use Rattle.cache.specs.Lists.{Counted};
 ghost use Rattle.index.specs.Indexed.{Indexed};
 ghost use Rattle.state.specs.Layout.{held, Fits};
 ghost use Rattle.variable_map.specs.Mapping.{variables};
@@ -26,8 +27,8 @@ ghost use Rattle.encoder.specs.Did.{ClausesDid};
 ghost use Rattle.owners.specs.Owners.{serving};
 ghost use Rattle.constraints.specs.Constraints.{Knows, constrainFew, addViolation, constrainMany};
 
-// Under 4 non-matching parts: one clause each. The owner, by its number o, has its variable.
-fn constrain_few(
+// A clause for each non-matching part. The owner, by its number o, has its variable.
+fn constrain_each(
     marks: &[u8],
     unions: &[u8],
     t: &[u8],
@@ -79,6 +80,36 @@ fn constrain_few(
         },
         Adding::Constrains(x),
     )
+}
+
+// Under 4 non-matching parts, `count` of them: one clause each.
+fn constrain_few(
+    marks: &[u8],
+    unions: &[u8],
+    t: &[u8],
+    k: Counts,
+    s: &mut [u8],
+    clauses: &mut [u8],
+    l: Limits,
+    n: Counters,
+    run: Run,
+    r: usize,
+    o: u16,
+    count: usize,
+) -> Counters
+    requires { ⌜ Indexed k (now marks) (now unions) (now t) ⌝ }
+    requires { ⌜ Fits l (length (now s)) ⌝ }
+    requires { ⌜ Good (catalogue k (now marks) (now unions) (now t)) l n (held l (now s)) (now clauses) [] ⌝ }
+    requires { ⌜ LongEnough l (length (now clauses)) 16384 ⌝ }
+    requires { ⌜ (0 < run .number) × (r < k .ranges) × (o < 1025) ⌝ }
+    requires { ⌜ Knows (n .full) (variables (n .variables) (held l (now s))) (chosen (ownerOf o)) ⌝ }
+    requires { ⌜ Counted count (nonMatching (catalogue k (now marks) (now unions) (now t)) r) ⌝ }
+    ensures { λ m. ⌜ ClausesDid (catalogue k (now (marks .entry)) (now (unions .entry)) (now (t .entry))) l (λ v. constrainFew (catalogue k (now (marks .entry)) (now (unions .entry)) (now (t .entry))) (runOf run) (ownerOf o) r) n (held l (now (s .entry))) (now (clauses .entry)) m (held l (now (s .exit))) (now (clauses .exit)) ⌝ }
+{
+    if count == 0 {
+        return n;
+    }
+    constrain_each(marks, unions, t, k, s, clauses, l, n, run, r, o)
 }
 
 // From 4 on: a violation that is new has a clause for each part, and the owner one.
@@ -197,8 +228,9 @@ pub fn serve_constraint(
     let o = owners::owner_number(it.owner);
     let r = it.range as usize;
     let m = opening::name_variable(s, l, n, owners::owner_origin(o));
-    if index::non_matching_count(marks, unions, t, k, r) < 4 {
-        return constrain_few(marks, unions, t, k, s, clauses, l, m, run, r, o);
+    let count = index::non_matching_count(marks, unions, t, k, r);
+    if count < 4 {
+        return constrain_few(marks, unions, t, k, s, clauses, l, m, run, r, o, count);
     }
     constrain_many(marks, unions, t, k, s, clauses, l, m, run, r, o)
 }

@@ -28,7 +28,7 @@ non-matching-count-requires : tie.Need-non-matching-count-requires
 non-matching-count-requires c κs = ((c .before .before .before .before .before .before .before .before .before .before .before .before .before .pre .0 .held), (c .before .before .before .before .before .before .before .before .before .before .before .before .before .pre .0 .chains))
 
 constrain-few-requires : tie.Need-constrain-few-requires
-constrain-few-requires c κs = ((c .before .before .before .before .before .before .before .before .before .before .before .before .before .before .before .before .before .pre .0), (fits-same (search needs) (c .before .before .before .before .before .before .before .before .before .before .before .before .before .before .before .before .before .pre .1 .1 .0), (good-after ((c .before .before .before .before .before .before .name-variable .ensures .is) _) (c .before .before .before .before .before .before .before .before .before .before .before .before .before .before .before .before .before .pre .1 .1 .1 .0), ((c .before .before .before .before .before .before .before .before .before .before .before .before .before .before .before .before .before .pre .1 .1 .1 .1 .0), (((c .before .before .before .before .before .before .before .before .before .before .before .before .before .before .before .before .before .pre .1 .1 .1 .1 .1 .0), constrained-range _ _ _ _ _ _ (c .before .before .before .before .before .before .before .before .before .before .before .constraint-at .ensures) (c .before .before .before .before .before .before .before .before .before .before .before .before .before .before .before .before .before .pre .1 .0) (c .before .before .before .before .before .before .before .before .before .before .before .before .before .before .before .before .before .pre .1 .1 .1 .1 .1 .1), (owner-low _ _ _ _ _ _ (c .before .before .before .before .before .before .before .before .before .before .before .constraint-at .ensures) _ (c .before .before .before .before .before .before .before .before .before .before .owner-number .ensures) (c .before .before .before .before .before .before .before .before .before .before .before .before .before .before .before .before .before .pre .1 .0) (c .before .before .before .before .before .before .before .before .before .before .before .before .before .before .before .before .before .pre .0) (c .before .before .before .before .before .before .before .before .before .before .before .before .before .before .before .before .before .pre .1 .1 .1 .1 .1 .1))), named-knows _ (c .before .before .before .before .before .before .before .owner-origin .ensures) (c .before .before .before .before .before .before .name-variable .ensures) (good-alone (c .before .before .before .before .before .before .before .before .before .before .before .before .before .before .before .before .before .pre .1 .1 .1 .0)))))))
+constrain-few-requires c κs = ((c .before .before .before .before .before .before .before .before .before .before .before .before .before .before .before .before .before .pre .0), (fits-same (search needs) (c .before .before .before .before .before .before .before .before .before .before .before .before .before .before .before .before .before .pre .1 .1 .0), (good-after ((c .before .before .before .before .before .before .name-variable .ensures .is) _) (c .before .before .before .before .before .before .before .before .before .before .before .before .before .before .before .before .before .pre .1 .1 .1 .0), ((c .before .before .before .before .before .before .before .before .before .before .before .before .before .before .before .before .before .pre .1 .1 .1 .1 .0), (((c .before .before .before .before .before .before .before .before .before .before .before .before .before .before .before .before .before .pre .1 .1 .1 .1 .1 .0), constrained-range _ _ _ _ _ _ (c .before .before .before .before .before .before .before .before .before .before .before .constraint-at .ensures) (c .before .before .before .before .before .before .before .before .before .before .before .before .before .before .before .before .before .pre .1 .0) (c .before .before .before .before .before .before .before .before .before .before .before .before .before .before .before .before .before .pre .1 .1 .1 .1 .1 .1), (owner-low _ _ _ _ _ _ (c .before .before .before .before .before .before .before .before .before .before .before .constraint-at .ensures) _ (c .before .before .before .before .before .before .before .before .before .before .owner-number .ensures) (c .before .before .before .before .before .before .before .before .before .before .before .before .before .before .before .before .before .pre .1 .0) (c .before .before .before .before .before .before .before .before .before .before .before .before .before .before .before .before .before .pre .0) (c .before .before .before .before .before .before .before .before .before .before .before .before .before .before .before .before .before .pre .1 .1 .1 .1 .1 .1))), (named-knows _ (c .before .before .before .before .before .before .before .owner-origin .ensures) (c .before .before .before .before .before .before .name-variable .ensures) (good-alone (c .before .before .before .before .before .before .before .before .before .before .before .before .before .before .before .before .before .pre .1 .1 .1 .0)), (c .before .before .before .non-matching-count .ensures)))))))
 
 same-length : tie.Need-same-length
 same-length c = search needs
