@@ -158,6 +158,7 @@ fn slow_jobs() -> Vec<Job> {
     jobs.push(job("18,000 draws", drawing(PARTS, 2_048, 18_000)));
     jobs.push(job("alternating draws", alternating_draws(3_600)));
     jobs.push(job("draws with runs", draws_with_runs()));
+    jobs.push(job("runs of one entry", runs_of_one_entry()));
     jobs.push(job("waiting of all conditions", waiting_of_all_conditions()));
     // What follows makes no clause: a branch's limits do.
     let empty_runs = job_of(vec![Record::Run { level: 1 }; 21_845]);
@@ -338,6 +339,43 @@ fn draws_with_runs() -> Vec<Record> {
     records.push(Record::Decide { variable: 1, value: 1, level: 1 });
     for condition in 0..CONDITIONS as u16 {
         records.extend([Record::Draw { condition }, Record::Run { level: 1 }]);
+    }
+    records
+}
+
+/// A condition of 32 disjuncts, one for each of 32 parts, under 64 numbers; a requirement of a range of
+/// 990 parts waits for each. The parts are decided true one after another, and after each the conditions
+/// are drawn and run one after another.
+fn runs_of_one_entry() -> Vec<Record> {
+    const CANDIDATES: u16 = 990;
+    const DISJUNCTS: u16 = 32;
+    let mut records = vec![Record::Name { flags: 0 }; 1 + DISJUNCTS as usize];
+    records.extend(repeat_n(part(0, 0), CANDIDATES as usize));
+    records.extend((1..=DISJUNCTS).map(|name| part(name, 0)));
+    records.extend((0..=DISJUNCTS).map(|name| Record::Range { name }));
+    records.extend((0..CANDIDATES).map(|part| Record::Member { range: 0, part }));
+    let members = (0..DISJUNCTS).map(|at| Record::Member { range: 1 + at, part: CANDIDATES + at });
+    records.extend(members);
+    records.push(Record::Union);
+    let ranges = 1..=DISJUNCTS;
+    records.extend(ranges.clone().map(|range| Record::UnionMember { union: 0, range }));
+    records.extend(ranges.map(|range| Record::Leaf { range }));
+    // Each joins the next two, up to the two halves, which are joined 64 times.
+    let halves = 2 * DISJUNCTS - 4;
+    let or = |left| Record::Joined { operator: 1, left, right: left + 1 };
+    records.extend((0..halves).step_by(2).map(or));
+    records.extend(repeat_n(or(halves), 64));
+    let conditions = halves + 2..halves + 2 + 64;
+    // The union gives its parts the variables 1 to 32.
+    records.push(of_union(0));
+    let waiting = |condition| Record::Requirement { owner: ROOT, form: 0, number: 0, condition };
+    records.extend(conditions.clone().map(waiting));
+    records.extend(run_of_root());
+    for variable in 1..=DISJUNCTS {
+        records.push(Record::Decide { variable, value: 1, level: 1 });
+        for condition in conditions.clone() {
+            records.extend([Record::Draw { condition }, Record::Run { level: 1 }]);
+        }
     }
     records
 }
