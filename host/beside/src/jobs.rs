@@ -158,6 +158,7 @@ fn slow_jobs() -> Vec<Job> {
     jobs.push(job("18,000 draws", drawing(PARTS, 2_048, 18_000)));
     jobs.push(job("alternating draws", alternating_draws(3_600)));
     jobs.push(job("draws with runs", draws_with_runs()));
+    jobs.push(job("runs of one owner", runs_of_one_owner()));
     jobs.push(job("runs of one entry", runs_of_one_entry()));
     jobs.push(job("waiting of all conditions", waiting_of_all_conditions()));
     // What follows makes no clause: a branch's limits do.
@@ -340,6 +341,18 @@ fn draws_with_runs() -> Vec<Record> {
     for condition in 0..CONDITIONS as u16 {
         records.extend([Record::Draw { condition }, Record::Run { level: 1 }]);
     }
+    records
+}
+
+/// Parts that require the range of all of them, each added and run by itself.
+fn runs_of_one_owner() -> Vec<Record> {
+    let owners = 0..1_000u16;
+    let mut records = vec![Record::Name { flags: 0 }];
+    records.extend(owners.clone().map(|_| part(0, 0)));
+    records.push(Record::Range { name: 0 });
+    records.extend(owners.clone().map(|part| Record::Member { range: 0, part }));
+    records.extend(owners.clone().map(|owner| requirement(owner, 0)));
+    records.extend(owners.flat_map(|owner| [Record::Add { owner }, Record::Run { level: 1 }]));
     records
 }
 
