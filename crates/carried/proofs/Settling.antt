@@ -25,7 +25,7 @@ use Rattle.reader.specs.declared.Command.the-variants as C
 use Rattle.reader.specs.Reading.{commandOf}
 use Rattle.entries.specs.Deferred.{isFree, isHeld}
 use Rattle.entries.proofs.Places.{is-free}
-use Rattle.commands.proofs.Judging.{zeros}
+use Rattle.judging.proofs.Judging.{zeros}
 use Rattle.commands.proofs.Idling.{idle-draw, idle-after, idle-kept}
 use Rattle.carried.specs.Carrying.{Settled, Idles, Notes}
 use Rattle.carried.proofs.Undoing.{idle-undone}

@@ -45,7 +45,8 @@ use Rattle.encoder.specs.Held.{Reading, openingOf, stateOf, Good}
 use Rattle.encoder.specs.Did.{limitsOf, onOpening}
 use Rattle.encoder.proofs.Frames.{good-kept}
 use Rattle.goals.specs.Goals.{trueOf, AllGiven}
-use Rattle.commands.specs.Commands.{Judged, NoneSet, isFlagged, Idle, Draws}
+use Rattle.judging.specs.Judging.{Judged}
+use Rattle.commands.specs.Commands.{NoneSet, isFlagged, Idle, Draws}
 use Rattle.commands.proofs.Idling.{idle-draw}
 
 -- ---- is no flag set?

@@ -1,24 +1,37 @@
 -- A condition is served: which disjuncts fire, and what that does.
 use mathlib.Core.Path.{_≡_}
-use mathlib.Core.Bool.{Bool, true, false, not}
+use mathlib.Core.Bool.{Bool, true, false, not, Bool·beq}
 use mathlib.Core.List.{List, [], _∷_, map}
-use Prim.Native.Nat.{ℕ, _+_, _≤_}
+use Prim.Native.Nat.{ℕ, _+_, _<_, _≤_}
 use lib.ListN.{length, take}
 use Rattle.rules.specs.Lists.{filter, fold}
 use Rattle.rules.specs.Catalogue.{Catalogue}
-use Rattle.rules.specs.Conditions.{indices}
+use Rattle.rules.specs.Conditions.{disjunctsOf, indices}
 use Rattle.rules.specs.Opening.{Task, Opening, queue, openNames, rangesOf, entryHolds}
 use Rattle.rules.specs.State.{State, decidedTrue}
 use Rattle.rules.proofs.Capped.{addWaiting}
 use Rattle.state.specs.declared.Limits.{Limits}
+use Rattle.entries.specs.Deferred.{isHeld}
 use Rattle.encoder.specs.declared.Counters.{Counters}
 use Rattle.encoder.specs.Held.{Reading, taskIn, firedNow}
 use Rattle.encoder.specs.Did.{onOpening, Did}
+use Rattle.firing.specs.declared.Judgement.{Judgement}
 use Rattle.firing.specs.declared.Indices.{Indices}
 
+-- whether a disjunct holds, or whether it does not
 unfoldable pub judging : Catalogue → (ℕ → Bool) → ℕ → (holds : Bool) → ℕ → Bool
 judging c true? q true i = entryHolds c true? q i
 judging c true? q false i = not (entryHolds c true? q i)
+
+-- which disjuncts of requirement q hold: a flag for each
+pub record Judges (c : Catalogue) (true? : ℕ → Bool) (q : ℕ) (j : Judgement) : Type 0 where
+  pub few : j .count ≤ 64
+  pub all : j .count ≡ length (disjunctsOf c q)
+  pub is : (i : ℕ) → i < j .count → isHeld (j .flags) i ≡ entryHolds c true? q i
+
+-- the same of a disjunct, by these flags
+unfoldable pub flagging : List ℕ → (holds : Bool) → ℕ → Bool
+flagging flags holds i = Bool·beq (isHeld flags i) holds
 
 unfoldable pub indicesIn : Indices → List ℕ
 indicesIn x = take (x .len) (x .at)

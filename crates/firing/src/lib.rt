@@ -8,7 +8,7 @@ ghost use mathlib.Core.Bool.{false};
 ghost use mathlib.Core.List.{[], _∷_, _++_};
 ghost use Prim.Native.Nat.{_+_, _<_, _≤_};
 ghost use lib.ListN.{length};
-ghost use Rattle.rules.specs.Lists.{filter};
+ghost use Rattle.rules.specs.Lists.{filter, upTo};
 ghost use Rattle.rules.specs.Conditions.{indices, unconditional};
 ghost use Rattle.cache.specs.Areas.{catalogue};
 ghost use Rattle.state.specs.Layout.{held, Fits};
@@ -19,7 +19,7 @@ ghost use Rattle.entries.specs.Entries.{Long};
 ghost use Rattle.encoder.specs.Held.{taskIn, GoodAlone};
 ghost use Rattle.encoder.specs.Did.{onOpening, StateDid, WaitingDid};
 ghost use Rattle.goals.specs.Goals.{Catalogued, trueOf};
-ghost use Rattle.firing.specs.Firing.{judging, indicesIn, Lists, waits, queued, EntriesDid, conditionServed};
+ghost use Rattle.firing.specs.Firing.{judging, Judges, flagging, indicesIn, Lists, waits, queued, EntriesDid, conditionServed};
 
 // Some disjuncts of one requirement, by index: the first `len`.
 pub struct Indices {
@@ -49,6 +49,53 @@ pub fn pushed(is: Indices, i: u16) -> Indices
     more
 }
 
+// Which disjuncts of a requirement hold: a flag for each of the first `count`.
+struct Judgement {
+    flags: [u8; 64],
+    count: usize,
+}
+
+// Which disjuncts of requirement q hold now.
+fn judge(
+    marks: &[u8],
+    unions: &[u8],
+    t: &[u8],
+    k: Counts,
+    s: &[u8],
+    l: Limits,
+    n: Counters,
+    q: usize,
+) -> Judgement
+    requires { ⌜ Catalogued k (now marks) (now unions) (now t) ⌝ }
+    requires { ⌜ Fits l (length (now s)) ⌝ }
+    requires { ⌜ Mapped l (n .variables) (held l (now s)) × Tracking.Kept l (n .decisions) (held l (now s)) ⌝ }
+    requires { ⌜ (q < k .requirements) × (unconditional (catalogue k (now marks) (now unions) (now t)) q ≡ false) ⌝ }
+    ensures { λ r. ⌜ Judges (catalogue k (now (marks .entry)) (now (unions .entry)) (now (t .entry))) (trueOf (variables (n .variables) (held l (now (s .entry)))) (decisions (n .decisions) (held l (now (s .entry))))) q r ⌝ }
+{
+    let it = tables::requirement_at(t, k, q);
+    let c = it.condition as usize;
+    let count = conditions::count(t, k, c);
+    let flags = judging::holding(marks, unions, t, k, s, l, n, c);
+    Judgement { flags, count }
+}
+
+// Those that hold, or those that do not.
+fn flagged(judgement: Judgement, holds: bool) -> Indices
+    requires { ⌜ judgement .count ≤ 64 ⌝ }
+    ensures { λ r. ⌜ Lists r (filter (flagging (judgement .flags) holds) (upTo 0 (judgement .count))) ⌝ }
+{
+    let mut is = none();
+    let mut i = 0;
+    while i < judgement.count {
+        let flag = judgement.flags[i];
+        if (flag != 0) == holds {
+            is = pushed(is, i as u16);
+        }
+        i += 1;
+    }
+    is
+}
+
 // The disjuncts of requirement q that hold now, or those that do not.
 pub fn judged(
     marks: &[u8],
@@ -67,18 +114,7 @@ pub fn judged(
     requires { ⌜ (q < k .requirements) × (unconditional (catalogue k (now marks) (now unions) (now t)) q ≡ false) ⌝ }
     ensures { λ r. ⌜ Lists r (filter (judging (catalogue k (now (marks .entry)) (now (unions .entry)) (now (t .entry))) (trueOf (variables (n .variables) (held l (now (s .entry)))) (decisions (n .decisions) (held l (now (s .entry))))) q holds) (indices (catalogue k (now (marks .entry)) (now (unions .entry)) (now (t .entry))) q)) ⌝ }
 {
-    let it = tables::requirement_at(t, k, q);
-    let c = it.condition as usize;
-    let count = conditions::count(t, k, c);
-    let mut is = none();
-    let mut i = 0;
-    while i < count {
-        if goals::disjunct_holds(marks, unions, t, k, s, l, n, c, i) == holds {
-            is = pushed(is, i as u16);
-        }
-        i += 1;
-    }
-    is
+    flagged(judge(marks, unions, t, k, s, l, n, q), holds)
 }
 
 // These disjuncts of requirement q wait.
@@ -148,8 +184,9 @@ pub fn serve_condition(
     requires { ⌜ (q < k .requirements) × (unconditional (catalogue k (now marks) (now unions) (now t)) q ≡ false) × (n .drawn ≡ 0) ⌝ }
     ensures { λ m. ⌜ EntriesDid (catalogue k (now (marks .entry)) (now (unions .entry)) (now (t .entry))) l (λ v. conditionServed (catalogue k (now (marks .entry)) (now (unions .entry)) (now (t .entry))) v q) n (held l (now (s .entry))) (now (w .entry)) m (held l (now (s .exit))) (now (w .exit)) ⌝ }
 {
-    let stay = judged(marks, unions, t, k, s, l, n, q as usize, false);
-    let fired = judged(marks, unions, t, k, s, l, n, q as usize, true);
+    let judgement = judge(marks, unions, t, k, s, l, n, q as usize);
+    let stay = flagged(judgement, false);
+    let fired = flagged(judgement, true);
     let m = add_waitings(w, l, n, q, stay);
     if fired.len == 0 {
         return m;

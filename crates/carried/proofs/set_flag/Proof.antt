@@ -1,6 +1,6 @@
 -- `carried::set_flag` sets a flag; past the flags it sets none.
 use borrow.Author.Needs.{needs}
-use Rattle.commands.proofs.Judging.{set-past}
+use Rattle.judging.proofs.Judging.{set-past}
 use Rattle.carried.proofs.set_flag.Statement.{statement}
 use Rattle.carried.proofs.set_flag.Tie as tie
 

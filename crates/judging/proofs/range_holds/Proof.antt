@@ -1,8 +1,8 @@
--- `commands::range_holds` tells whether a range holds, by its verdict if it was asked.
+-- `judging::range_holds` tells whether a range holds, by its verdict if it was asked.
 use borrow.Author.Needs.{needs}
-use Rattle.commands.proofs.Judging.{answer-holds, answer-fails, answer-new}
-use Rattle.commands.proofs.range_holds.Statement.{statement}
-use Rattle.commands.proofs.range_holds.Tie as tie
+use Rattle.judging.proofs.Judging.{answer-holds, answer-fails, answer-new}
+use Rattle.judging.proofs.range_holds.Statement.{statement}
+use Rattle.judging.proofs.range_holds.Tie as tie
 
 verdict-at-requires : tie.Need-verdict-at-requires
 verdict-at-requires c κs = search needs

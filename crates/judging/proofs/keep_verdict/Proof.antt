@@ -1,8 +1,8 @@
--- `commands::keep_verdict` keeps the verdict of a range; past the end it keeps none.
+-- `judging::keep_verdict` keeps the verdict of a range; past the end it keeps none.
 use borrow.Author.Needs.{needs}
-use Rattle.commands.proofs.Judging.{set-as, set-past}
-use Rattle.commands.proofs.keep_verdict.Statement.{statement}
-use Rattle.commands.proofs.keep_verdict.Tie as tie
+use Rattle.judging.proofs.Judging.{set-as, set-past}
+use Rattle.judging.proofs.keep_verdict.Statement.{statement}
+use Rattle.judging.proofs.keep_verdict.Tie as tie
 
 verdict-requires : tie.Need-verdict-requires
 verdict-requires c κs = search needs

@@ -1,8 +1,8 @@
--- `commands::verdict_at` gives the verdict of a range; past the end there is none.
+-- `judging::verdict_at` gives the verdict of a range; past the end there is none.
 use borrow.Author.Needs.{needs}
-use Rattle.commands.proofs.Judging.{none-past}
-use Rattle.commands.proofs.verdict_at.Statement.{statement}
-use Rattle.commands.proofs.verdict_at.Tie as tie
+use Rattle.judging.proofs.Judging.{none-past}
+use Rattle.judging.proofs.verdict_at.Statement.{statement}
+use Rattle.judging.proofs.verdict_at.Tie as tie
 
 shared-slice-read-result : tie.Need-shared-slice-read-result
 shared-slice-read-result c = search needs

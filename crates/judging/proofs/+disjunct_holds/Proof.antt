@@ -3,16 +3,16 @@ use borrow.Author.Needs.{needs}
 use Prim.Native.Nat.{ℕ, _<_}
 use borrow.Fn.Kinds.{In}
 use borrow.Fn.PlainCycle.{Measures, is, falls, and}
-use Rattle.commands.proofs.Judging.{place-fits, known-holds, known-fails, tell-range, half-falls, half-asked, tell-half, left-falls, left-asked, right-falls, right-asked, tell-both, tell-fails}
-use Rattle.commands.proofs.disjunct_holds.Reads as disjunct
-use Rattle.commands.proofs.disjunct_holds.Kinds as kinds
-use Rattle.commands.proofs.+disjunct_holds.Lts-disjunct_holds as lts
-use Rattle.commands.proofs.keep_verdict.Reads as keep-verdict
-use Rattle.commands.proofs.range_holds.Reads as range-holds
-use Rattle.commands.proofs.verdict_at.Reads as verdict-at
+use Rattle.judging.proofs.Judging.{place-fits, known-holds, known-fails, tell-range, half-falls, half-asked, tell-half, left-falls, left-asked, right-falls, right-asked, tell-both, tell-fails}
+use Rattle.judging.proofs.disjunct_holds.Reads as disjunct
+use Rattle.judging.proofs.disjunct_holds.Kinds as kinds
+use Rattle.judging.proofs.+disjunct_holds.Lts-disjunct_holds as lts
+use Rattle.judging.proofs.keep_verdict.Reads as keep-verdict
+use Rattle.judging.proofs.range_holds.Reads as range-holds
+use Rattle.judging.proofs.verdict_at.Reads as verdict-at
 use Rattle.conditions.proofs.source_of.Reads as source-of
-use Rattle.commands.proofs.+disjunct_holds.{statement}
-use Rattle.commands.proofs.+disjunct_holds.Tie.{close}
+use Rattle.judging.proofs.+disjunct_holds.{statement}
+use Rattle.judging.proofs.+disjunct_holds.Tie.{close}
 
 abbrev number : Measures 6 kinds.ps ℕ
 number κs a = a .1 .1 .1 .1 .1 .1 .1 .1 .1 .0

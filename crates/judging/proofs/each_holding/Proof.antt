@@ -1,4 +1,4 @@
--- `commands::holding` says of each disjunct of a condition whether it holds. The invariant: the flags of the first i disjuncts are set.
+-- `judging::each_holding` says of each disjunct of a condition whether it holds. The invariant: the flags of the first i disjuncts are set.
 use borrow.Author.Needs.{needs}
 use Prim.Native.Nat.{_-_}
 use Rattle.tables.specs.Tables.{tables}
@@ -7,9 +7,9 @@ use Rattle.state.specs.Layout.{held}
 use Rattle.variable_map.specs.Mapping.{variables}
 use Rattle.decision_tracker.specs.Tracking.{decisions}
 use Rattle.goals.specs.Goals.{trueOf}
-use Rattle.commands.proofs.Judging.{Judging, judging-start, judging-asks, judging-step, judging-end}
-use Rattle.commands.proofs.holding.Statement.{statement}
-use Rattle.commands.proofs.holding.Tie as tie
+use Rattle.judging.proofs.Judging.{Judging, judging-start, judging-asks, judging-step, judging-end}
+use Rattle.judging.proofs.each_holding.Statement.{statement}
+use Rattle.judging.proofs.each_holding.Tie as tie
 
 abbrev Inv-loop : tie.InvT-loop
 Inv-loop marks unions t k s l n c count verdicts₀ judged₀ flags₀ i₀ verdicts judged flags i = Judging (catalogue k marks unions t) (tables k t .conditions) (trueOf (variables (n .variables) (held l s)) (decisions (n .decisions) (held l s))) c count i verdicts judged flags
@@ -50,8 +50,8 @@ loop-again c = search (needs, judging-step)
 returns : tie.Need-returns Inv-loop μ-loop
 returns c = search (needs, judging-end)
 
-pub holding-spec : {M : Type 1} → statement M
-holding-spec =
+pub each-holding-spec : {M : Type 1} → statement M
+each-holding-spec =
     tie.close
     (tie.spec
     Inv-loop

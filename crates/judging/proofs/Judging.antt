@@ -31,7 +31,7 @@ use Rattle.entries.specs.Deferred.{flagOf, isFree, isHeld}
 use Rattle.encoder.specs.declared.Counters.{Counters}
 use Rattle.goals.specs.Goals.{Catalogued, trueOf}
 use Rattle.goals.proofs.Parts.{all-both}
-use Rattle.commands.specs.Commands.{verdictOf, Verdicts, Answers, DisjunctVerdicts, AsksDisjunct, AnswersDisjunct, Judged}
+use Rattle.judging.specs.Judging.{verdictOf, Verdicts, Answers, DisjunctVerdicts, AsksDisjunct, AnswersDisjunct, Judged}
 
 -- ---- lists of zeros, and reading and writing past the end
 
@@ -303,3 +303,17 @@ judging-asks r g f p d h e =
       given = h;
       there = omega (arith, r .all);
     }
+
+-- ---- one disjunct alone
+
+module _ {cs : List rules.Condition} {k n : ℕ} (h : Counted cs k n) (z : n ≡ 1) where
+  pub alone-there : 0 < length (disjuncts cs k)
+  alone-there = omega (arith, h .is)
+
+  pub judged-alone : {c : Catalogue} {f : ℕ → Bool} (flags : List ℕ) {b : Bool} {x : ℕ} → length flags ≡ 64 → b ≡ holdsNow c f (getD (disjuncts cs k) 0 []) → x ≡ flagOf b
+      → Judged c f (disjuncts cs k) (set flags 0 x)
+  unfolding isHeld isFree
+  judged-alone {c} {f} flags {b} {x} l e y = record { is = λ i q. at i (omega (arith, h .is)) }
+    where
+      at : (i : ℕ) → i ≡ 0 → not (eqb (getD (set flags 0 x) i 0) 0) ≡ holdsNow c f (getD (disjuncts cs k) i [])
+      at i q = rw (q, getD-set-same flags 0 x 0 (omega arith)) (flag-is b x y ∙ e)

@@ -1,8 +1,8 @@
--- `commands::verdict` gives 1 for a range that holds, and 2 for one that does not.
+-- `judging::verdict` gives 1 for a range that holds, and 2 for one that does not.
 use borrow.Author.Needs.{needs}
-use Rattle.commands.proofs.Judging.{verdict-holds, verdict-fails}
-use Rattle.commands.proofs.verdict.Statement.{statement}
-use Rattle.commands.proofs.verdict.Tie as tie
+use Rattle.judging.proofs.Judging.{verdict-holds, verdict-fails}
+use Rattle.judging.proofs.verdict.Statement.{statement}
+use Rattle.judging.proofs.verdict.Tie as tie
 
 returns : tie.Need-returns
 returns c = search (needs, verdict-holds)

@@ -1,8 +1,8 @@
--- `commands::flag` gives 1 for an entry that is held, and 0 for one that is free.
+-- `judging::flag` gives 1 for an entry that is held, and 0 for one that is free.
 use borrow.Author.Needs.{needs}
-use Rattle.commands.proofs.Judging.{flag-held, flag-free}
-use Rattle.commands.proofs.flag.Statement.{statement}
-use Rattle.commands.proofs.flag.Tie as tie
+use Rattle.judging.proofs.Judging.{flag-held, flag-free}
+use Rattle.judging.proofs.flag.Statement.{statement}
+use Rattle.judging.proofs.flag.Tie as tie
 
 returns : tie.Need-returns
 returns c = search (needs, flag-held)
