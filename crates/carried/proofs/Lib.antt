@@ -1,5 +1,6 @@
 pub mod Starting
 pub mod Undoing
+pub mod Running
 pub mod Settling
 pub mod Records
 pub mod Sheets

@@ -29,6 +29,7 @@ use Rattle.judging.proofs.Judging.{zeros}
 use Rattle.commands.proofs.Idling.{idle-draw, idle-after, idle-kept}
 use Rattle.carried.specs.Carrying.{Settled, Idles, Notes}
 use Rattle.carried.proofs.Undoing.{idle-undone}
+use Rattle.carried.proofs.Running.{idle-run}
 
 -- ---- by the definitions
 
@@ -56,6 +57,10 @@ module _ (l : rules.Limits) (c : Catalogue) (s : State) where
     settled-added : (o : ℕ) → Settled c flags (carriedOut l c (Command.add o) s)
     unfolding carriedOut opening.add decidedTrue
     settled-added o = record { given = h .given; idle = λ k e. record { none = h .idle k e .none } }
+
+    settled-run : Reached l c s → (level : ℕ) → Settled c flags (carriedOut l c (Command.run level) s)
+    unfolding carriedOut
+    settled-run r level = record { given = h .given; idle = λ k e. idle-run r level k (h .idle k e) }
 
     settled-undone : Reached l c s → (level : ℕ) → Settled c flags (carriedOut l c (Command.undo level) s)
     unfolding carriedOut
@@ -93,6 +98,10 @@ module _ (x : code.Command) {flags : List ℕ} where
   pub notes-add : (o : ℕ) → x ≡ C.Add o → Notes (commandOf x) flags flags
   unfolding commandOf
   notes-add o q = rw q (record { is = λ l c s s′ r e h. rw (← carried-is l c s (Command.add o) s′ e) (settled-added l c s h o) })
+
+  pub notes-run : (level : ℕ) → x ≡ C.Run level → Notes (commandOf x) flags flags
+  unfolding commandOf
+  notes-run level q = rw q (record { is = λ l c s s′ r e h. rw (← carried-is l c s (Command.run level) s′ e) (settled-run l c s h r level) })
 
   pub notes-undo : (level : ℕ) → x ≡ C.Undo level → Notes (commandOf x) flags flags
   unfolding commandOf

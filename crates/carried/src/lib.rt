@@ -87,13 +87,14 @@ fn set_flag(flags: &mut [u8], i: usize)
     }
 }
 
-// The flags after a command that was carried out. A draw leaves nothing of its condition to be drawn; an owner that is added and decisions that are
-// undone give nothing to draw. After any other command there may be something to draw of each condition.
+// The flags after a command that was carried out. A draw leaves nothing of its condition to be drawn; an owner that is added, a run and decisions that
+// are undone give nothing to draw. After a decision there may be something to draw of each condition.
 fn note(settled: &mut [u8], command: Command)
     ensures { λ _. ⌜ Notes (commandOf command) (now (settled .entry)) (now (settled .exit)) ⌝ }
 {
     match command {
         Command::Add(_) => {}
+        Command::Run(_) => {}
         Command::Undo(_) => {}
         Command::Draw(c) => set_flag(settled, c as usize),
         _ => words::clear(settled),

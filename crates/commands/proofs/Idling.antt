@@ -22,7 +22,7 @@ module _ {A : Type 0} (p : A → Bool) where
   all-stay (Each.cons e es) = rw (e, filter, all-stay es)
 
   -- those that stay do not pass
-  stay-fails : (xs : List A) → Each (λ x. p x ≡ false) (filter (λ x. not (p x)) xs)
+  pub stay-fails : (xs : List A) → Each (λ x. p x ≡ false) (filter (λ x. not (p x)) xs)
   unfolding filter
   stay-fails [] = Each.nil
   stay-fails (x ∷ xs) = by-cases (p x) (λ e. rw (e, filter) (stay-fails xs)) (λ e. rw (e, filter) (Each.cons e (stay-fails xs)))
