@@ -3,4 +3,5 @@ pub mod Released
 pub mod Counting
 pub mod Parts
 pub mod Decided
+pub mod ByDecisions
 pub mod Given

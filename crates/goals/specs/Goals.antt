@@ -1,17 +1,21 @@
 -- The distinct ranges of a goal as the list at hand, and what is decided of parts.
 use mathlib.Core.Path.{_≡_}
-use mathlib.Core.Bool.{Bool, _&&_, cond}
+use mathlib.Core.Bool.{Bool, false, _&&_, cond}
 use mathlib.Core.List.{List, [], _∷_}
 use Prim.Native.Nat.{ℕ}
+use lib.Dec.{ltb}
+use lib.ListN.{length, getD}
 use Rattle.rules.specs.Lists.{elem, snoc}
-use Rattle.rules.specs.Variables.{Origin, known, partOrigin, partVariable}
+use Rattle.rules.specs.Variables.{Origin, chosen, forbid, one, violation, gate, known, partOrigin, partVariable}
 use Rattle.rules.specs.Decisions.{Decision, isTrue, isFalse}
-use Rattle.rules.specs.Catalogue.{Catalogue}
+use Rattle.rules.specs.Catalogue.{root, part, Catalogue}
 use Rattle.rules.proofs.Each.{Each}
 use Rattle.rules.proofs.WellFormed.{WellFormed}
 use Rattle.rules.proofs.Valid.{Entry}
 use Rattle.tables.specs.declared.Counts.{Counts}
+use Rattle.cache.specs.declared.Choice.the-variants.{Matching}
 use Rattle.cache.specs.Areas.{catalogue}
+use Rattle.cache.specs.Lists as cache
 use Rattle.index.specs.Indexed.{Indexed}
 use Rattle.state.specs.Changed.{Changed}
 use Rattle.marked.specs.Marked.{listed, Marked}
@@ -44,6 +48,25 @@ trueOf vs ds p = known vs (partOrigin p) && isTrue ds (partVariable vs p)
 -- its variable is decided false
 unfoldable pub falseOf : List Origin → List Decision → ℕ → Bool
 falseOf vs ds p = isFalse ds (partVariable vs p)
+
+-- ---- by the decisions
+
+-- the origin is a part's that passes
+unfoldable pub ofPart : (ℕ → Bool) → Origin → Bool
+ofPart f (chosen root) = false
+ofPart f (chosen (part p)) = f p
+ofPart f (forbid n j) = false
+ofPart f (one n) = false
+ofPart f (violation r) = false
+ofPart f (gate g) = false
+
+-- p is a matching part of range r that is decided true
+unfoldable pub trueMatch : Catalogue → List Origin → List Decision → ℕ → ℕ → Bool
+trueMatch c vs ds r p = ltb p (length (c .parts)) && (cache.chosen c r Matching p && trueOf vs ds p)
+
+-- the decision makes the variable of such a part true
+unfoldable pub decidesFor : Catalogue → List Origin → List Decision → ℕ → Decision → Bool
+decidesFor c vs ds r d = d .value && ofPart (trueMatch c vs ds r) (getD vs (d .variable) (chosen root))
 
 -- each of these entries is a disjunct of a requirement
 pub record AllGiven (c : Catalogue) (es : List (ℕ × ℕ)) : Type 0 where

@@ -24,9 +24,9 @@ ghost use Rattle.tables.specs.Tables.{tables};
 ghost use Rattle.cache.specs.Areas.{catalogue};
 ghost use Rattle.state.specs.Layout.{held, Fits};
 ghost use Rattle.variable_map.specs.Mapping.{originOf, variables, Mapped, AllKnown};
-ghost use Rattle.decision_tracker.specs.Tracking.{decisions, Kept};
+ghost use Rattle.decision_tracker.specs.Tracking.{noDecision, decisions, Kept};
 ghost use Rattle.marked.specs.Marked.{listed, Marked, Emptied};
-ghost use Rattle.goals.specs.Goals.{Catalogued, trueOf, falseOf, Notes, Gathers};
+ghost use Rattle.goals.specs.Goals.{Catalogued, trueOf, falseOf, trueMatch, decidesFor, Notes, Gathers};
 
 // ---- the list at hand
 
@@ -167,7 +167,89 @@ pub fn decided_true(s: &[u8], l: Limits, n: Counters, p: u16) -> bool
     }
 }
 
-// Some matching part of range r is decided true.
+// Is part p a matching part of range r that is decided true?
+fn true_match(
+    marks: &[u8],
+    unions: &[u8],
+    t: &[u8],
+    k: Counts,
+    s: &[u8],
+    l: Limits,
+    n: Counters,
+    r: usize,
+    p: u16,
+) -> bool
+    requires { ⌜ Catalogued k (now marks) (now unions) (now t) ⌝ }
+    requires { ⌜ Fits l (length (now s)) ⌝ }
+    requires { ⌜ Mapped l (n .variables) (held l (now s)) × Kept l (n .decisions) (held l (now s)) ⌝ }
+    ensures { λ b. ⌜ b ≡ trueMatch (catalogue k (now (marks .entry)) (now (unions .entry)) (now (t .entry))) (variables (n .variables) (held l (now (s .entry)))) (decisions (n .decisions) (held l (now (s .entry)))) r p ⌝ }
+{
+    if p as usize >= k.parts {
+        return false;
+    }
+    if !cache::chosen(marks, unions, t, k, r, Choice::Matching, p as usize) {
+        return false;
+    }
+    decided_true(s, l, n, p)
+}
+
+// Does decision i make such a part true?
+fn decides_for(
+    marks: &[u8],
+    unions: &[u8],
+    t: &[u8],
+    k: Counts,
+    s: &[u8],
+    l: Limits,
+    n: Counters,
+    r: usize,
+    i: usize,
+) -> bool
+    requires { ⌜ Catalogued k (now marks) (now unions) (now t) ⌝ }
+    requires { ⌜ Fits l (length (now s)) ⌝ }
+    requires { ⌜ Mapped l (n .variables) (held l (now s)) × Kept l (n .decisions) (held l (now s)) ⌝ }
+    requires { ⌜ i < n .decisions ⌝ }
+    ensures { λ b. ⌜ b ≡ decidesFor (catalogue k (now (marks .entry)) (now (unions .entry)) (now (t .entry))) (variables (n .variables) (held l (now (s .entry)))) (decisions (n .decisions) (held l (now (s .entry)))) r (getD (decisions (n .decisions) (held l (now (s .entry)))) i noDecision) ⌝ }
+{
+    let decision = decision_tracker::decision_at(s, l, n.decisions, i);
+    if !decision.value {
+        return false;
+    }
+    let origin = variable_map::origin_at(s, l, n.variables, decision.variable as usize);
+    if origin.kind != 1 {
+        return false;
+    }
+    true_match(marks, unions, t, k, s, l, n, r, origin.number)
+}
+
+// Some matching part of range r is decided true: by the decisions.
+fn some_decides(
+    marks: &[u8],
+    unions: &[u8],
+    t: &[u8],
+    k: Counts,
+    s: &[u8],
+    l: Limits,
+    n: Counters,
+    r: usize,
+) -> bool
+    requires { ⌜ Catalogued k (now marks) (now unions) (now t) ⌝ }
+    requires { ⌜ Fits l (length (now s)) ⌝ }
+    requires { ⌜ Mapped l (n .variables) (held l (now s)) × Kept l (n .decisions) (held l (now s)) ⌝ }
+    ensures { λ b. ⌜ b ≡ any (trueOf (variables (n .variables) (held l (now (s .entry)))) (decisions (n .decisions) (held l (now (s .entry)))))
+        (matching (catalogue k (now (marks .entry)) (now (unions .entry)) (now (t .entry))) r) ⌝ }
+{
+    let mut i = 0;
+    while i < n.decisions {
+        if decides_for(marks, unions, t, k, s, l, n, r, i) {
+            return true;
+        }
+        i += 1;
+    }
+    false
+}
+
+// Some matching part of range r is decided true. Where it has more of them than there are decisions it is asked by the decisions.
 pub fn range_holds(
     marks: &[u8],
     unions: &[u8],
@@ -184,8 +266,13 @@ pub fn range_holds(
     ensures { λ b. ⌜ b ≡ any (trueOf (variables (n .variables) (held l (now (s .entry)))) (decisions (n .decisions) (held l (now (s .entry)))))
         (matching (catalogue k (now (marks .entry)) (now (unions .entry)) (now (t .entry))) r) ⌝ }
 {
+    let mut left = n.decisions;
     let mut p = index::first_chosen(marks, unions, t, k, r, Choice::Matching);
     while p < k.parts {
+        if left == 0 {
+            return some_decides(marks, unions, t, k, s, l, n, r);
+        }
+        left -= 1;
         if cache::chosen(marks, unions, t, k, r, Choice::Matching, p) {
             if decided_true(s, l, n, p as u16) {
                 return true;
