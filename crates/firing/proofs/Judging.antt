@@ -9,7 +9,7 @@ use lib.Dec.{eqb}
 use lib.ListN.{length, getD, length-append}
 use Rattle.rules.specs.Lists.{filter, upTo}
 use Rattle.rules.specs.Catalogue.{Catalogue, noRequirement}
-use Rattle.rules.specs.Conditions.{disjuncts, disjunctsOf, disjunctAt, indices, unconditional}
+use Rattle.rules.specs.Conditions.{disjuncts, disjunctAt, indices, unconditional}
 use Rattle.rules.specs.Opening.{entryHolds}
 use Rattle.rules.proofs.Bools.{by-cases}
 use Rattle.requirement.specs.declared.ConditionalRequirement.{ConditionalRequirement}
