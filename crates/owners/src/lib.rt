@@ -51,6 +51,32 @@ fn open_range(
     opening::open_name(s, l, n, tables::range_name(t, k, r as usize))
 }
 
+// The name of range r is open: to open it changes nothing.
+fn is_open(
+    marks: &[u8],
+    unions: &[u8],
+    t: &[u8],
+    k: Counts,
+    s: &[u8],
+    l: Limits,
+    n: Counters,
+    r: u16,
+) -> bool
+    requires { ⌜ Indexed k (now marks) (now unions) (now t) ⌝ }
+    requires { ⌜ WellFormed (catalogue k (now marks) (now unions) (now t)) ⌝ }
+    requires { ⌜ Fits l (length (now s)) ⌝ }
+    requires { ⌜ GoodAlone (catalogue k (now marks) (now unions) (now t)) l n (held l (now s)) ⌝ }
+    requires { ⌜ r < k .ranges ⌝ }
+    ensures { λ b. ⌜ (b ≡ true → StateDid (catalogue k (now (marks .entry)) (now (unions .entry)) (now (t .entry))) l (λ v. onOpening (openName (rangeName (catalogue k (now (marks .entry)) (now (unions .entry)) (now (t .entry))) r))) n (held l (now (s .entry))) n (held l (now (s .entry)))) ⌝ }
+{
+    marked::contains(
+        s,
+        l,
+        state::NAME_MARKS,
+        tables::range_name(t, k, r as usize),
+    )
+}
+
 fn open_union(
     marks: &[u8],
     unions: &[u8],
@@ -72,8 +98,12 @@ fn open_union(
     let mut i = index::first_of_union(marks, unions, t, k, u);
     while i < k.members {
         let member = unions::member_at(unions, k.members, i);
-        m = open_range(marks, unions, t, k, s, l, m, member.range);
-        i = index::next_of_union(marks, unions, t, k, i);
+        if is_open(marks, unions, t, k, s, l, m, member.range) {
+            i = index::next_of_union(marks, unions, t, k, i);
+        } else {
+            m = open_range(marks, unions, t, k, s, l, m, member.range);
+            i = index::next_of_union(marks, unions, t, k, i);
+        }
     }
     m
 }
