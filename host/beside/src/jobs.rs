@@ -1,6 +1,6 @@
 //! The jobs of `bench`: plain ones, jobs built to be slow to run, and families of rising size.
 
-use std::{fs, iter::repeat_n};
+use std::{fs, iter::repeat_n, ops::Range};
 
 use compare::{generate::edges, paths};
 use job::{
@@ -159,7 +159,18 @@ fn slow_jobs() -> Vec<Job> {
     jobs.push(job("alternating draws", alternating_draws(3_600)));
     jobs.push(job("draws with runs", draws_with_runs()));
     jobs.push(job("runs of one owner", runs_of_one_owner()));
-    jobs.push(job("runs of one entry", runs_of_one_entry()));
+    jobs.push(job("runs of one entry", runs_of_one_entry(false)));
+    jobs.push(job("runs of false candidates", runs_of_one_entry(true)));
+    jobs.push(job("runs in batches", batches(4, 200, 1)));
+    jobs.push(job("runs of a wide union", batches(3, 400, 400)));
+    jobs.push(job("judged to the last member", judged_to_the_last_member()));
+    jobs.push(job("fired by the last member", fired_by_the_last_member()));
+    jobs.push(job("draws after runs", draws_of_many_members(&[Record::Run { level: 1 }], &[])));
+    let decide = |value| Record::Decide { variable: 1, value, level: 1 };
+    jobs.push(job(
+        "draws after decisions",
+        draws_of_many_members(&[decide(1)], &[Record::Undo { level: 0 }]),
+    ));
     jobs.push(job("waiting of all conditions", waiting_of_all_conditions()));
     // What follows makes no clause: a branch's limits do.
     let empty_runs = job_of(vec![Record::Run { level: 1 }; 21_845]);
@@ -356,10 +367,32 @@ fn runs_of_one_owner() -> Vec<Record> {
     records
 }
 
+/// Conditions of a disjunct for each of these ranges, under so many numbers; with these numbers.
+fn or_of_all(ranges: Range<u16>, numbers: usize) -> (Vec<Record>, Range<u16>) {
+    // Each joins the next two, up to the two halves.
+    let halves = 2 * ranges.len() as u16 - 4;
+    let or = |left| Record::Joined { operator: 1, left, right: left + 1 };
+    let mut conditions: Vec<Record> = ranges.map(|range| Record::Leaf { range }).collect();
+    conditions.extend((0..halves).step_by(2).map(or));
+    conditions.extend(repeat_n(or(halves), numbers));
+    (conditions, halves + 2..halves + 2 + numbers as u16)
+}
+
+/// The variables from 1 on, so many, are decided true one after another, and after each the conditions
+/// are drawn and run one by one.
+fn drawn_one_by_one(variables: u16, conditions: Range<u16>) -> Vec<Record> {
+    let drawn = |condition| [Record::Draw { condition }, Record::Run { level: 1 }];
+    let decided = |variable| {
+        let decide = Record::Decide { variable, value: 1, level: 1 };
+        [decide].into_iter().chain(conditions.clone().flat_map(drawn))
+    };
+    (1..=variables).flat_map(decided).collect()
+}
+
 /// A condition of 32 disjuncts, one for each of 32 parts, under 64 numbers; a requirement of a range of
 /// 990 parts waits for each. The parts are decided true one after another, and after each the conditions
-/// are drawn and run one after another.
-fn runs_of_one_entry() -> Vec<Record> {
+/// are drawn and run one after another. Where `falsified`, the 990 parts are decided false before.
+fn runs_of_one_entry(falsified: bool) -> Vec<Record> {
     const CANDIDATES: u16 = 990;
     const DISJUNCTS: u16 = 32;
     let mut records = vec![Record::Name { flags: 0 }; 1 + DISJUNCTS as usize];
@@ -370,26 +403,23 @@ fn runs_of_one_entry() -> Vec<Record> {
     let members = (0..DISJUNCTS).map(|at| Record::Member { range: 1 + at, part: CANDIDATES + at });
     records.extend(members);
     records.push(Record::Union);
-    let ranges = 1..=DISJUNCTS;
+    let ranges = 1..1 + DISJUNCTS;
     records.extend(ranges.clone().map(|range| Record::UnionMember { union: 0, range }));
-    records.extend(ranges.map(|range| Record::Leaf { range }));
-    // Each joins the next two, up to the two halves, which are joined 64 times.
-    let halves = 2 * DISJUNCTS - 4;
-    let or = |left| Record::Joined { operator: 1, left, right: left + 1 };
-    records.extend((0..halves).step_by(2).map(or));
-    records.extend(repeat_n(or(halves), 64));
-    let conditions = halves + 2..halves + 2 + 64;
-    // The union gives its parts the variables 1 to 32.
+    let (joined, conditions) = or_of_all(ranges, 64);
+    records.extend(joined);
+    // The union gives its parts the variables 1 to 32, the range those from 33 on.
     records.push(of_union(0));
+    if falsified {
+        records.push(requirement(ROOT, 0));
+    }
     let waiting = |condition| Record::Requirement { owner: ROOT, form: 0, number: 0, condition };
     records.extend(conditions.clone().map(waiting));
     records.extend(run_of_root());
-    for variable in 1..=DISJUNCTS {
-        records.push(Record::Decide { variable, value: 1, level: 1 });
-        for condition in conditions.clone() {
-            records.extend([Record::Draw { condition }, Record::Run { level: 1 }]);
-        }
+    if falsified {
+        let candidates = DISJUNCTS + 1..=DISJUNCTS + CANDIDATES;
+        records.extend(candidates.map(|variable| Record::Decide { variable, value: 0, level: 1 }));
     }
+    records.extend(drawn_one_by_one(DISJUNCTS, conditions));
     records
 }
 
@@ -403,5 +433,108 @@ fn waiting_of_all_conditions() -> Vec<Record> {
     let waiting = |condition| Record::Requirement { owner: ROOT, form: 0, number: 0, condition };
     records.extend(of_eight.map(waiting));
     records.extend(run_of_root());
+    records
+}
+
+/// 242 conditions of eight disjuncts, one for each of eight parts. So many owners, one after another,
+/// bring a requirement for each condition, all of one union: so many parts in so many ranges. The eight
+/// parts are decided true one after another, and after each the conditions are drawn and run one by one.
+fn batches(owners: u16, parts: u16, ranges: u16) -> Vec<Record> {
+    const DISJUNCTS: u16 = 8;
+    let mut records = vec![Record::Name { flags: 0 }; 1 + DISJUNCTS as usize];
+    records.extend(repeat_n(part(0, 0), parts as usize));
+    records.extend((1..=DISJUNCTS).map(|name| part(name, 0)));
+    records.extend((1..=DISJUNCTS).map(|name| Record::Range { name }));
+    records.extend((0..DISJUNCTS).map(|at| Record::Member { range: at, part: parts + at }));
+    records.extend(repeat_n(Record::Range { name: 0 }, ranges as usize));
+    let member = |part| Record::Member { range: DISJUNCTS + part % ranges, part };
+    records.extend((0..parts).map(member));
+    records.extend([Record::Union, Record::Union]);
+    records.extend((0..DISJUNCTS).map(|range| Record::UnionMember { union: 0, range }));
+    let wide = DISJUNCTS..DISJUNCTS + ranges;
+    records.extend(wide.map(|range| Record::UnionMember { union: 1, range }));
+    let (joined, conditions) = or_of_all(0..DISJUNCTS, CONDITIONS - 14);
+    records.extend(joined);
+    // The first union gives its parts the variables 1 to 8.
+    records.push(of_union(0));
+    for owner in 0..owners {
+        let waiting = |condition| Record::Requirement { owner, form: 1, number: 1, condition };
+        records.extend(conditions.clone().map(waiting));
+    }
+    records.extend(run_of_root());
+    for owner in 0..owners {
+        records.extend([Record::Add { owner }, Record::Run { level: 1 }]);
+        records.extend(drawn_one_by_one(DISJUNCTS, conditions.clone()));
+        records.push(Record::Undo { level: 0 });
+    }
+    records
+}
+
+/// A name of 1,000 parts that allows several; its ranges 0 of all of them, 1 of the first, 2 of the
+/// last, which the root requires: so it has variable 1.
+fn last_of_a_thousand() -> Vec<Record> {
+    let parts = 1_000;
+    let mut records = vec![Record::Name { flags: 1 }];
+    records.extend(repeat_n(part(0, 0), parts as usize));
+    records.extend([Record::Range { name: 0 }; 3]);
+    records.extend((0..parts).map(|part| Record::Member { range: 0, part }));
+    records.push(Record::Member { range: 1, part: 0 });
+    records.push(Record::Member { range: 2, part: parts - 1 });
+    records.push(requirement(ROOT, 2));
+    records
+}
+
+/// The last part is decided true, and then the first added.
+fn first_added() -> Vec<Record> {
+    let mut records = run_of_root().to_vec();
+    records.push(Record::Decide { variable: 1, value: 1, level: 1 });
+    records.extend([Record::Add { owner: 0 }, Record::Run { level: 1 }]);
+    records
+}
+
+/// 32 requirements on 64 disjuncts, each fifteen times a range that holds by its last member and once
+/// one that does not.
+fn judged_to_the_last_member() -> Vec<Record> {
+    let mut records = last_of_a_thousand();
+    let conditions = sixty_four_disjuncts(Record::Leaf { range: 0 }, Record::Leaf { range: 1 });
+    let condition = (conditions.len() - 1) as u16;
+    records.extend(conditions);
+    let waiting = Record::Requirement { owner: 0, form: 0, number: 2, condition };
+    records.extend(repeat_n(waiting, 32));
+    records.extend(first_added());
+    records
+}
+
+/// 1,023 requirements on a range that holds by its last member.
+fn fired_by_the_last_member() -> Vec<Record> {
+    let mut records = last_of_a_thousand();
+    records.push(Record::Leaf { range: 0 });
+    let fired = Record::Requirement { owner: 0, form: 0, number: 2, condition: 0 };
+    records.extend(repeat_n(fired, REQUIREMENTS - 1));
+    records.extend(first_added());
+    records
+}
+
+/// An entry for each of five ranges of 1,000 parts, none of which is true, waits; they are drawn, with
+/// these records before and behind each draw, as often as a job has room for.
+fn draws_of_many_members(before: &[Record], behind: &[Record]) -> Vec<Record> {
+    let mut records = vec![Record::Name { flags: 1 }; 2];
+    records.extend(repeat_n(part(0, 0), 1_000));
+    records.push(part(1, 0));
+    records.extend([Record::Range { name: 0 }; 5]);
+    records.push(Record::Range { name: 1 });
+    let members = |range| (0..1_000).map(move |part| Record::Member { range, part });
+    records.extend((0..5).flat_map(members));
+    records.push(Record::Member { range: 5, part: 1_000 });
+    records.extend((0..5).map(|range| Record::Leaf { range }));
+    let or = |left, right| Record::Joined { operator: 1, left, right };
+    records.extend([or(0, 1), or(5, 2), or(6, 3), or(7, 4)]);
+    // The part that is decided is no member of the five ranges.
+    records.push(requirement(ROOT, 5));
+    records.push(Record::Requirement { owner: ROOT, form: 0, number: 5, condition: 8 });
+    records.extend(run_of_root());
+    let round = [before, &[Record::Draw { condition: 8 }], behind].concat();
+    let times = (JOB_CEILING - job_of(records.clone()).len()) / job_of(round.clone()).len();
+    records.extend(repeat_n(round, times).flatten());
     records
 }
