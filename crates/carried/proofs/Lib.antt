@@ -4,3 +4,4 @@ pub mod Running
 pub mod Settling
 pub mod Records
 pub mod Sheets
+pub mod Flags

@@ -21,6 +21,7 @@ use Rattle.state.specs.declared.Limits.{Limits}
 use Rattle.entries.specs.Deferred.{isHeld}
 use Rattle.encoder.specs.declared.Counters.{Counters}
 use Rattle.encoder.specs.Did.{limitsOf}
+use Rattle.serving.specs.Flags.{Flagged}
 use Rattle.encoding.specs.Running.{Holds}
 use Rattle.commands.specs.declared.Outcome as commands
 use Rattle.commands.specs.declared.Outcome.the-variants as outcome
@@ -82,6 +83,10 @@ pub record StepDid (c : Catalogue) (flags : List ℕ) (l : Limits) (job : List �
       → Settled c flags s → Passed c l job at a (commandOf o) s n m st′ cl′ wt′
   pub refused : (f : Refusal) → r ≡ Step.Refused f → (s : State) → Given c → Reached (limitsOf l) c s → Holds c l s n st cl wt
       → (t : Terms) → t .limits ≡ limitsOf l → endFrom t job at (carrying c s) ≡ refused (numberAndPlace (length job) at (refusalOf f))
+
+-- goals that are flagged are so after a record that was carried out
+pub record FlaggedNext (c : Catalogue) (l : Limits) (flags : List ℕ) (r : Step) (st′ : ℕ → List ℕ) : Type 0 where
+  pub flagged : (a : ℕ) (m : Counters) (o : code.Command) → r ≡ Step.Next a m o → Flagged c l flags m st′
 
 -- ---- a sheet
 

@@ -19,7 +19,9 @@ ghost use Rattle.state.specs.Layout.{held, Fits};
 ghost use Rattle.encoder.specs.Held.{LongEnough};
 ghost use Rattle.goals.specs.Goals.{Catalogued};
 ghost use Rattle.encoding.specs.Running.{Holds, Reaches};
-ghost use Rattle.carried.specs.Carrying.{Started, Idles, Notes, SettledDid, StepDid, SheetDid};
+ghost use Rattle.serving.specs.Flags.{Flagged};
+ghost use Rattle.sheet.specs.Sheet.{FlaggedAfter};
+ghost use Rattle.carried.specs.Carrying.{Started, Idles, Notes, SettledDid, StepDid, FlaggedNext, SheetDid};
 
 // Variable 0 is the root; clause 0, install, is stored at the start. The state area is zero.
 pub fn start(s: &mut [u8], clauses: &mut [u8], l: Limits) -> Counters
@@ -114,17 +116,20 @@ fn carry_command(
     l: Limits,
     n: Counters,
     command: Command,
+    goals: &mut [u8; 640],
 ) -> Outcome
     requires { ⌜ Catalogued k (now marks) (now unions) (now t) ⌝ }
     requires { ⌜ Fits l (length (now s)) ⌝ }
     requires { ⌜ Reaches (catalogue k (now marks) (now unions) (now t)) l n (held l (now s)) (now clauses) (now w) ⌝ }
     requires { ⌜ LongEnough l (length (now clauses)) (length (now w)) × (n .runs < 65535) ⌝ }
+    requires { ⌜ Flagged (catalogue k (now marks) (now unions) (now t)) l (now goals) n (held l (now s)) ⌝ }
     ensures { λ r. ⌜ SettledDid (catalogue k (now (marks .entry)) (now (unions .entry)) (now (t .entry))) (now (settled .entry)) l (commandOf command) n (held l (now (s .entry))) (now (clauses .entry)) (now (w .entry)) r (held l (now (s .exit))) (now (clauses .exit)) (now (w .exit)) ⌝ }
+    ensures { λ r. ⌜ FlaggedAfter (catalogue k (now (marks .entry)) (now (unions .entry)) (now (t .entry))) l (now (goals .exit)) r (held l (now (s .exit))) ⌝ }
 {
     if is_settled(settled, command) {
         return Outcome::Carried(n);
     }
-    sheet::carry_out(marks, unions, t, k, s, clauses, w, l, n, command)
+    sheet::carry_out(marks, unions, t, k, s, clauses, w, l, n, command, goals)
 }
 
 // ---- the records
@@ -139,7 +144,8 @@ pub enum Step {
     Refused(Refusal),
 }
 
-// The command at `at` is read and carried out. `settled` flags conditions of which nothing is to be drawn.
+// The command at `at` is read and carried out. `settled` flags conditions of which nothing is to be drawn, `goals`
+// goals whose candidates are settled.
 fn carry_record(
     job: &[u8],
     at: usize,
@@ -153,13 +159,16 @@ fn carry_record(
     w: &mut [u8],
     l: Limits,
     n: Counters,
+    goals: &mut [u8; 640],
 ) -> Step
     requires { ⌜ (at < length (now job)) × (length (now job) ≤ 65536) ⌝ }
     requires { ⌜ Catalogued k (now marks) (now unions) (now t) ⌝ }
     requires { ⌜ Fits l (length (now s)) ⌝ }
     requires { ⌜ Reaches (catalogue k (now marks) (now unions) (now t)) l n (held l (now s)) (now clauses) (now w) ⌝ }
     requires { ⌜ LongEnough l (length (now clauses)) (length (now w)) × (n .runs < 65535) ⌝ }
+    requires { ⌜ Flagged (catalogue k (now marks) (now unions) (now t)) l (now goals) n (held l (now s)) ⌝ }
     ensures { λ r. ⌜ StepDid (catalogue k (now (marks .entry)) (now (unions .entry)) (now (t .entry))) (now (settled .entry)) l (now (job .entry)) at n (held l (now (s .entry))) (now (clauses .entry)) (now (w .entry)) r (held l (now (s .exit))) (now (clauses .exit)) (now (w .exit)) ⌝ }
+    ensures { λ r. ⌜ FlaggedNext (catalogue k (now (marks .entry)) (now (unions .entry)) (now (t .entry))) l (now (goals .exit)) r (held l (now (s .exit))) ⌝ }
 {
     let next = reader::next_at(job, at);
     match reader::record_at(job, at, true) {
@@ -167,7 +176,20 @@ fn carry_record(
         Record::Item => Step::Refused(Refusal::OutOfPlace),
         Record::Sheet => {
             let command = reader::command_at(job, at, next);
-            match carry_command(settled, marks, unions, t, k, s, clauses, w, l, n, command) {
+            match carry_command(
+                settled,
+                marks,
+                unions,
+                t,
+                k,
+                s,
+                clauses,
+                w,
+                l,
+                n,
+                command,
+                goals,
+            ) {
                 Outcome::Carried(counters) => Step::Next {
                     at: next,
                     counters,
@@ -203,10 +225,25 @@ pub fn carry_sheet(
     ensures { λ r. ⌜ SheetDid (catalogue k (now (marks .entry)) (now (unions .entry)) (now (t .entry))) l (now (job .entry)) from r (held l (now (s .exit))) (now (clauses .exit)) (now (w .exit)) ⌝ }
 {
     let mut settled = [0u8; 256];
+    let mut goals = [0u8; 640];
     let mut at = from;
     let mut m = n;
     while at < job.len() {
-        match carry_record(job, at, &settled, marks, unions, t, k, s, clauses, w, l, m) {
+        match carry_record(
+            job,
+            at,
+            &settled,
+            marks,
+            unions,
+            t,
+            k,
+            s,
+            clauses,
+            w,
+            l,
+            m,
+            &mut goals,
+        ) {
             Step::Next {
                 at: next,
                 counters,

@@ -8,7 +8,7 @@ use native.Mathlib.Numerals.{add-one}
 use lib.ListN.{length}
 use borrow.Author.Tests.{le-ltb}
 use Rattle.rules.specs.Catalogue.{Catalogue}
-use Rattle.rules.specs.Opening.{endRun}
+use Rattle.rules.specs.Opening.{Opening, endRun}
 use Rattle.rules.specs.State.{State, decidedTrue, Run}
 use Rattle.rules.specs.Run.{lineTaken, joinAll, linkAll, begun, runOnce}
 use Rattle.rules.specs.Limits.{above}
@@ -24,6 +24,8 @@ use Rattle.entries.specs.Entries.{drawnIn}
 use Rattle.encoder.specs.declared.Counters.{Counters}
 use Rattle.encoder.specs.Held.{Reading, taskIn, openingOf, stateOf}
 use Rattle.encoder.specs.Did.{limitsOf, beyond}
+use Rattle.naming.specs.Alike.{AlikeIn}
+use Rattle.naming.proofs.Alike.{in-same, joinAll-same}
 use Rattle.serving.specs.Line.{taken, Point}
 use Rattle.beginning.specs.Beginning.{readingOf}
 use Rattle.beginning.proofs.Begin.{only-first}
@@ -66,7 +68,7 @@ module _ {c : Catalogue} {l : Limits} {level : ℕ} {r : Run} {s₀ : State} {v 
         size = size;
         at = firstState c s₀;
         after = rw (first-line c l s₀ v n st cl wt e z) begins;
-        is = taken-is c l v n st cl wt ∙ ap lineTaken e;
+        is = rw (taken-is c l v n st cl wt ∙ ap lineTaken e) in-same;
         truth = truth;
         drawn = drawn;
         entries = entries;
@@ -80,10 +82,10 @@ pub any-reading : (c : Catalogue) (l : Limits) (v v′ : Reading) (n : Counters)
 any-reading c l v v′ n st cl wt = taken-is c l v n st cl wt ∙ (unfold stateOf openingOf in refl ∙ sym (taken-is c l v′ n st cl wt))
 
 module _ {c : Catalogue} {l : Limits} {level : ℕ} {r : Run} {s₀ : State} {v : Reading} {head : ℕ} {n : Counters} {st : ℕ → List ℕ} {cl wt : List ℕ}
-    (p : Point c l level r s₀ v head n st cl wt) (h : head ≡ n .tail) {s : State} (e : s ≡ forget (p .at)) where
-  -- the joining does not look at what is forgotten
+    (p : Point c l level r s₀ v head n st cl wt) (h : head ≡ n .tail) {s : State} (e : AlikeIn c (forget (p .at)) s) where
+  -- the joining does not look at what is forgotten, and is the same for states alike
   pub joined : joinAll c r s ≡ forget (joinAll c r (p .at))
-  joined = ap (joinAll c r) e ∙ joinAll-forgets c r (p .at)
+  joined = joinAll-same c r e ∙ joinAll-forgets c r (p .at)
 
   -- the joining and the new clauses lead to the state after the run
   pub run-ends : linkAll c r (joinAll c r s) ≡ forget (runOnce c level s₀)
@@ -101,9 +103,9 @@ module _ {c : Catalogue} {l : Limits} {level : ℕ} {r : Run} {s₀ : State} {v 
   at-end : (left : ℕ) (u : State) → u .opening ≡ endRun c (s .opening) → beyond l left u ≡ true → above (limitsOf l) u ≡ true
   unfolding beyond endRun
   at-end left u o b =
-      let line : u .opening .line ≡ [] = ap (λ x. x .line) o ∙ (ap (λ (x : State). x .opening .line) e ∙ rules.point-given (p .given) (p .reached) r (p .after) .taken) in
+      let line : u .opening .line ≡ [] = ap (λ x. x .line) o ∙ (ap (λ (x : Opening). x .line) (e .opening .rest) ∙ rules.point-given (p .given) (p .reached) r (p .after) .taken) in
       let several : length (u .opening .several) ≤ 64 =
-      rw (ap (λ x. x .several) o ∙ ap (λ (x : State). x .opening .several) e) (rules.point-fits (p .given) (p .reached) r (p .after) .several) in
+      rw (ap (λ x. x .several) o ∙ ap (λ (x : Opening). x .several) (e .opening .rest)) (rules.point-fits (p .given) (p .reached) r (p .after) .several) in
       only-first (above (limitsOf l) u) _ _ b (le-ltb left (length (u .opening .line)) (rw line zero-le)) (le-ltb 64 (length (u .opening .several)) several)
 
   pub joined-over : (left : ℕ) → beyond l left (joinAll c r s) ≡ true → above (limitsOf l) (runOnce c level s₀) ≡ true

@@ -1,3 +1,4 @@
 pub mod BothEnds
 pub mod Known
 pub mod Ran
+pub mod Flags

@@ -7,6 +7,7 @@ use native.Mathlib.Omega.{arith}
 use lib.ListN.{length}
 use Rattle.rules.specs.Catalogue.{Catalogue}
 use Rattle.rules.specs.Variables.{Origin}
+use Rattle.rules.specs.Opening.{Opening}
 use Rattle.rules.specs.State.{State}
 use Rattle.rules.specs.State as rules
 use Rattle.rules.specs.Run.{joinAll, linkAll}
@@ -25,6 +26,8 @@ use Rattle.encoder.specs.declared.Run.{Run}
 use Rattle.encoder.specs.Held.{Reading, runOf, openingOf, stateOf, LongEnough, Good}
 use Rattle.encoder.specs.Did.{limitsOf, roomOf, ClausesDid}
 use Rattle.encoder.proofs.Steps.{long-same}
+use Rattle.naming.specs.Alike.{AlikeIn}
+use Rattle.naming.proofs.Alike.{in-same}
 use Rattle.tracking.specs.Joining.{CanJoin, CanLink}
 use Rattle.serving.specs.Line.{taken, Point, Begun, LineServed}
 use Rattle.beginning.specs.Beginning.{readingOf}
@@ -42,16 +45,16 @@ long-alone e h = long-most (long-same e h)
 
 -- ---- in the areas
 
--- u is what they hold, but for what is forgotten
+-- u is what they hold, but for what is forgotten, or alike
 module _ (c : Catalogue) (l : Limits) (v : Reading) (n : Counters) (st : ℕ → List ℕ) (cl wt : List ℕ) {vs : List Origin} {u : State} (k : Tracked vs u)
-    (e : stateOf c l v n st cl wt ≡ forget u) where
+    (e : AlikeIn c (forget u) (stateOf c l v n st cl wt)) where
   held-variables : variables (n .variables) st ≡ u .variables
   unfolding stateOf
-  held-variables = ap (λ (s : State). s .variables) e
+  held-variables = ap (λ (s : State). s .variables) (e .rest)
 
   held-tracked : listed (n .tracked) 10 st ≡ u .opening .tracked
   unfolding stateOf openingOf
-  held-tracked = ap (λ (s : State). s .opening .tracked) e
+  held-tracked = ap (λ (o : Opening). o .tracked) (e .opening .rest)
 
   known-here : AllKnown (variables (n .variables) st) (listed (n .tracked) 10 st)
   known-here = record { known = rw (held-variables, held-tracked) (k .known .known-parts) }
@@ -114,8 +117,10 @@ module _ {c : Catalogue} {l : Limits} {r : Run} {n a : Counters} {st st₁ : ℕ
         last-point = y .done (r .level) s (held-count h) (first-point g reached h not-before) not-before f
 
         -- by any reading
-        last-is : (v : Reading) → stateOf c l v b st₂ cl₂ wt₂ ≡ forget (last-point .at)
-        last-is v = rw all-taken at (any-reading c l v (readingOf s) b st₂ cl₂ wt₂ ∙ last-point .is)
+        last-is : (v : Reading) → AlikeIn c (forget (last-point .at)) (stateOf c l v b st₂ cl₂ wt₂)
+        last-is v =
+            let now : AlikeIn c (forget (last-point .at)) (stateOf c l v (taken b) st₂ cl₂ wt₂) = rw (any-reading c l v (readingOf s) b st₂ cl₂ wt₂) (last-point .is) in
+            rw all-taken at now
 
         last-tracked : Tracked (s .variables) (last-point .at)
         last-tracked = point-tracked c (runOf r) (first-tracked reached) (last-point .after)
@@ -154,7 +159,9 @@ module _ {c : Catalogue} {l : Limits} {r : Run} {n a : Counters} {st st₁ : ℕ
               let g = h .given in
               let reached = h .reached in
               let v = readingOf (h .state) in
-              let e = join-is v ∙ joined (last-point g reached (h .holds)) refl (last-is g reached (h .holds) v) in
+              let at = last-point g reached (h .holds) .at in
+              let e : AlikeIn c (forget (joinAll c (runOf r) at)) (stateOf c l v d st₃ cl₃ wt₂) =
+              rw (join-is v ∙ joined (last-point g reached (h .holds)) refl (last-is g reached (h .holds) v)) in-same in
               let t = joined-tracked c (runOf r) (last-tracked g reached (h .holds)) in
               record { going = z; known = known-here c l v d st₃ cl₃ wt₂ t e; apart = apart-here c l v d st₃ cl₃ wt₂ t e }
 

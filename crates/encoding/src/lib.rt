@@ -11,11 +11,12 @@ ghost use Rattle.state.specs.Layout.{held, Fits};
 ghost use Rattle.encoder.specs.Held.{LongEnough};
 ghost use Rattle.goals.specs.Goals.{Catalogued};
 ghost use Rattle.beginning.specs.Beginning.{Reaches};
+ghost use Rattle.serving.specs.Flags.{Flagged};
 ghost use Rattle.encoding.specs.Running.{RunDid};
 
 // ---- a run
 
-// The run carried out, or full.
+// The run carried out, or full. `settled` flags goals whose candidates are settled.
 pub fn run_once(
     marks: &[u8],
     unions: &[u8],
@@ -27,12 +28,15 @@ pub fn run_once(
     l: Limits,
     n: Counters,
     level: u16,
+    settled: &mut [u8; 640],
 ) -> Counters
     requires { ⌜ Catalogued k (now marks) (now unions) (now t) ⌝ }
     requires { ⌜ Fits l (length (now s)) ⌝ }
     requires { ⌜ Reaches (catalogue k (now marks) (now unions) (now t)) l n (held l (now s)) (now clauses) (now w) ⌝ }
     requires { ⌜ LongEnough l (length (now clauses)) (length (now w)) × (n .runs < 65535) ⌝ }
+    requires { ⌜ Flagged (catalogue k (now marks) (now unions) (now t)) l (now settled) n (held l (now s)) ⌝ }
     ensures { λ m. ⌜ RunDid (catalogue k (now (marks .entry)) (now (unions .entry)) (now (t .entry))) l level n (held l (now (s .entry))) (now (clauses .entry)) (now (w .entry)) m (held l (now (s .exit))) (now (clauses .exit)) (now (w .exit)) ⌝ }
+    ensures { λ m. ⌜ Flagged (catalogue k (now (marks .entry)) (now (unions .entry)) (now (t .entry))) l (now (settled .exit)) m (held l (now (s .exit))) ⌝ }
 {
     let r = Run {
         number: n.runs as u16 + 1,
@@ -41,7 +45,7 @@ pub fn run_once(
     };
     let drawn = n.drawn;
     let a = beginning::begin_run(marks, unions, t, k, s, clauses, w, l, n);
-    let b = serving::serve_line(marks, unions, t, k, s, clauses, w, l, a, r, drawn);
+    let b = serving::serve_line(marks, unions, t, k, s, clauses, w, l, a, r, drawn, settled);
     if b.full {
         return b;
     }

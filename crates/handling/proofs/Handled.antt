@@ -36,7 +36,8 @@ use Rattle.encoder.proofs.Widening.{addClause-variables}
 use Rattle.parts.specs.declared.Naming.the-variants.{Candidate}
 use Rattle.parts.specs.Parts.{namingOf}
 use Rattle.owners.specs.Owners.{serving}
-use Rattle.naming.specs.Naming.{nameParts, nameRange, nameDisjuncts}
+use Rattle.naming.specs.Naming.{nameCandidates, nameParts, nameRange, nameDisjuncts}
+use Rattle.naming.proofs.Alike.{tracking-is}
 use Rattle.handling.specs.Handling.{addDirect, addGate, addThroughGate, addFired, addAllFired, addBy, handled}
 
 -- ---- a step on the opening and one on the variables
@@ -79,16 +80,7 @@ fold-lists F f ps os h (x ∷ xs) s =
 
 -- ---- naming for tracking and opening what is ready commute
 
--- the first writes `named`
-tracking-is : (c : Catalogue) (p : ℕ) (o : Opening) → nameForTracking c p o ≡ setNamed (unless (passedOver c p o) (λ ps. snoc ps p) (o .named)) o
-unfolding nameForTracking
-tracking-is c p o = go (passedOver c p o)
-  where
-    go : (b : Bool) → unless b (λ (u : Opening). setNamed (snoc (u .named) p) u) o ≡ setNamed (unless b (λ ps. snoc ps p) (o .named)) o
-    go true = unfold unless in refl
-    go false = unfold unless in refl
-
--- the other `owners` and `line`
+-- the first writes `named` (`tracking-is`), the other `owners` and `line`
 abbrev isOpened : Owner → Opening → Bool
 isOpened w o = any (sameOwner w) (o .owners)
 
@@ -336,8 +328,8 @@ module _ (c : Catalogue) (r : Run) (q : ℕ) where
 
   -- A REQUIREMENT HANDLED IS ITS TASK SERVED
   pub handled-served : (is : List ℕ) (s : State) → s .opening .handled ≡ [] → s .opening .fired ≡ []
-      → handled c r q is s ≡ serving c r (requirement q is) s
-  unfolding handled
+      → handled c r q false is s ≡ serving c r (requirement q is) s
+  unfolding handled nameCandidates
   handled-served is s e f =
       ap (addBy c r q (shapeOf c q) is) (candidates-named c (goalAt c q) (addVariable (chosen (ownerAt c q)) s))
       ∙ (added-by (shapeOf c q) is s (unfired c q is) ∙ sym (served-is is s e f))

@@ -6,4 +6,5 @@ pub mod Owning
 pub mod Adding
 pub mod Steps
 pub mod Settled
+pub mod Alike
 pub mod Serving

@@ -17,15 +17,17 @@ use Rattle.rules.specs.Encoding.{shapeBy, shape, shapeOf, disjunctOrigins}
 use Rattle.rules.specs.State.{State, Run}
 use Rattle.rules.specs.Called.{_∈_}
 use Rattle.rules.proofs.Each.{Each, each-imp, each-in, each-at}
-use Rattle.rules.proofs.Membership.{map-in, concatMap-in}
-use Rattle.rules.proofs.Grows.{Prefix, whole, withVariables-prefix}
-use Rattle.rules.proofs.Places.{keeps-variable, withVariables-known}
+use Rattle.rules.proofs.Membership.{map-in, concatMap-in, concatMap-out, distinct-in}
+use Rattle.rules.proofs.Grows.{Prefix, whole, withVariable-prefix, withVariables-prefix}
+use Rattle.rules.proofs.Places.{keeps-variable, withVariable-known, withVariables-known}
 use Rattle.rules.proofs.Capped.{addVariable, addVariable-grows, addClause-grows}
 use Rattle.rules.proofs.ClauseByClause.{addClause}
 use Rattle.variable_map.specs.Mapping.{AllKnown}
 use Rattle.parts.specs.declared.Naming.the-variants.{Candidate}
 use Rattle.parts.specs.Parts.{namingOf}
-use Rattle.naming.specs.Naming.{nameDisjuncts}
+use Rattle.naming.specs.Naming.{nameCandidates, nameDisjuncts}
+use Rattle.naming.specs.Settled.{AllSettled}
+use Rattle.naming.proofs.Settled.{first-variables}
 use Rattle.condition_literals.specs.Literals.{RangeKnown, DisjunctKnown, FiredKnown, Named}
 use Rattle.handling.specs.Handling.{addGate, addFired, addBy, addUnconditional, addAllFired}
 use Rattle.handling.proofs.Handled.{candidates-named, disjuncts-named}
@@ -37,7 +39,7 @@ pub each-known : (os vs : List Origin) → Each (λ o. known (withVariables os v
 each-known os vs = each-in os (λ o m. withVariables-known os vs o m)
 
 -- the owner and the candidates of requirement q
-pub candidates-known : (c : Catalogue) (q : ℕ) (s : State)
+candidates-known : (c : Catalogue) (q : ℕ) (s : State)
     → Named c q ((fold (λ x. fold (namingOf c Candidate) (sorted c x)) (distinct (goalRanges c (goalAt c q))) (addVariable (chosen (ownerAt c q)) s)) .variables)
 candidates-known c q s = rw (candidates-named c (goalAt c q) (addVariable (chosen (ownerAt c q)) s)) named
   where
@@ -53,6 +55,21 @@ candidates-known c q s = rw (candidates-named c (goalAt c q) (addVariable (chose
 
     named : Named c q (withVariables (map partOrigin (candidates c (goalAt c q))) ((addVariable (chosen (ownerAt c q)) s) .variables))
     named = unfold addVariable withVariables fold in both
+
+-- so they are after either way to name the candidates
+pub handled-known : (c : Catalogue) (q : ℕ) (settled : Bool) (s : State) → (settled ≡ true → AllSettled c (distinct (goalRanges c (goalAt c q))) s)
+    → Named c q ((nameCandidates c settled (distinct (goalRanges c (goalAt c q))) (addVariable (chosen (ownerAt c q)) s)) .variables)
+handled-known c q false s h = unfold nameCandidates in candidates-known c q s
+handled-known c q true s h =
+    let rs = goalRanges c (goalAt c q) in
+    rw (first-variables c (distinct rs) (addVariable (chosen (ownerAt c q)) s))
+    (unfold addVariable candidates in
+    record {
+      owner = withVariable-known (chosen (ownerAt c q)) (s .variables);
+      candidates = each-in (concatMap (sorted c) rs)
+          (λ p m. let x = concatMap-out (sorted c) rs m in
+          keeps-variable (withVariable-prefix (chosen (ownerAt c q)) (s .variables)) (partOrigin p) (h refl .each (x .0) p (distinct-in rs (x .0) (x .1)) (x .2) .known) .0);
+    })
 
 abbrev of-disjunct : Catalogue → ℕ → ℕ → List Origin
 of-disjunct c q i = disjunctOrigins c (disjunctAt c q i)

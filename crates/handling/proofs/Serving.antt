@@ -1,11 +1,13 @@
 -- A requirement's task: its goal's ranges are at hand while it is handled, and what was handled and fired is not kept.
 use mathlib.Core.Path.{_≡_, refl, sym, _∙_}
+use mathlib.Core.Bool.{Bool, true, false}
 use mathlib.Core.List.{List, [], _∷_}
 use Prim.Native.Nat.{ℕ}
 use lib.ListN.{getD}
 use Rattle.rules.specs.Lists.{distinct}
-use Rattle.rules.specs.Catalogue.{Catalogue, noRequirement}
+use Rattle.rules.specs.Catalogue.{Catalogue, noRequirement, ownerAt, goalAt}
 use Rattle.rules.specs.Candidates.{goalRanges}
+use Rattle.rules.specs.Variables.{chosen}
 use Rattle.rules.specs.Opening.{requirement}
 use Rattle.rules.specs.State.{State, Run}
 use Rattle.rules.proofs.Forgotten.{forget, serveTask-forgets}
@@ -20,15 +22,19 @@ use Rattle.marked.specs.Marked.{Marked, Emptied}
 use Rattle.encoder.specs.declared.Counters.{Counters}
 use Rattle.encoder.specs.Held.{Reading, openingOf, stateOf}
 use Rattle.encoder.specs.Did.{Widens, ClausesDid}
-use Rattle.encoder.proofs.Did.{did-as}
 use Rattle.goals.specs.Goals.{Gathers}
 use Rattle.goals.proofs.Released.{did-released}
 use Rattle.owners.specs.Owners.{serving}
 use Rattle.firing.proofs.Required.{goal-is}
+use Rattle.naming.specs.Settled.{AllSettled, Settles}
+use Rattle.naming.specs.Alike.{AlikeIn, ClausesAlike}
+use Rattle.naming.proofs.Alike.{in-same}
 use Rattle.condition_literals.specs.Literals.{AtHand}
 use Rattle.handling.specs.Handling.{handled}
 use Rattle.handling.proofs.Handled.{handled-served}
 use Rattle.handling.proofs.Widening.{handled-widens}
+use Rattle.handling.proofs.Settled.{variable-settled}
+use Rattle.handling.proofs.Alike.{handled-alike}
 
 -- ---- the ranges at hand
 
@@ -40,12 +46,12 @@ gathered k m us t q it e g = record { marked = g .marked; is = rw (goal-is k m u
 -- ---- served
 
 module _ (c : Catalogue) (r : Run) (q : ℕ) (is : List ℕ) where
-  serving-forgot : (s : State) → serving c r (requirement q is) s ≡ handled c r q is (forget s)
+  serving-forgot : (s : State) → serving c r (requirement q is) s ≡ handled c r q false is (forget s)
   unfolding serving
   serving-forgot s = serveTask-forgets c r (requirement q is) s ∙ sym (handled-served c r q is (forget s) refl refl)
 
   pub serving-widens : (s : State) → Widens s (serving c r (requirement q is) s)
-  serving-widens s = rw (serving-forgot s) (from (handled-widens c r q is (forget s)))
+  serving-widens s = rw (serving-forgot s) (from (handled-widens c r q false is (forget s)))
     where
       from : {u : State} → Widens (forget s) u → Widens s u
       from w =
@@ -55,12 +61,26 @@ module _ (c : Catalogue) (r : Run) (q : ℕ) (is : List ℕ) where
             several = w .several;
           }
 
-  held-served : (l : Limits) (v : Reading) (n : Counters) (st : ℕ → List ℕ) (cl wt : List ℕ)
-      → handled c r q is (stateOf c l v n st cl wt) ≡ serving c r (requirement q is) (stateOf c l v n st cl wt)
-  unfolding stateOf openingOf
-  held-served l v n st cl wt = handled-served c r q is (stateOf c l v n st cl wt) refl refl
+  module _ (l : Limits) (v : Reading) (n : Counters) (st : ℕ → List ℕ) (cl wt : List ℕ) where
+    held-served : handled c r q false is (stateOf c l v n st cl wt) ≡ serving c r (requirement q is) (stateOf c l v n st cl wt)
+    unfolding stateOf openingOf
+    held-served = handled-served c r q is (stateOf c l v n st cl wt) refl refl
 
-  module _ {l : Limits} {n n′ : Counters} {st st₁ st₂ st₃ : ℕ → List ℕ} {cl cl′ : List ℕ} (z : Marked 14 15 0 st) (a : Changed (14 ∷ 15 ∷ []) st st₁)
-      (d : ClausesDid c l (λ v. handled c r q is) n st₁ cl n′ st₂ cl′) (b : Emptied 14 15 st₂ st₃) where
-    pub requirement-served : ClausesDid c l (λ v. serving c r (requirement q is)) n st cl n′ st₃ cl′
-    requirement-served = record { is = λ wt. did-as (did-released z a b (λ v. handled c r q is) d .is wt) (λ v. serving-widens) (λ g e v. held-served l v n st cl wt) }
+    held-alike : (settled : Bool) → (settled ≡ true → AllSettled c (distinct (goalRanges c (goalAt c q))) (stateOf c l v n st cl wt))
+        → AlikeIn c (serving c r (requirement q is) (stateOf c l v n st cl wt)) (handled c r q settled is (stateOf c l v n st cl wt))
+    held-alike false h = rw held-served in-same
+    held-alike true h = rw (← held-served) (handled-alike c r q is (stateOf c l v n st cl wt) (variable-settled (chosen (ownerAt c q)) (stateOf c l v n st cl wt) (h refl)))
+
+  module _ (settled : Bool) {l : Limits} {n n′ : Counters} {st st₁ st₂ st₃ : ℕ → List ℕ} {cl cl′ : List ℕ} (z : Marked 14 15 0 st) (a : Changed (14 ∷ 15 ∷ []) st st₁)
+      (d : ClausesDid c l (λ v. handled c r q settled is) n st₁ cl n′ st₂ cl′) (b : Emptied 14 15 st₂ st₃) where
+    pub requirement-served : (settled ≡ true → Settles c l (distinct (goalRanges c (goalAt c q))) n st)
+        → ClausesAlike c l (λ v. serving c r (requirement q is)) n st cl n′ st₃ cl′
+    requirement-served h =
+        record {
+          is = λ wt.
+              record {
+                step = λ v. handled c r q settled is;
+                did = did-released z a b (λ v. handled c r q settled is) d .is wt;
+                like = λ f v. held-alike l v n st cl wt settled (λ e. h e .held f v cl wt);
+              };
+        }

@@ -1,6 +1,6 @@
 -- A requirement's steps one after another: what they keep, the fired disjuncts one by one, and all by its shape.
 use mathlib.Core.Path.{_≡_, refl, sym, _∙_, ap}
-use mathlib.Core.Bool.{true, false}
+use mathlib.Core.Bool.{Bool, true, false}
 use mathlib.Core.List.{List, []}
 use Prim.Native.Nat.{ℕ, _+_, _<_, _≤_}
 use native.Mathlib.Omega.{arith}
@@ -8,7 +8,7 @@ use lib.ListN.{length, getD, take, drop, take-append-drop}
 use lib.Seq.{take-all, length-take-le, getD-take}
 use Rattle.rules.specs.Lists.{fold, distinct}
 use Rattle.rules.specs.Catalogue.{Catalogue, ownerAt, goalAt}
-use Rattle.rules.specs.Candidates.{sorted, goalRanges}
+use Rattle.rules.specs.Candidates.{goalRanges}
 use Rattle.rules.specs.Conditions.{disjunctAt, unconditional}
 use Rattle.rules.specs.Variables.{Origin, chosen, known, partOrigin}
 use Rattle.rules.specs.Encoding.{Shape, direct, throughGate, shapeOf}
@@ -25,16 +25,15 @@ use Rattle.encoder.specs.declared.Counters.{Counters}
 use Rattle.encoder.specs.Held.{Reading, stateOf, Good}
 use Rattle.encoder.specs.Did.{StateDid, ClausesDid, PlainDid}
 use Rattle.encoder.proofs.Did.{widens-fold, did-as, did-stop}
-use Rattle.encoder.proofs.Steps.{clauses-same, clauses-none, state-then, clauses-then, state-then-clauses, state-clauses, good-later, variables-after, still-known}
-use Rattle.parts.specs.declared.Naming.the-variants.{Candidate}
-use Rattle.parts.specs.Parts.{namingOf}
+use Rattle.encoder.proofs.Steps.{clauses-same, clauses-none, state-then, clauses-then, state-then-clauses, state-clauses, good-later, not-full, variables-after, still-known}
 use Rattle.firing.specs.declared.Indices.{Indices}
 use Rattle.firing.specs.Firing.{indicesIn}
-use Rattle.naming.specs.Naming.{nameDisjuncts, GivenIndices}
+use Rattle.naming.specs.Naming.{nameCandidates, nameDisjuncts, GivenIndices}
+use Rattle.naming.specs.Settled.{Settles}
 use Rattle.naming.proofs.Loops.{one-more}
 use Rattle.condition_literals.specs.Literals.{AtHand, DisjunctKnown, FiredKnown, Named}
 use Rattle.handling.specs.Handling.{addDirect, addThroughGate, addFired, addAllFired, addBy, addUnconditional, handled}
-use Rattle.handling.proofs.Named.{candidates-known, fired-known, added-unconditional, added-conditional}
+use Rattle.handling.proofs.Named.{handled-known, fired-known, added-unconditional, added-conditional}
 use Rattle.handling.proofs.Widening.{fired-widens, all-fired-widen, added-widens, handled-widens}
 
 -- ---- what a step keeps
@@ -176,33 +175,36 @@ module _ (c : Catalogue) (r : Run) (q : ℕ) {l : Limits} {n n₁ : Counters} {s
 
 -- ---- the owner and the candidates, then the clauses
 
-module _ {c : Catalogue} {l : Limits} {q ranges : ℕ} (w : code.Origin) {n n₁ n₂ : Counters} {st st₁ st₂ : ℕ → List ℕ}
+module _ {c : Catalogue} {l : Limits} {q ranges : ℕ} (settled : Bool) (w : code.Origin) {n n₁ n₂ : Counters} {st st₁ st₂ : ℕ → List ℕ}
     (i : originOf w ≡ chosen (ownerAt c q)) (d : PlainDid l (λ c v. addVariable (originOf w)) n st n₁ st₁) (h : AtHand c q ranges st₁)
-    (k : StateDid c l (λ v. fold (λ x. fold (namingOf c Candidate) (sorted c x)) (listed ranges 14 st₁)) n₁ st₁ n₂ st₂) where
-  named : StateDid c l (λ v s. fold (λ x. fold (namingOf c Candidate) (sorted c x)) (distinct (goalRanges c (goalAt c q))) (addVariable (chosen (ownerAt c q)) s)) n st n₂ st₂
+    (k : StateDid c l (λ v. nameCandidates c settled (listed ranges 14 st₁)) n₁ st₁ n₂ st₂) where
+  named : StateDid c l (λ v s. nameCandidates c settled (distinct (goalRanges c (goalAt c q))) (addVariable (chosen (ownerAt c q)) s)) n st n₂ st₂
   named = rw (i, h .is) at (state-then (d .is c) k)
 
   pub handle-good : {cl : List ℕ} → Good c l n st cl [] → Good c l n₂ st₂ cl []
   handle-good {cl} g = named .is cl [] .good g
 
-  pub handle-named : {cl : List ℕ} → Good c l n st cl [] → n₂ .full ≡ false → Named c q (variables (n₂ .variables) st₂)
-  handle-named {cl} g e = rw (variables-after (named .is cl []) g e anything) (candidates-known c q (stateOf c l anything n st cl []))
+  pub handle-named : {cl : List ℕ} → Good c l n st cl [] → (settled ≡ true → Settles c l (distinct (goalRanges c (goalAt c q))) n st) → n₂ .full ≡ false
+      → Named c q (variables (n₂ .variables) st₂)
+  handle-named {cl} g f e =
+      rw (variables-after (named .is cl []) g e anything)
+      (handled-known c q settled (stateOf c l anything n st cl []) (λ z. f z .held (not-full (named .is cl []) g e) anything cl []))
 
   pub handle-hand : {cl : List ℕ} → Good c l n st cl [] → AtHand c q ranges st → AtHand c q ranges st₂
   handle-hand g a = hand-after named g a
 
   module _ (r : Run) (is : List ℕ) {cl : List ℕ} where
-    pub handled-full : n₂ .full ≡ true → ClausesDid c l (λ v. handled c r q is) n st cl n₂ st₂ cl
+    pub handled-full : n₂ .full ≡ true → ClausesDid c l (λ v. handled c r q settled is) n st cl n₂ st₂ cl
     handled-full f =
         record {
           is = λ wt. did-as (did-stop {G = λ v. addBy c r q (shapeOf c q) is} (named .is cl wt) f (λ v s. added-widens c r q (shapeOf c q) is s))
-              (λ v s. handled-widens c r q is s) (λ _ _ v. unfold handled in refl);
+              (λ v s. handled-widens c r q settled is s) (λ _ _ v. unfold handled in refl);
         }
 
     pub handled-unconditional : {n₃ : Counters} {st₃ : ℕ → List ℕ} {cl₃ : List ℕ} → unconditional c q ≡ true
-        → ClausesDid c l (λ v. addUnconditional c r q) n₂ st₂ cl n₃ st₃ cl₃ → ClausesDid c l (λ v. handled c r q is) n st cl n₃ st₃ cl₃
+        → ClausesDid c l (λ v. addUnconditional c r q) n₂ st₂ cl n₃ st₃ cl₃ → ClausesDid c l (λ v. handled c r q settled is) n st cl n₃ st₃ cl₃
     handled-unconditional u a = clauses-same (state-then-clauses named a) (λ v s. unfold handled in sym (added-unconditional c r q is _ u))
 
     pub handled-conditional : {n₃ : Counters} {st₃ : ℕ → List ℕ} {cl₃ : List ℕ} → unconditional c q ≡ false
-        → ClausesDid c l (λ v u. addAllFired c r q is (nameDisjuncts c q is u)) n₂ st₂ cl n₃ st₃ cl₃ → ClausesDid c l (λ v. handled c r q is) n st cl n₃ st₃ cl₃
+        → ClausesDid c l (λ v u. addAllFired c r q is (nameDisjuncts c q is u)) n₂ st₂ cl n₃ st₃ cl₃ → ClausesDid c l (λ v. handled c r q settled is) n st cl n₃ st₃ cl₃
     handled-conditional u a = clauses-same (state-then-clauses named a) (λ v s. unfold handled in sym (added-conditional c r q is _ u))

@@ -13,7 +13,7 @@ use Rattle.encoder.specs.Did.{Widens}
 use Rattle.encoder.proofs.Did.{widens-then, widens-fold}
 use Rattle.encoder.proofs.Widening.{widens-when, addVariable-widens, addClause-widens}
 use Rattle.naming.specs.Naming.{nameDisjuncts}
-use Rattle.naming.proofs.Widening.{candidates-widen, disjuncts-widen}
+use Rattle.naming.proofs.Widening.{named-widens, disjuncts-widen}
 use Rattle.handling.specs.Handling.{addDirect, addGate, addThroughGate, addFired, addAllFired, addBy, addUnconditional, handled}
 
 module _ (c : Catalogue) (r : Run) (q : ℕ) where
@@ -48,8 +48,8 @@ module _ (c : Catalogue) (r : Run) (q : ℕ) where
   unconditional-widens s = added-widens (shapeOf c q) [] s
 
   -- the whole
-  pub handled-widens : (is : List ℕ) (s : State) → Widens s (handled c r q is s)
+  pub handled-widens : (settled : Bool) (is : List ℕ) (s : State) → Widens s (handled c r q settled is s)
   unfolding handled
-  handled-widens is s =
+  handled-widens settled is s =
       widens-then (addVariable-widens (chosen (ownerAt c q)) s)
-      (widens-then (candidates-widen c (distinct (goalRanges c (goalAt c q))) (addVariable (chosen (ownerAt c q)) s)) (added-widens (shapeOf c q) is _))
+      (widens-then (named-widens c settled (distinct (goalRanges c (goalAt c q))) (addVariable (chosen (ownerAt c q)) s)) (added-widens (shapeOf c q) is _))

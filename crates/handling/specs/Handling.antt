@@ -5,16 +5,14 @@ use Prim.Native.Nat.{ℕ}
 use Rattle.rules.specs.Lists.{fold, when, distinct}
 use Rattle.rules.specs.Clause.{requires, gated, anyGate}
 use Rattle.rules.specs.Catalogue.{Catalogue, ownerAt, goalAt}
-use Rattle.rules.specs.Candidates.{sorted, goalRanges, candidates}
+use Rattle.rules.specs.Candidates.{goalRanges, candidates}
 use Rattle.rules.specs.Conditions.{disjunctAt}
 use Rattle.rules.specs.Variables.{chosen, gate, known, variableOf, partVariable}
 use Rattle.rules.specs.Encoding.{Shape, direct, throughGate, onFiring, shapeOf, disjunctLiterals}
 use Rattle.rules.specs.State.{State, Run}
 use Rattle.rules.proofs.Capped.{addVariable}
 use Rattle.rules.proofs.ClauseByClause.{addClause}
-use Rattle.parts.specs.declared.Naming.the-variants.{Candidate}
-use Rattle.parts.specs.Parts.{namingOf}
-use Rattle.naming.specs.Naming.{nameDisjuncts}
+use Rattle.naming.specs.Naming.{nameCandidates, nameDisjuncts}
 
 module _ (c : Catalogue) (r : Run) (q : ℕ) where
   abbrev pub candidatesOf : State → List ℕ
@@ -50,8 +48,6 @@ module _ (c : Catalogue) (r : Run) (q : ℕ) where
   unfoldable pub addUnconditional : State → State
   addUnconditional s = addBy (shapeOf c q) [] s
 
-  -- the owner's variable, the candidates, then the clauses
-  unfoldable pub handled : List ℕ → State → State
-  handled is s =
-      addBy (shapeOf c q) is
-      (fold (λ x. fold (namingOf c Candidate) (sorted c x)) (distinct (goalRanges c (goalAt c q))) (addVariable (chosen (ownerAt c q)) s))
+  -- the owner's variable, the candidates, which may be settled, then the clauses
+  unfoldable pub handled : (settled : Bool) → List ℕ → State → State
+  handled settled is s = addBy (shapeOf c q) is (nameCandidates c settled (distinct (goalRanges c (goalAt c q))) (addVariable (chosen (ownerAt c q)) s))

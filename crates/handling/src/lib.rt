@@ -30,6 +30,7 @@ ghost use Rattle.owners.specs.Owners.{serving};
 ghost use Rattle.firing.specs.Firing.{indicesIn};
 ghost use Rattle.naming.specs.Naming.{nameDisjuncts, GivenIndices};
 ghost use Rattle.naming.specs.Settled.{Settles};
+ghost use Rattle.naming.specs.Alike.{ClausesAlike};
 ghost use Rattle.condition_literals.specs.Literals.{AtHand, ownerOrigin, Named, Found, FiredKnown, DisjunctKnown};
 ghost use Rattle.handling.specs.Handling.{addDirect, addGate, addThroughGate, addFired, addAllFired, addUnconditional, handled};
 
@@ -332,7 +333,7 @@ fn handle_unconditional(
     add_through_gate(marks, unions, t, k, s, clauses, l, n, r, q, ranges)
 }
 
-// Its goal's ranges being at hand. Candidates that are known to be settled are not named again.
+// Its goal's ranges being at hand. Of candidates that are known to be settled the first of each range is named.
 fn handle(
     marks: &[u8],
     unions: &[u8],
@@ -356,7 +357,7 @@ fn handle(
     requires { ⌜ AtHand (catalogue k (now marks) (now unions) (now t)) q ranges (held l (now s)) ⌝ }
     requires { ⌜ GivenIndices (catalogue k (now marks) (now unions) (now t)) q is ⌝ }
     requires { ⌜ (settled ≡ true → Settles (catalogue k (now marks) (now unions) (now t)) l (distinct (goalRanges (catalogue k (now marks) (now unions) (now t)) (goalAt (catalogue k (now marks) (now unions) (now t)) q))) n (held l (now s))) ⌝ }
-    ensures { λ m. ⌜ ClausesDid (catalogue k (now (marks .entry)) (now (unions .entry)) (now (t .entry))) l (λ v. handled (catalogue k (now (marks .entry)) (now (unions .entry)) (now (t .entry))) (runOf r) q (indicesIn is)) n (held l (now (s .entry))) (now (clauses .entry)) m (held l (now (s .exit))) (now (clauses .exit)) ⌝ }
+    ensures { λ m. ⌜ ClausesDid (catalogue k (now (marks .entry)) (now (unions .entry)) (now (t .entry))) l (λ v. handled (catalogue k (now (marks .entry)) (now (unions .entry)) (now (t .entry))) (runOf r) q settled (indicesIn is)) n (held l (now (s .entry))) (now (clauses .entry)) m (held l (now (s .exit))) (now (clauses .exit)) ⌝ }
 {
     let it = tables::requirement_at(t, k, q);
     let a = opening::name_variable(
@@ -398,7 +399,7 @@ pub fn serve_requirement(
     requires { ⌜ Marked 14 15 0 (held l (now s)) ⌝ }
     requires { ⌜ GivenIndices (catalogue k (now marks) (now unions) (now t)) q is ⌝ }
     requires { ⌜ (settled ≡ true → Settles (catalogue k (now marks) (now unions) (now t)) l (distinct (goalRanges (catalogue k (now marks) (now unions) (now t)) (goalAt (catalogue k (now marks) (now unions) (now t)) q))) n (held l (now s))) ⌝ }
-    ensures { λ m. ⌜ ClausesDid (catalogue k (now (marks .entry)) (now (unions .entry)) (now (t .entry))) l (λ v. serving (catalogue k (now (marks .entry)) (now (unions .entry)) (now (t .entry))) (runOf r) (requirement q (indicesIn is))) n (held l (now (s .entry))) (now (clauses .entry)) m (held l (now (s .exit))) (now (clauses .exit)) ⌝ }
+    ensures { λ m. ⌜ ClausesAlike (catalogue k (now (marks .entry)) (now (unions .entry)) (now (t .entry))) l (λ v. serving (catalogue k (now (marks .entry)) (now (unions .entry)) (now (t .entry))) (runOf r) (requirement q (indicesIn is))) n (held l (now (s .entry))) (now (clauses .entry)) m (held l (now (s .exit))) (now (clauses .exit)) ⌝ }
 {
     let it = tables::requirement_at(t, k, q);
     let goal = it.requirement;

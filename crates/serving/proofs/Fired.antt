@@ -22,8 +22,6 @@ use Rattle.entries.specs.declared.Entry.{Entry}
 use Rattle.entries.specs.Entries.{noEntry, entryOf}
 use Rattle.encoder.specs.declared.Counters.{Counters}
 use Rattle.encoder.specs.Held.{firedNow, drawnTask}
-use Rattle.encoder.specs.Did.{ClausesDid}
-use Rattle.encoder.proofs.Did.{did-as}
 use Rattle.goals.specs.Goals.{trueOf}
 use Rattle.owners.specs.Owners.{serving}
 use Rattle.owners.proofs.Records.{none-fired}
@@ -32,7 +30,8 @@ use Rattle.firing.specs.Firing.{judging, indicesIn, Lists}
 use Rattle.firing.proofs.Carried.{lists-one}
 use Rattle.firing.proofs.Callers.{truth-held, fired-given, fired-listed}
 use Rattle.naming.specs.Naming.{GivenIndices}
-use Rattle.handling.proofs.Serving.{serving-widens}
+use Rattle.naming.specs.Alike.{ClausesAlike}
+use Rattle.naming.proofs.AlikeDid.{alike-as}
 use Rattle.serving.specs.Serving.{servedFired, servedDrawn, TaskGiven}
 
 -- each that is listed is one of a disjunct
@@ -54,22 +53,20 @@ module _ (c : Catalogue) (f : ℕ → Bool) (q : ℕ) {is : Indices} where
 
 module _ {c : Catalogue} {l : Limits} (r : Run) {n n′ : Counters} {st st′ : ℕ → List ℕ} {cl cl′ : List ℕ} {is : Indices} where
   pub fired-served : (q : ℕ) → Lists is (firedNow c (trueOf (variables (n .variables) st) (decisions (n .decisions) st)) q)
-      → ClausesDid c l (λ v. serving c r (requirement q (indicesIn is))) n st cl n′ st′ cl′ → ClausesDid c l (λ v. servedFired c r q) n st cl n′ st′ cl′
+      → ClausesAlike c l (λ v. serving c r (requirement q (indicesIn is))) n st cl n′ st′ cl′ → ClausesAlike c l (λ v. servedFired c r q) n st cl n′ st′ cl′
   unfolding servedFired
   fired-served q x d =
-      record {
-        is = λ wt. did-as (d .is wt) (λ v s. serving-widens c r q _ s) (λ g f v. rw (truth-held c l v n st cl wt, x .is));
-      }
+      record { is = λ wt. alike-as (d .is wt) (λ v. rw (truth-held c l v n st cl wt, x .is)) }
 
   -- ---- a drawn one
 
   pub drawn-served : (ds : List (ℕ × ℕ)) (e : ℕ) (it : Entry) {js : Indices} → entryOf it ≡ getD ds e noEntry → Lists js [] → Lists is (indicesIn js ++ (it .disjunct ∷ []))
-      → ClausesDid c l (λ v. serving c r (requirement (it .requirement) (indicesIn is))) n st cl n′ st′ cl′
-      → ClausesDid c l (λ v. servedDrawn c r ds e) n st cl n′ st′ cl′
+      → ClausesAlike c l (λ v. serving c r (requirement (it .requirement) (indicesIn is))) n st cl n′ st′ cl′
+      → ClausesAlike c l (λ v. servedDrawn c r ds e) n st cl n′ st′ cl′
   unfolding servedDrawn
   drawn-served ds e it w z x d =
       let same : requirement (it .requirement) (indicesIn is) ≡ drawnTask (entryOf it) = unfold drawnTask entryOf in rw (lists-one (it .disjunct) z x .is) in
-      subst (λ (t : Task). ClausesDid c l (λ v. serving c r t) n st cl n′ st′ cl′) (same ∙ ap drawnTask w) d
+      subst (λ (t : Task). ClausesAlike c l (λ v. serving c r t) n st cl n′ st′ cl′) (same ∙ ap drawnTask w) d
 
 module _ {c : Catalogue} {ds : List (ℕ × ℕ)} {e : ℕ} (it : Entry) (g : TaskGiven c ds (Drawn e)) (w : entryOf it ≡ getD ds e noEntry) where
   drawn-entry : rules.Entry c (entryOf it)

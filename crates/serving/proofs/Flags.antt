@@ -8,7 +8,7 @@ use lib.Dec.{eqb, ltb}
 use lib.ListN.{getD, set, replicate}
 use lib.Seq.{getD-set-other}
 use borrow.Author.Tests.{eqb-true, eqb-false, eq-eqb, lt-ltb, le-ltb}
-use Rattle.rules.specs.Lists.{distinct, fold}
+use Rattle.rules.specs.Lists.{elem, distinct, fold}
 use Rattle.rules.specs.Catalogue.{Goal, range, union, Catalogue, noRequirement, goalAt}
 use Rattle.rules.specs.Candidates.{sorted, goalRanges, candidates}
 use Rattle.rules.specs.Variables.{partOrigin}
@@ -17,7 +17,7 @@ use Rattle.rules.specs.Encoding.{origins, taskOrigins, served}
 use Rattle.rules.specs.State.{State, setOpening, Run}
 use Rattle.rules.specs.Run.{serveTask}
 use Rattle.rules.specs.Called.{_∈_}
-use Rattle.rules.proofs.Bools.{by-cases}
+use Rattle.rules.proofs.Bools.{by-cases, or-right}
 use Rattle.rules.proofs.Membership.{in-left, map-in, concatMap-in, fold-gives}
 use Rattle.rules.proofs.Effects.{emit-leaves}
 use Rattle.rules.proofs.Grows.{either}
@@ -35,12 +35,14 @@ use Rattle.line.specs.declared.Task.{Task}
 use Rattle.line.specs.Tasks.{taskOf}
 use Rattle.encoder.specs.declared.Counters.{Counters}
 use Rattle.encoder.specs.Held.{Reading, openingOf, stateOf, Good}
-use Rattle.encoder.specs.Did.{Did, ClausesDid}
+use Rattle.encoder.specs.Did.{Did}
 use Rattle.goals.specs.Goals.{Catalogued}
 use Rattle.owners.specs.Owners.{serving}
 use Rattle.firing.proofs.Required.{goal-is, goal-given}
 use Rattle.naming.specs.Settled.{Settled, AllSettled, Settles}
-use Rattle.naming.proofs.Settled.{any-stands, Stands, settles-done, settles-stand}
+use Rattle.naming.specs.Alike.{AlikeDid, ClausesAlike}
+use Rattle.naming.proofs.Settled.{any-stands, Stands}
+use Rattle.naming.proofs.AlikeDid.{did-alike, settles-done, settles-stand}
 use Rattle.serving.specs.Flags.{goalFrom, Flagged}
 use Rattle.serving.specs.Serving.{servedAs}
 use Rattle.serving.specs.Line.{from}
@@ -73,7 +75,7 @@ module _ (c : Catalogue) (q : ℕ) (is : List ℕ) (p : ℕ) (m : p ∈ candidat
       let k = emit-leaves c r (served (requirement q is)) (setOpening o s) in
       record {
         known = rw (k .variables) (unfold origins taskOrigins in withVariables-known _ (s .variables) (partOrigin p) (List·Memᴰ·tail (in-left _ (map-in partOrigin m))));
-        tracked = rw (k .opening) (tracked-after (s .opening));
+        noted = rw (k .opening) (or-right (elem p ((serveRequirement c q is (s .opening)) .tracked)) _ (tracked-after (s .opening)));
         opened = rw (k .opening) (opened-after (s .opening));
       }
 
@@ -104,24 +106,24 @@ flagged-set {flags = flags} i h f =
 
 -- none is lost where nothing is unsettled
 module _ {c : Catalogue} {l : Limits} {flags : List ℕ} {n n′ : Counters} {st st′ : ℕ → List ℕ} where
-  flagged-stand : {F : Reading → State → State} {cl wt cl′ wt′ : List ℕ} → Did c l F n st cl wt n′ st′ cl′ wt′ → Good c l n st cl wt
+  pub flagged-stand : {F : Reading → State → State} {cl wt cl′ wt′ : List ℕ} → AlikeDid c l F n st cl wt n′ st′ cl′ wt′ → Good c l n st cl wt
       → ((v : Reading) (s : State) → Stands (s .opening) ((F v s) .opening)) → Flagged c l flags n st → Flagged c l flags n′ st′
   flagged-stand d g k f = record { settles = λ i h. settles-stand d g k (f .settles i h) }
 
   -- a task is served
   flagged-served : (r : Run) (ds : List (ℕ × ℕ)) (t : Task) {cl wt cl′ wt′ : List ℕ} → Did c l (λ v. servedAs c r ds v t) n st cl wt n′ st′ cl′ wt′
       → Good c l n st cl wt → Flagged c l flags n st → Flagged c l flags n′ st′
-  flagged-served r ds t d g f = flagged-stand d g (λ v. served-stands c r ds v t) f
+  flagged-served r ds t d g f = flagged-stand (did-alike d) g (λ v. served-stands c r ds v t) f
 
   -- the same of a task by its kind
   pub kind-served : (r : Run) (ds : List (ℕ × ℕ)) {cl wt cl′ wt′ : List ℕ} {t k : Task} (x : ℕ) → t ≡ taskOf x → t ≡ k
       → Did c l (λ v. servedAs c r ds v k) n st cl wt n′ st′ cl′ wt′ → Good c l n st cl wt → Flagged c l flags n st
-      → Did c l (λ v. servedAs c r ds v (taskOf x)) n st cl wt n′ st′ cl′ wt′ × Flagged c l flags n′ st′
-  kind-served r ds {k = k} x e i d g f = (as-kind r ds x e i d, flagged-served r ds k d g f)
+      → AlikeDid c l (λ v. servedAs c r ds v (taskOf x)) n st cl wt n′ st′ cl′ wt′ × Flagged c l flags n′ st′
+  kind-served r ds {k = k} x e i d g f = (as-kind r ds x e i (did-alike d), flagged-served r ds k d g f)
 
   -- a requirement is, and its goal flagged
   pub flagged-more : (r : Run) (q : ℕ) (is : List ℕ) (i : ℕ) {cl cl′ : List ℕ} → goalFrom i ≡ goalAt c q
-      → ClausesDid c l (λ v. serving c r (requirement q is)) n st cl n′ st′ cl′ → Good c l n st cl [] → Flagged c l flags n st → Flagged c l (set flags i 1) n′ st′
+      → ClausesAlike c l (λ v. serving c r (requirement q is)) n st cl n′ st′ cl′ → Good c l n st cl [] → Flagged c l flags n st → Flagged c l (set flags i 1) n′ st′
   flagged-more r q is i e d g f =
       flagged-set i (rw e (settles-done (d .is []) g (λ v. requirement-settles c r q is))) (flagged-stand (d .is []) g (λ v. serving-stands c r (requirement q is)) f)
 
@@ -139,7 +141,7 @@ flagged-from first f = record { settles = λ i h. from-settles (f .settles i h) 
         unfold from stateOf openingOf in
         record {
           held = λ e v cl wt. let x = h .held e v cl wt in
-              record { each = λ r p a b. let y = x .each r p a b in record { known = y .known; tracked = y .tracked; opened = y .opened } };
+              record { each = λ r p a b. let y = x .each r p a b in record { known = y .known; noted = y .noted; opened = y .opened } };
         }
 
 -- ---- places

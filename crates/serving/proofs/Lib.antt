@@ -4,6 +4,7 @@ pub mod Served
 pub mod Points
 pub mod Point
 pub mod Behind
+pub mod Alike
 pub mod Passing
 pub mod Line
 pub mod Stands

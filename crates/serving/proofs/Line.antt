@@ -88,11 +88,11 @@ module _ {c : Catalogue} {l : Limits} {r : Run} {drawn : ℕ} {n₀ : Counters} 
         same-waiting = s ∙ x .same-waiting;
         fits = fits;
         long = rw (q, s) (x .long);
-        good = k .did .good g;
-        hand = k .did .beside g .marked 0 (x .hand);
-        first = k .did .first;
-        none = k .did .fewer ∙ x .none;
-        stays = λ e. k .did .stays (x .stays e);
+        good = k .did .did .good g;
+        hand = k .did .did .beside g .marked 0 (x .hand);
+        first = k .did .did .first;
+        none = k .did .did .fewer ∙ x .none;
+        stays = λ e. k .did .did .stays (x .stays e);
         done = λ level s₀ e y f₀ f′. pass-step (x .done level s₀ e y f₀ f) e (x .good) f h k f′ (length-line l b′ fits);
         over = λ level s₀ e y f₀ f′. pass-over (x .done level s₀ e y f₀ f) e (x .good) f h k f′;
       }

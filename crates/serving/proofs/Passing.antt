@@ -26,8 +26,11 @@ use Rattle.line.proofs.Line.{queued-none}
 use Rattle.entries.specs.Entries.{drawnIn}
 use Rattle.encoder.specs.declared.Counters.{Counters}
 use Rattle.encoder.specs.Held.{Reading, taskIn, openingOf, stateOf, Good}
-use Rattle.encoder.specs.Did.{limitsOf, roomOf, beyond, Did}
+use Rattle.encoder.specs.Did.{limitsOf, roomOf, beyond}
 use Rattle.encoder.proofs.Frames.{good-kept}
+use Rattle.encoder.proofs.Steps.{nothing-kept}
+use Rattle.naming.specs.Alike.{AlikeIn, AlikeDid}
+use Rattle.naming.proofs.Alike.{in-then, served-alike, beyond-same}
 use Rattle.owners.specs.Owners.{serving}
 use Rattle.serving.specs.Serving.{servedAs}
 use Rattle.serving.specs.Line.{from, taken, Point, Serves}
@@ -35,6 +38,7 @@ use Rattle.serving.proofs.Served.{served-is}
 use Rattle.beginning.proofs.Begin.{only-first}
 use Rattle.serving.proofs.Points.{truth-at, step-room}
 use Rattle.serving.proofs.Behind.{behindAll, serveTask-behind}
+use Rattle.serving.proofs.Alike.{forget-alike, taken-alike, behind-alike, truth-same, line-same}
 use Rattle.serving.proofs.Point.{taken-is, serves-one, now-first}
 
 pub good-from : {c : Catalogue} {l : Limits} {head : ℕ} {n : Counters} {st : ℕ → List ℕ} {cl wt : List ℕ} → head < n .tail → Good c l n st cl wt
@@ -47,7 +51,7 @@ good-from {head = head} {n = n} {st = st} h g =
 -- served by its number
 pub served-next : {c : Catalogue} {l : Limits} (r : Run) {drawn : ℕ} (head x : ℕ) {n : Counters} {st : ℕ → List ℕ} {cl wt : List ℕ}
     {n′ : Counters} {st′ : ℕ → List ℕ} {cl′ wt′ : List ℕ} → x ≡ lineAt head st
-    → Did c l (λ v. servedAs c r (drawnIn l drawn wt) v (taskOf x)) (from (head + 1) n) st cl wt n′ st′ cl′ wt′ → Serves c l r drawn head n st cl wt n′ st′ cl′ wt′
+    → AlikeDid c l (λ v. servedAs c r (drawnIn l drawn wt) v (taskOf x)) (from (head + 1) n) st cl wt n′ st′ cl′ wt′ → Serves c l r drawn head n st cl wt n′ st′ cl′ wt′
 served-next r head x e d = record { did = rw (← e) d }
 
 from-is : (c : Catalogue) (l : Limits) (v : Reading) (head : ℕ) (n : Counters) (st : ℕ → List ℕ) (cl wt : List ℕ)
@@ -64,11 +68,11 @@ module _ {c : Catalogue} {l : Limits} {level : ℕ} {s₀ : State} {v : Reading}
   abbrev served : State
   served = serveTask c (runFrom level s₀) (taskIn c v (lineAt head st)) (p .at)
 
-  before-is : stateOf c l v (from (head + 1) n) st cl wt ≡ behindAll rest (forget (p .at))
-  before-is = from-is c l v head n st cl wt ∙ ap (behindAll rest) (p .is)
+  before-alike : AlikeIn c (behindAll rest (forget (p .at))) (stateOf c l v (from (head + 1) n) st cl wt)
+  before-alike = rw (from-is c l v head n st cl wt) (behind-alike rest (p .is))
 
   truth-before : v .truth ≡ decidedTrue (stateOf c l v (from (head + 1) n) st cl wt)
-  truth-before = p .truth ∙ (sym (truth-at l (p .given) (p .reached) level (p .after)) ∙ (unfold decidedTrue in refl ∙ ap decidedTrue (sym before-is)))
+  truth-before = p .truth ∙ (sym (truth-at l (p .given) (p .reached) level (p .after)) ∙ (unfold decidedTrue in refl ∙ sym (truth-same before-alike)))
 
   module _ {drawn : ℕ} {n′ : Counters} {st′ : ℕ → List ℕ} {cl′ wt′ : List ℕ} (e : drawn ≡ length (v .drawn)) (f : n .full ≡ false)
       (k : Serves c l (runFrom level s₀) drawn head n st cl wt n′ st′ cl′ wt′) where
@@ -79,24 +83,27 @@ module _ {c : Catalogue} {l : Limits} {level : ℕ} {s₀ : State} {v : Reading}
     unfolding from
     not-full = f
 
-    served-behind : servedAs c (runFrom level s₀) (drawnIn l drawn wt) v (taskOf (lineAt head st)) (stateOf c l v (from (head + 1) n) st cl wt)
-        ≡ behindAll rest (forget served)
+    served-behind : AlikeIn c (behindAll rest (forget served)) (k .did .step v (stateOf c l v (from (head + 1) n) st cl wt))
     served-behind =
         let run = runFrom level s₀ in
         let x = lineAt head st in
         let task = taskIn c v x in
-        served-is (well-formed (p .given)) run v (drawnIn l drawn wt) x _ entries-now truth-before (ap forget before-is ∙ sym before-is)
-        (rules.point-given (p .given) (p .reached) run (now-first p h g) .tasks .0)
-        ∙ unfold serving in
-        (ap (λ w. forget (serveTask c run task w)) before-is
-        ∙ (ap forget (serveTask-behind rest c run task (forget (p .at))) ∙ ap (behindAll rest) (sym (serveTask-forgets c run task (p .at)))))
+        let now = stateOf c l v (from (head + 1) n) st cl wt in
+        let same : servedAs c run (drawnIn l drawn wt) v (taskOf x) now ≡ forget (serveTask c run task now) =
+        unfold serving in
+        served-is (well-formed (p .given)) run v (drawnIn l drawn wt) x now entries-now truth-before (nothing-kept c l v (from (head + 1) n) st cl wt)
+        (rules.point-given (p .given) (p .reached) run (now-first p h g) .tasks .0) in
+        let there : forget (serveTask c run task (behindAll rest (forget (p .at)))) ≡ behindAll rest (forget served) =
+        ap forget (serveTask-behind rest c run task (forget (p .at))) ∙ ap (behindAll rest) (sym (serveTask-forgets c run task (p .at))) in
+        in-then (rw (← there) (forget-alike (served-alike c run task before-alike))) (rw same at (k .did .like not-full v))
 
     over-here : n′ .full ≡ true → above (limitsOf l) (runOnce c level s₀) ≡ true
     unfolding beyond roomOf from above
     over-here full =
         let run = runFrom level s₀ in
         let a = now-first p h g in
-        let b : beyond l (roomOf l (from (head + 1) n)) (behindAll rest (forget served)) ≡ true = rw served-behind at (k .did .over (good-from h g) not-full full v) in
+        let b : beyond l (roomOf l (from (head + 1) n)) (behindAll rest (forget served)) ≡ true =
+        sym (beyond-same l (roomOf l (from (head + 1) n)) served-behind) ∙ k .did .did .over (good-from h g) not-full full v in
         let room = step-room l (p .given) (p .reached) level a in
         let few : length (rest ++ served .opening .line) ≤ 3649 + l .waiting - (head + 1) = omega (arith, length-append rest (served .opening .line), room) in
         stays-above (limitsOf l) (task-grows (p .given) (p .reached) level a same)
@@ -104,16 +111,16 @@ module _ {c : Catalogue} {l : Limits} {level : ℕ} {s₀ : State} {v : Reading}
         (le-ltb 64 (length (served .opening .several)) (rules.point-fits (p .given) (p .reached) run (serves a) .several)))
 
     module _ (f′ : n′ .full ≡ false) (size′ : length (st′ 20) ≡ 3649 + l .waiting) where
-      state-is : stateOf c l v n′ st′ cl′ wt′ ≡ behindAll rest (forget served)
-      state-is = k .did .done (good-from h g) not-full f′ v ∙ served-behind
+      state-alike : AlikeIn c (behindAll rest (forget served)) (stateOf c l v n′ st′ cl′ wt′)
+      state-alike = rw (k .did .did .done (good-from h g) not-full f′ v) served-behind
 
       first-is : n′ .first ≡ head + 1
       unfolding from
-      first-is = k .did .first
+      first-is = k .did .did .first
 
       line-is : map (taskIn c v) (queued (head + 1) (n′ .tail) st′) ≡ rest ++ served .opening .line
       unfolding stateOf openingOf
-      line-is = rw first-is at (ap (λ (s : State). s .opening .line) state-is)
+      line-is = rw first-is at (line-same state-alike)
 
       next-here : Point c l level (runFrom level s₀) s₀ v (head + 1) n′ st′ cl′ wt′
       next-here =
@@ -124,10 +131,10 @@ module _ {c : Catalogue} {l : Limits} {level : ℕ} {s₀ : State} {v : Reading}
             size = size′;
             at = stateAfter c (runFrom level s₀) (taskIn c v (lineAt head st)) (p .at);
             after = rw line-is (serves-one (now-first p h g));
-            is = taken-is c l v n′ st′ cl′ wt′ ∙ ap lineTaken state-is;
+            is = rw (taken-is c l v n′ st′ cl′ wt′) (taken-alike state-alike);
             truth = p .truth;
             drawn = p .drawn;
-            entries = k .did .drawn (length (v .drawn)) ∙ p .entries;
+            entries = k .did .did .drawn (length (v .drawn)) ∙ p .entries;
           }
 
 -- ---- the laws

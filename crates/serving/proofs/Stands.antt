@@ -1,4 +1,4 @@
--- A task that is served loses no opened owner, no name that was served with several allowed and no part that was named for tracking.
+-- A task that is served loses no opened owner, no name that was served with several allowed and no part that was named for tracking or is tracked.
 use mathlib.Core.Bool.{Bool, true, false}
 use mathlib.Core.List.{List, [], _∷_, _++_}
 use Prim.Native.Nat.{ℕ}
@@ -19,13 +19,13 @@ use Rattle.encoder.specs.Held.{Reading}
 use Rattle.encoder.specs.Did.{onOpening}
 use Rattle.owners.specs.Owners.{serving}
 use Rattle.firing.specs.Firing.{waits, queued, queuedIf, conditionServed}
-use Rattle.naming.proofs.Settled.{Stands, stands-same}
+use Rattle.naming.proofs.Settled.{Stands, stands-same, tracking-stands}
 use Rattle.serving.specs.Serving.{servedFired, servedDrawn, servedAs}
 
 -- ---- one step after another
 
-then : {o o′ o″ : Opening} → Stands o o′ → Stands o′ o″ → Stands o o″
-then p q = record { owners = longer (p .owners) (q .owners); several = longer (p .several) (q .several); named = longer (p .named) (q .named) }
+pub then : {o o′ o″ : Opening} → Stands o o′ → Stands o′ o″ → Stands o o″
+then p q = record { owners = longer (p .owners) (q .owners); several = longer (p .several) (q .several); named = longer (p .named) (q .named); tracked = longer (p .tracked) (q .tracked) }
 
 pub each-stands : {A : Type 0} (f : A → Opening → Opening) → ((x : A) (o : Opening) → Stands o (f x o)) → (xs : List A) (o : Opening) → Stands o (fold f xs o)
 unfolding fold
@@ -46,15 +46,15 @@ when-stands false f h o = stands-same
 
 queue-stands : (t : Task) (o : Opening) → Stands o (queue t o)
 unfolding queue
-queue-stands t o = record { owners = whole; several = whole; named = whole }
+queue-stands t o = record { owners = whole; several = whole; named = whole; tracked = whole }
 
-openOwner-stands : (w : Owner) (o : Opening) → Stands o (openOwner w o)
+pub openOwner-stands : (w : Owner) (o : Opening) → Stands o (openOwner w o)
 unfolding openOwner queue snoc
-openOwner-stands w o = unless-stands _ _ (λ u. record { owners = ending (u .owners) _; several = whole; named = whole }) o
+openOwner-stands w o = unless-stands _ _ (λ u. record { owners = ending (u .owners) _; several = whole; named = whole; tracked = whole }) o
 
 openName-stands : (n : ℕ) (o : Opening) → Stands o (openName n o)
 unfolding openName queue
-openName-stands n o = unless-stands _ _ (λ u. record { owners = whole; several = whole; named = whole }) o
+openName-stands n o = unless-stands _ _ (λ u. record { owners = whole; several = whole; named = whole; tracked = whole }) o
 
 module _ (c : Catalogue) where
   openNames-stands : (rs : List ℕ) (o : Opening) → Stands o (openNames c rs o)
@@ -65,14 +65,10 @@ module _ (c : Catalogue) where
   unfolding serveOwner
   owner-stands w o = unless-stands _ _ (λ u. then (openNames-stands (rangesFirst c w) u) (each-stands queue queue-stands (tasksOf c w) _)) o
 
-  fire-stands : (q : ℕ) (is : List ℕ) (o : Opening) → Stands o (fire c q is o)
+  pub fire-stands : (q : ℕ) (is : List ℕ) (o : Opening) → Stands o (fire c q is o)
   unfolding fire
   fire-stands q [] o = stands-same
   fire-stands q (i ∷ is) o = then (openNames-stands (rangesOf c q) o) (queue-stands (requirement q (i ∷ is)) _)
-
-  tracking-stands : (p : ℕ) (o : Opening) → Stands o (nameForTracking c p o)
-  unfolding nameForTracking snoc
-  tracking-stands p o = unless-stands _ _ (λ u. record { owners = whole; several = whole; named = ending (u .named) _ }) o
 
   pub ready-stands : (p : ℕ) (o : Opening) → Stands o (openReady c p o)
   unfolding openReady
@@ -83,11 +79,11 @@ module _ (c : Catalogue) where
   serve-stands : (f : ℕ → Bool) (t : Task) (o : Opening) → Stands o (serve c f t o)
   unfolding serve serveName serveCondition serveRequirement markHandled snoc
   serve-stands f (owner w) o = owner-stands w o
-  serve-stands f (name n) o = when-stands _ _ (λ u. record { owners = whole; several = ending (u .several) _; named = whole }) o
-  serve-stands f (condition q) o = then (record { owners = whole; several = whole; named = whole }) (fire-stands q _ _)
+  serve-stands f (name n) o = when-stands _ _ (λ u. record { owners = whole; several = ending (u .several) _; named = whole; tracked = whole }) o
+  serve-stands f (condition q) o = then (record { owners = whole; several = whole; named = whole; tracked = whole }) (fire-stands q _ _)
   serve-stands f (requirement q is) o =
-      then {o′ = markHandled q is o} (record { owners = whole; several = whole; named = whole })
-      (then (each-stands (nameForTracking c) tracking-stands (candidates c (goalAt c q) ++ firedParts c q is) _)
+      then {o′ = markHandled q is o} (record { owners = whole; several = whole; named = whole; tracked = whole })
+      (then (each-stands (nameForTracking c) (tracking-stands c) (candidates c (goalAt c q) ++ firedParts c q is) _)
       (each-stands (openReady c) ready-stands (candidates c (goalAt c q)) _))
   serve-stands f (constraint k) o = stands-same
 
@@ -96,11 +92,11 @@ module _ (c : Catalogue) where
   serving-stands r t s =
       let o = serve c (decidedTrue s) t (s .opening) in
       let p : Stands (s .opening) ((emit c r (served t) (setOpening o s)) .opening) = rw (emit-leaves c r (served t) (setOpening o s) .opening) (serve-stands (decidedTrue s) t (s .opening)) in
-      record { owners = p .owners; several = p .several; named = p .named }
+      record { owners = p .owners; several = p .several; named = p .named; tracked = p .tracked }
 
   condition-stands : (v : Reading) (q : ℕ) (s : State) → Stands (s .opening) ((conditionServed c v q s) .opening)
   unfolding conditionServed waits onOpening
-  condition-stands v q s = rw (addWaitings-is _ s) (then (record { owners = whole; several = whole; named = whole }) (queued-stands _ _ _))
+  condition-stands v q s = rw (addWaitings-is _ s) (then (record { owners = whole; several = whole; named = whole; tracked = whole }) (queued-stands _ _ _))
     where
       queued-stands : (t : Task) (is : List ℕ) (o : Opening) → Stands o (queuedIf c q t is o)
       queued-stands t [] o = unfold queuedIf in stands-same

@@ -16,7 +16,7 @@ use Rattle.entries.specs.Entries.{drawnIn, Long}
 use Rattle.entries.proofs.Drain.{length-drawn}
 use Rattle.encoder.specs.declared.Counters.{Counters}
 use Rattle.encoder.specs.Held.{LongEnough}
-use Rattle.encoder.specs.Did.{Did}
+use Rattle.naming.specs.Alike.{AlikeDid}
 use Rattle.serving.specs.Serving.{servedAs, TaskGiven}
 
 -- ---- areas that are long enough
@@ -51,5 +51,5 @@ drawn-first l wt {drawn} g = omega (arith, g .given .0, length-drawn l drawn wt)
 -- ---- served as its kind is
 
 pub as-kind : {c : Catalogue} {l : Limits} (r : Run) (ds : List (ℕ × ℕ)) {n n′ : Counters} {st st′ : ℕ → List ℕ} {cl cl′ wt wt′ : List ℕ} {t k : Task} (x : ℕ)
-    → t ≡ taskOf x → t ≡ k → Did c l (λ v. servedAs c r ds v k) n st cl wt n′ st′ cl′ wt′ → Did c l (λ v. servedAs c r ds v (taskOf x)) n st cl wt n′ st′ cl′ wt′
+    → t ≡ taskOf x → t ≡ k → AlikeDid c l (λ v. servedAs c r ds v k) n st cl wt n′ st′ cl′ wt′ → AlikeDid c l (λ v. servedAs c r ds v (taskOf x)) n st cl wt n′ st′ cl′ wt′
 as-kind r ds x e f d = rw (← e, f) d

@@ -18,7 +18,8 @@ use Rattle.line.specs.Tasks.{taskOf}
 use Rattle.entries.specs.Entries.{drawnIn}
 use Rattle.encoder.specs.declared.Counters.{Counters}
 use Rattle.encoder.specs.Held.{Reading, taskIn, stateOf, Good}
-use Rattle.encoder.specs.Did.{limitsOf, Did}
+use Rattle.encoder.specs.Did.{limitsOf}
+use Rattle.naming.specs.Alike.{AlikeIn, AlikeDid}
 use Rattle.beginning.specs.Beginning.{readingOf}
 use Rattle.serving.specs.Serving.{servedAs}
 
@@ -56,7 +57,7 @@ pub record Point (c : Catalogue) (l : Limits) (level : ℕ) (r : Run) (s₀ : St
   pub size : length (st 20) ≡ 3649 + l .waiting
   pub at : State
   pub after : After c r (firstLine c s₀) (firstState c s₀) head (map (taskIn c v) (queued head (n .tail) st)) at
-  pub is : stateOf c l v (taken n) st cl wt ≡ forget at
+  pub is : AlikeIn c (forget at) (stateOf c l v (taken n) st cl wt)
   pub truth : v .truth ≡ decidedTrue s₀
   pub drawn : v .drawn ≡ s₀ .opening .drawn
   pub entries : drawnIn l (length (v .drawn)) wt ≡ v .drawn
@@ -64,7 +65,7 @@ pub record Point (c : Catalogue) (l : Limits) (level : ℕ) (r : Run) (s₀ : St
 -- the task at `head` was served; `drawn` entries were drawn when the run began
 pub record Serves (c : Catalogue) (l : Limits) (r : Run) (drawn head : ℕ) (n : Counters) (st : ℕ → List ℕ) (cl wt : List ℕ)
     (n′ : Counters) (st′ : ℕ → List ℕ) (cl′ wt′ : List ℕ) : Type 0 where
-  pub did : Did c l (λ v. servedAs c r (drawnIn l drawn wt) v (taskOf (lineAt head st))) (from (head + 1) n) st cl wt n′ st′ cl′ wt′
+  pub did : AlikeDid c l (λ v. servedAs c r (drawnIn l drawn wt) v (taskOf (lineAt head st))) (from (head + 1) n) st cl wt n′ st′ cl′ wt′
 
 -- the areas hold the first point of a run, if it is not full already
 pub record Begun (c : Catalogue) (l : Limits) (r : Run) (drawn : ℕ) (n : Counters) (st : ℕ → List ℕ) (cl wt : List ℕ) : Type 0 where

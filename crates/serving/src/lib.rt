@@ -19,16 +19,16 @@ ghost use Rattle.line.specs.Line.{lineAt};
 ghost use Rattle.line.specs.Tasks.{taskOf};
 ghost use Rattle.entries.specs.Entries.{drawnIn};
 ghost use Rattle.encoder.specs.Held.{runOf, LongEnough, Good};
-ghost use Rattle.encoder.specs.Did.{ClausesDid, Did};
 ghost use Rattle.goals.specs.Goals.{Catalogued};
 ghost use Rattle.owners.specs.Owners.{serving};
 ghost use Rattle.firing.specs.Firing.{indicesIn};
 ghost use Rattle.naming.specs.Naming.{GivenIndices};
+ghost use Rattle.naming.specs.Alike.{AlikeDid, ClausesAlike};
 ghost use Rattle.serving.specs.Flags.{goalFrom, Flagged};
 ghost use Rattle.serving.specs.Serving.{servedAs, servedFired, servedDrawn, TaskGiven};
 ghost use Rattle.serving.specs.Line.{Serves, Begun, LineServed};
 
-// ---- goals that are settled
+// ---- goals whose candidates are settled
 
 // The place of a requirement's goal among the flags.
 fn goal_place(marks: &[u8], unions: &[u8], t: &[u8], k: Counts, q: usize) -> usize
@@ -64,7 +64,7 @@ fn serve_flagged(
     requires { ⌜ Marked 14 15 0 (held l (now s)) ⌝ }
     requires { ⌜ GivenIndices (catalogue k (now marks) (now unions) (now t)) q is ⌝ }
     requires { ⌜ Flagged (catalogue k (now marks) (now unions) (now t)) l (now settled) n (held l (now s)) ⌝ }
-    ensures { λ m. ⌜ ClausesDid (catalogue k (now (marks .entry)) (now (unions .entry)) (now (t .entry))) l (λ v. serving (catalogue k (now (marks .entry)) (now (unions .entry)) (now (t .entry))) (runOf r) (requirement q (indicesIn is))) n (held l (now (s .entry))) (now (clauses .entry)) m (held l (now (s .exit))) (now (clauses .exit)) ⌝ }
+    ensures { λ m. ⌜ ClausesAlike (catalogue k (now (marks .entry)) (now (unions .entry)) (now (t .entry))) l (λ v. serving (catalogue k (now (marks .entry)) (now (unions .entry)) (now (t .entry))) (runOf r) (requirement q (indicesIn is))) n (held l (now (s .entry))) (now (clauses .entry)) m (held l (now (s .exit))) (now (clauses .exit)) ⌝ }
     ensures { λ m. ⌜ Flagged (catalogue k (now (marks .entry)) (now (unions .entry)) (now (t .entry))) l (now (settled .exit)) m (held l (now (s .exit))) ⌝ }
 {
     let i = goal_place(marks, unions, t, k, q);
@@ -97,7 +97,7 @@ fn serve_fired(
     requires { ⌜ (q < k .requirements) × (0 < r .number) ⌝ }
     requires { ⌜ Marked 14 15 0 (held l (now s)) ⌝ }
     requires { ⌜ Flagged (catalogue k (now marks) (now unions) (now t)) l (now settled) n (held l (now s)) ⌝ }
-    ensures { λ m. ⌜ ClausesDid (catalogue k (now (marks .entry)) (now (unions .entry)) (now (t .entry))) l (λ v. servedFired (catalogue k (now (marks .entry)) (now (unions .entry)) (now (t .entry))) (runOf r) q) n (held l (now (s .entry))) (now (clauses .entry)) m (held l (now (s .exit))) (now (clauses .exit)) ⌝ }
+    ensures { λ m. ⌜ ClausesAlike (catalogue k (now (marks .entry)) (now (unions .entry)) (now (t .entry))) l (λ v. servedFired (catalogue k (now (marks .entry)) (now (unions .entry)) (now (t .entry))) (runOf r) q) n (held l (now (s .entry))) (now (clauses .entry)) m (held l (now (s .exit))) (now (clauses .exit)) ⌝ }
     ensures { λ m. ⌜ Flagged (catalogue k (now (marks .entry)) (now (unions .entry)) (now (t .entry))) l (now (settled .exit)) m (held l (now (s .exit))) ⌝ }
 {
     let it = tables::requirement_at(t, k, q);
@@ -146,7 +146,7 @@ fn serve_drawn(
     requires { ⌜ (0 < r .number) × (drawn ≤ l .waiting) × (e < drawn) ⌝ }
     requires { ⌜ Marked 14 15 0 (held l (now s)) ⌝ }
     requires { ⌜ Flagged (catalogue k (now marks) (now unions) (now t)) l (now settled) n (held l (now s)) ⌝ }
-    ensures { λ m. ⌜ ClausesDid (catalogue k (now (marks .entry)) (now (unions .entry)) (now (t .entry))) l (λ v. servedDrawn (catalogue k (now (marks .entry)) (now (unions .entry)) (now (t .entry))) (runOf r) (drawnIn l drawn (now (w .entry))) e) n (held l (now (s .entry))) (now (clauses .entry)) m (held l (now (s .exit))) (now (clauses .exit)) ⌝ }
+    ensures { λ m. ⌜ ClausesAlike (catalogue k (now (marks .entry)) (now (unions .entry)) (now (t .entry))) l (λ v. servedDrawn (catalogue k (now (marks .entry)) (now (unions .entry)) (now (t .entry))) (runOf r) (drawnIn l drawn (now (w .entry))) e) n (held l (now (s .entry))) (now (clauses .entry)) m (held l (now (s .exit))) (now (clauses .exit)) ⌝ }
     ensures { λ m. ⌜ Flagged (catalogue k (now (marks .entry)) (now (unions .entry)) (now (t .entry))) l (now (settled .exit)) m (held l (now (s .exit))) ⌝ }
 {
     let entry = entries::drawn_at(w, l, drawn, e);
@@ -191,7 +191,7 @@ fn serve_task(
     requires { ⌜ TaskGiven (catalogue k (now marks) (now unions) (now t)) (drawnIn l drawn (now w)) (taskOf number) ⌝ }
     requires { ⌜ (0 < r .number) × (drawn ≤ l .waiting) × (n .drawn ≡ 0) ⌝ }
     requires { ⌜ Flagged (catalogue k (now marks) (now unions) (now t)) l (now settled) n (held l (now s)) ⌝ }
-    ensures { λ m. ⌜ Did (catalogue k (now (marks .entry)) (now (unions .entry)) (now (t .entry))) l (λ v. servedAs (catalogue k (now (marks .entry)) (now (unions .entry)) (now (t .entry))) (runOf r) (drawnIn l drawn (now (w .entry))) v (taskOf number)) n (held l (now (s .entry))) (now (clauses .entry)) (now (w .entry)) m (held l (now (s .exit))) (now (clauses .exit)) (now (w .exit)) ⌝ }
+    ensures { λ m. ⌜ AlikeDid (catalogue k (now (marks .entry)) (now (unions .entry)) (now (t .entry))) l (λ v. servedAs (catalogue k (now (marks .entry)) (now (unions .entry)) (now (t .entry))) (runOf r) (drawnIn l drawn (now (w .entry))) v (taskOf number)) n (held l (now (s .entry))) (now (clauses .entry)) (now (w .entry)) m (held l (now (s .exit))) (now (clauses .exit)) (now (w .exit)) ⌝ }
     ensures { λ m. ⌜ Flagged (catalogue k (now (marks .entry)) (now (unions .entry)) (now (t .entry))) l (now (settled .exit)) m (held l (now (s .exit))) ⌝ }
 {
     match line::task_of(number) {
@@ -290,7 +290,7 @@ fn serve_next(
     )
 }
 
-// The whole line.
+// The whole line. `settled` flags goals whose candidates are settled, in this run or before.
 pub fn serve_line(
     marks: &[u8],
     unions: &[u8],
@@ -303,6 +303,7 @@ pub fn serve_line(
     n: Counters,
     r: Run,
     drawn: usize,
+    settled: &mut [u8; 640],
 ) -> Counters
     requires { ⌜ Catalogued k (now marks) (now unions) (now t) ⌝ }
     requires { ⌜ Fits l (length (now s)) ⌝ }
@@ -310,9 +311,10 @@ pub fn serve_line(
     requires { ⌜ LongEnough l (length (now clauses)) (length (now w)) ⌝ }
     requires { ⌜ Marked 14 15 0 (held l (now s)) × (0 < r .number) ⌝ }
     requires { ⌜ Begun (catalogue k (now marks) (now unions) (now t)) l (runOf r) drawn n (held l (now s)) (now clauses) (now w) ⌝ }
+    requires { ⌜ Flagged (catalogue k (now marks) (now unions) (now t)) l (now settled) n (held l (now s)) ⌝ }
     ensures { λ m. ⌜ LineServed (catalogue k (now (marks .entry)) (now (unions .entry)) (now (t .entry))) l (runOf r) drawn n (held l (now (s .entry))) (now (clauses .entry)) (now (w .entry)) m (held l (now (s .exit))) (now (clauses .exit)) (now (w .exit)) ⌝ }
+    ensures { λ m. ⌜ Flagged (catalogue k (now (marks .entry)) (now (unions .entry)) (now (t .entry))) l (now (settled .exit)) m (held l (now (s .exit))) ⌝ }
 {
-    let mut settled = [0u8; 640];
     let mut m = n;
     let mut head = 0;
     while head < m.tail {
@@ -332,7 +334,7 @@ pub fn serve_line(
             r,
             drawn,
             head,
-            &mut settled,
+            settled,
         );
         head += 1;
     }

@@ -13,6 +13,7 @@ use Rattle.refusal.specs.Refusing.{refusalOf}
 use Rattle.state.specs.declared.Limits.{Limits}
 use Rattle.encoder.specs.declared.Counters.{Counters}
 use Rattle.encoder.specs.Did.{limitsOf}
+use Rattle.serving.specs.Flags.{Flagged}
 use Rattle.encoding.specs.Running.{Holds}
 use Rattle.commands.specs.declared.Outcome.{Outcome}
 use Rattle.commands.specs.declared.Outcome.the-variants.{Carried, Refused}
@@ -29,3 +30,7 @@ pub record CommandDid (c : Catalogue) (l : Limits) (o : Command) (n : Counters) 
   pub carried : (m : Counters) → r ≡ Carried m → (s : State) → Given c → Reached (limitsOf l) c s → Holds c l s n st cl wt → Gives c l o s n m st′ cl′ wt′
   pub refused : (f : Refusal) → r ≡ Refused f → (s : State) → Given c → Reached (limitsOf l) c s → Holds c l s n st cl wt
       → carryOut (limitsOf l) c o s ≡ refuse (refusalOf f)
+
+-- goals that are flagged are so after a command that was carried out
+pub record FlaggedAfter (c : Catalogue) (l : Limits) (flags : List ℕ) (r : Outcome) (st′ : ℕ → List ℕ) : Type 0 where
+  pub flagged : (m : Counters) → r ≡ Carried m → Flagged c l flags m st′

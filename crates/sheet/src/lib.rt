@@ -15,7 +15,8 @@ ghost use Rattle.encoder.specs.Held.{LongEnough};
 ghost use Rattle.goals.specs.Goals.{Catalogued};
 ghost use Rattle.reader.specs.Reading.{commandOf};
 ghost use Rattle.encoding.specs.Running.{Reaches};
-ghost use Rattle.sheet.specs.Sheet.{CommandDid};
+ghost use Rattle.serving.specs.Flags.{Flagged};
+ghost use Rattle.sheet.specs.Sheet.{CommandDid, FlaggedAfter};
 
 fn draw(
     marks: &[u8],
@@ -52,23 +53,27 @@ fn run(
     l: Limits,
     n: Counters,
     level: u16,
+    settled: &mut [u8; 640],
 ) -> Outcome
     requires { ⌜ Catalogued k (now marks) (now unions) (now t) ⌝ }
     requires { ⌜ Fits l (length (now s)) ⌝ }
     requires { ⌜ Reaches (catalogue k (now marks) (now unions) (now t)) l n (held l (now s)) (now clauses) (now w) ⌝ }
     requires { ⌜ LongEnough l (length (now clauses)) (length (now w)) × (n .runs < 65535) ⌝ }
+    requires { ⌜ Flagged (catalogue k (now marks) (now unions) (now t)) l (now settled) n (held l (now s)) ⌝ }
     ensures { λ r. ⌜ CommandDid (catalogue k (now (marks .entry)) (now (unions .entry)) (now (t .entry))) l (rules.Command.run level) n (held l (now (s .entry))) (now (clauses .entry)) (now (w .entry)) r (held l (now (s .exit))) (now (clauses .exit)) (now (w .exit)) ⌝ }
+    ensures { λ r. ⌜ FlaggedAfter (catalogue k (now (marks .entry)) (now (unions .entry)) (now (t .entry))) l (now (settled .exit)) r (held l (now (s .exit))) ⌝ }
 {
     if commands::too_low(s, l, n, level) {
         return Outcome::Refused(Refusal::LevelLow);
     }
-    let m = encoding::run_once(marks, unions, t, k, s, clauses, w, l, n, level);
+    let m = encoding::run_once(marks, unions, t, k, s, clauses, w, l, n, level, settled);
     if m.full {
         return Outcome::Refused(Refusal::RunFull);
     }
     Outcome::Carried(m)
 }
 
+// `settled` flags goals whose candidates are settled.
 pub fn carry_out(
     marks: &[u8],
     unions: &[u8],
@@ -80,17 +85,20 @@ pub fn carry_out(
     l: Limits,
     n: Counters,
     command: Command,
+    settled: &mut [u8; 640],
 ) -> Outcome
     requires { ⌜ Catalogued k (now marks) (now unions) (now t) ⌝ }
     requires { ⌜ Fits l (length (now s)) ⌝ }
     requires { ⌜ Reaches (catalogue k (now marks) (now unions) (now t)) l n (held l (now s)) (now clauses) (now w) ⌝ }
     requires { ⌜ LongEnough l (length (now clauses)) (length (now w)) × (n .runs < 65535) ⌝ }
+    requires { ⌜ Flagged (catalogue k (now marks) (now unions) (now t)) l (now settled) n (held l (now s)) ⌝ }
     ensures { λ r. ⌜ CommandDid (catalogue k (now (marks .entry)) (now (unions .entry)) (now (t .entry))) l (commandOf command) n (held l (now (s .entry))) (now (clauses .entry)) (now (w .entry)) r (held l (now (s .exit))) (now (clauses .exit)) (now (w .exit)) ⌝ }
+    ensures { λ r. ⌜ FlaggedAfter (catalogue k (now (marks .entry)) (now (unions .entry)) (now (t .entry))) l (now (settled .exit)) r (held l (now (s .exit))) ⌝ }
 {
     match command {
         Command::Add(owner) => commands::add(k, s, l, n, owner),
         Command::Draw(c) => draw(marks, unions, t, k, s, clauses, w, l, n, c),
-        Command::Run(level) => run(marks, unions, t, k, s, clauses, w, l, n, level),
+        Command::Run(level) => run(marks, unions, t, k, s, clauses, w, l, n, level, settled),
         Command::Decide {
             variable,
             value,

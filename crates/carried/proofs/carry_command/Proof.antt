@@ -1,6 +1,7 @@
 -- `carried::carry_command` carries a command out or refuses it; a draw that changes nothing it passes over.
 use borrow.Author.Needs.{needs}
 use Rattle.carried.proofs.Records.{settled-passes, settled-carries}
+use Rattle.sheet.proofs.Flags.{after-carried}
 use Rattle.carried.proofs.carry_command.Statement.{statement}
 use Rattle.carried.proofs.carry_command.Tie as tie
 
@@ -8,10 +9,10 @@ is-settled-requires : tie.Need-is-settled-requires
 is-settled-requires c κs = search needs
 
 returns : tie.Need-returns
-returns c = search (needs, settled-passes)
+returns c = (settled-passes (c .if1 .taken) (c .before .is-settled .ensures), after-carried (c .before .before .before .before .before .before .before .before .before .pre .1 .1 .1 .1))
 
 carry-out-requires : tie.Need-carry-out-requires
-carry-out-requires c κs = search needs
+carry-out-requires c κs = let p = (c .before .before .before .before .before .before .before .before .before .before .before .before .before .pre) in (p .0, (p .1 .0, (p .1 .1 .0, (p .1 .1 .1 .0, p .1 .1 .1 .1))))
 
 same-length : tie.Need-same-length
 same-length c = search needs
@@ -23,7 +24,7 @@ same-length-3 : tie.Need-same-length-3
 same-length-3 c = search needs
 
 returns-2 : tie.Need-returns-2
-returns-2 c = search (needs, settled-carries)
+returns-2 c = (settled-carries (c .before .before .before .before .before .before .carry-out .ensures .0), c .before .before .before .before .before .before .carry-out .ensures .1)
 
 pub carry-command-spec : {M : Type 1} → statement M
 carry-command-spec =

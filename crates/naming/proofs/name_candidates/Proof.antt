@@ -1,20 +1,30 @@
--- `naming::name_candidates`: what is settled is not named again.
+-- `naming::name_candidates` names all candidates, or the first of each range.
 use borrow.Author.Needs.{needs}
-use Rattle.naming.proofs.Settled.{settled-idle}
+use mathlib.Core.Path.{refl}
+use Rattle.encoder.proofs.Steps.{state-same}
+use Rattle.naming.specs.Naming.{nameCandidates}
 use Rattle.naming.proofs.name_candidates.Statement.{statement}
 use Rattle.naming.proofs.name_candidates.Tie as tie
 
-returns : tie.Need-returns
-returns c = settled-idle (c .before .before .before .before .before .pre .1 .1 .1 .1 (c .if1 .taken))
-
-all-candidates-requires : tie.Need-all-candidates-requires
-all-candidates-requires c κs = let p = (c .before .before .before .before .before .before .pre) in (p .0, (p .1 .0, (p .1 .1 .0, p .1 .1 .1 .0)))
+first-candidates-requires : tie.Need-first-candidates-requires
+first-candidates-requires c κs = search needs
 
 same-length : tie.Need-same-length
 same-length c = search needs
 
+returns : tie.Need-returns
+unfolding nameCandidates
+returns c = rw (c .before .before .before .before .if1 .taken) (c .before .before .first-candidates .ensures)
+
+all-candidates-requires : tie.Need-all-candidates-requires
+all-candidates-requires c κs = search needs
+
+same-length-2 : tie.Need-same-length-2
+same-length-2 c = search needs
+
 returns-2 : tie.Need-returns-2
-returns-2 c = search needs
+unfolding nameCandidates
+returns-2 c = rw (c .before .before .before .before .if1 .left) (c .before .before .all-candidates .ensures)
 
 pub name-candidates-spec : {M : Type 1} → statement M
-name-candidates-spec = tie.close (tie.spec returns all-candidates-requires same-length returns-2)
+name-candidates-spec = tie.close (tie.spec first-candidates-requires same-length returns all-candidates-requires same-length-2 returns-2)

@@ -6,7 +6,6 @@ use Rattle.cache.specs.Areas.{catalogue}
 use Rattle.state.specs.Layout.{held}
 use Rattle.encoder.specs.Held.{runOf}
 use Rattle.serving.specs.Flags.{Flagged}
-use Rattle.serving.proofs.Flags.{flagged-none}
 use Rattle.serving.proofs.Line.{Passed, passed-start, passed-given, passed-next, passed-stop, passed-end}
 use Rattle.serving.proofs.serve_line.Statement.{statement}
 use Rattle.serving.proofs.serve_line.Tie as tie
@@ -18,7 +17,7 @@ abbrev μ-loop : tie.MeasureT-loop
 μ-loop marks unions t k s₀ clauses₀ w₀ l r drawn settled₀ m₀ head₀ s clauses w settled m head = 3649 + l .waiting - head
 
 loop-holds : tie.Need-loop-holds Inv-loop μ-loop
-loop-holds c = let p = (c .before .before .before .before .before .before .pre) in (passed-start (p .1 .0) (p .1 .1 .0) (p .1 .1 .1 .0) (p .1 .1 .1 .1 .0 .0) (p .1 .1 .1 .1 .1), flagged-none 640)
+loop-holds c = let p = (c .before .before .before .before .before .before .pre) in (passed-start (p .1 .0) (p .1 .1 .0) (p .1 .1 .1 .0) (p .1 .1 .1 .1 .0 .0) (p .1 .1 .1 .1 .1 .0), p .1 .1 .1 .1 .1 .1)
 
 same-length : tie.Need-same-length Inv-loop μ-loop
 same-length c = (c .before .before .before .loop .inv .0 .same)
@@ -30,7 +29,7 @@ same-length-3 : tie.Need-same-length-3 Inv-loop μ-loop
 same-length-3 c = (c .before .before .before .loop .inv .0 .same-waiting)
 
 returns : tie.Need-returns Inv-loop μ-loop
-returns c = passed-stop (c .before .before .before .loop .inv .0) (c .if2 .taken)
+returns c = (passed-stop (c .before .before .before .loop .inv .0) (c .if2 .taken), c .before .before .before .loop .inv .1)
 
 serve-next-requires : tie.Need-serve-next-requires Inv-loop μ-loop
 serve-next-requires c κs = let p = (c .before .before .before .before .before .before .before .before .before .before .before .before .before .before .pre) in
@@ -57,7 +56,7 @@ same-length-6 : tie.Need-same-length-6 Inv-loop μ-loop
 same-length-6 c = (c .before .before .loop .inv .0 .same-waiting)
 
 returns-2 : tie.Need-returns-2 Inv-loop μ-loop
-returns-2 c = passed-end (c .before .before .loop .inv .0) (c .if1 .left)
+returns-2 c = (passed-end (c .before .before .loop .inv .0) (c .if1 .left), c .before .before .loop .inv .1)
 
 pub serve-line-spec : {M : Type 1} → statement M
 serve-line-spec =

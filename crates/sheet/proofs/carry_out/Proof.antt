@@ -2,6 +2,7 @@
 use borrow.Author.Needs.{needs}
 use Rattle.beginning.proofs.Held.{reaches-rising}
 use Rattle.sheet.proofs.Outcomes.{as-add, as-draw, as-run, as-decide, as-undo}
+use Rattle.sheet.proofs.Flags.{add-no-run, draw-no-run, decide-no-run, undo-no-run, command-flagged}
 use Rattle.sheet.proofs.carry_out.Statement.{statement}
 use Rattle.sheet.proofs.carry_out.Tie as tie
 
@@ -15,7 +16,7 @@ enum-known-command-2 : tie.Need-enum-known-command-2
 enum-known-command-2 c = search needs
 
 draw-requires : tie.Need-draw-requires
-draw-requires c κs = search needs
+draw-requires c κs = let p = (c .before .before .before .before .before .before .before .before .before .before .before .before .pre) in (p .0, (p .1 .0, (p .1 .1 .0, p .1 .1 .1 .0)))
 
 enum-known-command-3 : tie.Need-enum-known-command-3
 enum-known-command-3 c = search needs
@@ -39,7 +40,7 @@ same-length : tie.Need-same-length
 same-length c = search needs
 
 returns : tie.Need-returns
-returns c = search (needs, as-add)
+returns c = let p = (c .before .before .before .before .before .before .before .before .before .before .before .before .before .pre) in ((as-add _ _ _ _ _ _ (c .before .before .before .before .before .command .given .1) (c .before .before .add .ensures)), command-flagged _ (add-no-run _ _ (c .before .before .before .before .before .command .given .1)) (p .1 .1 .0) (as-add _ _ _ _ _ _ (c .before .before .before .before .before .command .given .1) (c .before .before .add .ensures)) (p .1 .1 .1 .1))
 
 same-length-2 : tie.Need-same-length-2
 same-length-2 c = search needs
@@ -51,7 +52,7 @@ same-length-4 : tie.Need-same-length-4
 same-length-4 c = search needs
 
 returns-2 : tie.Need-returns-2
-returns-2 c = search (needs, as-draw)
+returns-2 c = let p = (c .before .before .before .before .before .before .before .before .before .before .before .before .before .before .before .before .before .before .before .pre) in ((as-draw _ _ (c .before .before .before .before .before .before .before .before .before .before .before .command2 .given .1) (c .before .before .before .before .before .before .draw .ensures)), command-flagged _ (draw-no-run _ _ (c .before .before .before .before .before .before .before .before .before .before .before .command2 .given .1)) (p .1 .1 .0) (as-draw _ _ (c .before .before .before .before .before .before .before .before .before .before .before .command2 .given .1) (c .before .before .before .before .before .before .draw .ensures)) (p .1 .1 .1 .1))
 
 same-length-5 : tie.Need-same-length-5
 same-length-5 c = search needs
@@ -63,19 +64,19 @@ same-length-7 : tie.Need-same-length-7
 same-length-7 c = search needs
 
 returns-3 : tie.Need-returns-3
-returns-3 c = search (needs, as-run)
+returns-3 c = (as-run _ _ (c .before .before .before .before .before .before .before .before .before .before .before .before .command3 .given .1) (c .before .before .before .before .before .before .run .ensures .0), c .before .before .before .before .before .before .run .ensures .1)
 
 same-length-8 : tie.Need-same-length-8
 same-length-8 c = search needs
 
 returns-4 : tie.Need-returns-4
-returns-4 c = search (needs, as-decide)
+returns-4 c = let p = (c .before .before .before .before .before .before .before .before .before .before .before .before .before .pre) in ((as-decide _ _ _ _ (c .before .before .before .before .before .command4 .given .1) (c .before .before .decide .ensures)), command-flagged _ (decide-no-run _ _ _ _ (c .before .before .before .before .before .command4 .given .1)) (p .1 .1 .0) (as-decide _ _ _ _ (c .before .before .before .before .before .command4 .given .1) (c .before .before .decide .ensures)) (p .1 .1 .1 .1))
 
 same-length-9 : tie.Need-same-length-9
 same-length-9 c = search needs
 
 returns-5 : tie.Need-returns-5
-returns-5 c = search (needs, as-undo)
+returns-5 c = let p = (c .before .before .before .before .before .before .before .before .before .before .before .before .before .pre) in ((as-undo _ _ (c .before .before .before .before .before .command5 .given .1) (c .before .before .undo .ensures)), command-flagged _ (undo-no-run _ _ (c .before .before .before .before .before .command5 .given .1)) (p .1 .1 .0) (as-undo _ _ (c .before .before .before .before .before .command5 .given .1) (c .before .before .undo .ensures)) (p .1 .1 .1 .1))
 
 pub carry-out-spec : {M : Type 1} → statement M
 carry-out-spec =
