@@ -171,6 +171,7 @@ fn slow_jobs() -> Vec<Job> {
         "draws after decisions",
         draws_of_many_members(&[decide(1)], &[Record::Undo { level: 0 }]),
     ));
+    jobs.push(job("draws of a deep condition", draws_of_a_deep_condition()));
     jobs.push(job("waiting of all conditions", waiting_of_all_conditions()));
     // What follows makes no clause: a branch's limits do.
     let empty_runs = job_of(vec![Record::Run { level: 1 }; 21_845]);
@@ -533,8 +534,37 @@ fn draws_of_many_members(before: &[Record], behind: &[Record]) -> Vec<Record> {
     records.push(requirement(ROOT, 5));
     records.push(Record::Requirement { owner: ROOT, form: 0, number: 5, condition: 8 });
     records.extend(run_of_root());
-    let round = [before, &[Record::Draw { condition: 8 }], behind].concat();
+    filled_up(records, [before, &[Record::Draw { condition: 8 }], behind].concat())
+}
+
+/// Behind the records a round of others, as often as a job has room for it.
+fn filled_up(mut records: Vec<Record>, round: Vec<Record>) -> Vec<Record> {
     let times = (JOB_CEILING - job_of(records.clone()).len()) / job_of(round.clone()).len();
     records.extend(repeat_n(round, times).flatten());
     records
+}
+
+/// 64 entries wait, each on sixteen ranges: one of 64 that never hold and then fifteen times one that is
+/// decided to hold, drawn and taken back.
+fn draws_of_a_deep_condition() -> Vec<Record> {
+    let mut records = vec![Record::Name { flags: 1 }; 2];
+    records.extend(repeat_n(part(0, 0), 64));
+    records.push(part(1, 0));
+    records.extend(repeat_n(Record::Range { name: 0 }, 64));
+    records.push(Record::Range { name: 1 });
+    records.extend((0..=64).map(|at| Record::Member { range: at, part: at }));
+    let (joined, one_of_each) = or_of_all(0..64, 1);
+    records.extend(joined);
+    let (joined, leaf) = (one_of_each.start, one_of_each.end);
+    records.push(Record::Leaf { range: 64 });
+    let and = |left| Record::Joined { operator: 0, left, right: leaf };
+    records.push(and(joined));
+    let condition = leaf + 15;
+    records.extend((leaf + 1..condition).map(and));
+    // The part of the last range gets variable 1.
+    records.push(requirement(ROOT, 64));
+    records.push(Record::Requirement { owner: ROOT, form: 0, number: 64, condition });
+    records.extend(run_of_root());
+    let decide = Record::Decide { variable: 1, value: 1, level: 1 };
+    filled_up(records, vec![decide, Record::Draw { condition }, Record::Undo { level: 0 }])
 }
