@@ -1,28 +1,32 @@
--- The disjuncts of a condition are judged: a flag for each, and a verdict for each range that was asked.
+-- Conditions are worked out one by one, halves first, and ranges asked once: the verdicts of each are right. And the flags that come of them.
 use mathlib.Core.Path.{_≡_, refl, sym, _∙_, ap}
 use mathlib.Core.Bool.{Bool, true, false, not, _&&_}
-use mathlib.Core.List.{List, []}
-use Prim.Native.Nat.{ℕ, _+_, _*_, _^_, _<_, _≤_, zero-le}
-use native.Mathlib.Omega.{arith}
+use mathlib.Core.List.{List, [], _∷_, _++_}
+use Prim.Native.Nat.{ℕ, _+_, _-_, _*_, _/_, _%_, _<_, _≤_, max, zero-le}
+use native.Mathlib.Nat.{div-add-mod', div-lt-iff-lt-mul, mod-lt}
 use native.Mathlib.Decide.{decLt}
+use native.Mathlib.Omega.{arith}
 use lib.Dec.{eqb}
 use lib.ListN.{length, getD, set, replicate, length-set, getD-replicate, length-replicate, List·getD-eq-default}
 use lib.Seq.{set-out, getD-set-same, getD-set-other}
 use borrow.Author.Tests.{eqb-true, eqb-false}
 use Rattle.rules.specs.Lists.{any, all}
-use Rattle.rules.specs.Catalogue.{Catalogue}
+use Rattle.rules.specs.Catalogue.{Catalogue, Operator, and, or, joined, noCondition}
 use Rattle.rules.specs.Catalogue as rules
 use Rattle.rules.specs.Candidates.{matching}
-use Rattle.rules.specs.Conditions.{disjuncts}
+use Rattle.rules.specs.Conditions.{Disjunct, combined, disjuncts}
+use Rattle.rules.specs.Items.{operatorOf}
 use Rattle.rules.specs.Opening.{holdsNow}
 use Rattle.rules.proofs.Bools.{by-cases}
+use Rattle.rules.proofs.DisjunctLaws.{disjuncts-leaf, disjuncts-joined, length-or, length-and, or-left, or-right, and-at}
 use Rattle.tables.specs.declared.Counts.{Counts}
-use Rattle.tables.specs.Tables.{tables}
+use Rattle.tables.specs.declared.Condition as table
+use Rattle.tables.specs.Tables.{tables, conditionIs}
 use Rattle.tables.proofs.Laws.{conditions-counted}
-use Rattle.conditions.specs.declared.Source.{Source}
-use Rattle.conditions.specs.declared.Source.the-variants.{Range, Half, Halves}
-use Rattle.conditions.specs.Sizes.{Counted, worked, Before, From}
+use Rattle.conditions.specs.Sizes.{Allowed, Earlier, Counted}
+use Rattle.conditions.proofs.Sizing.{row-leaf, row-joined, and-when, or-when}
 use Rattle.cache.specs.Areas.{catalogue}
+use Rattle.cache.proofs.Laws.{ranges-held, conditions-held, conditions-same}
 use Rattle.state.specs.declared.Limits.{Limits}
 use Rattle.state.specs.Layout.{held, Fits}
 use Rattle.variable_map.specs.Mapping.{variables, Mapped}
@@ -31,23 +35,17 @@ use Rattle.entries.specs.Deferred.{flagOf, isFree, isHeld}
 use Rattle.encoder.specs.declared.Counters.{Counters}
 use Rattle.goals.specs.Goals.{Catalogued, trueOf}
 use Rattle.goals.proofs.Parts.{all-both}
-use Rattle.judging.specs.Judging.{verdictOf, Verdicts, Answers, DisjunctVerdicts, AsksDisjunct, AnswersDisjunct, Judged}
+use Rattle.judging.specs.Judging.{verdictOf, Apart, Rows, Either, Verdicts, AsksRange, RangeAsked, Asks, WorkedOut, Flags, Judged}
 
--- ---- lists of zeros, and reading and writing past the end
+-- ---- lists of zeros, and writing past the end
 
 pub zeros : (n i : ℕ) → _≡_ {A = ℕ} (getD (replicate n 0) i 0) 0
 zeros n i = elim (decLt i n) [ yes h ↦ getD-replicate n i 0 0 h | no h ↦ List·getD-eq-default (replicate n 0) 0 (omega (arith, length-replicate {A = ℕ} n 0)) ]
 
-pub none-past : (vs : List ℕ) (r : ℕ) → length vs ≤ r → 0 ≡ getD vs r 0
-none-past vs r h = sym (List·getD-eq-default vs 0 h)
-
 pub set-past : (vs : List ℕ) (r x : ℕ) → length vs ≤ r → vs ≡ set vs r x
 set-past vs r x h = sym (set-out vs r x h)
 
-pub set-as : (vs : List ℕ) (r x y : ℕ) → x ≡ y → set vs r x ≡ set vs r y
-set-as vs r x y e = ap (set vs r) e
-
--- ---- one range: was it asked, and does it hold?
+-- ---- verdicts
 
 pub verdict-holds : (b : Bool) → b ≡ true → 1 ≡ verdictOf b
 unfolding verdictOf
@@ -57,90 +55,107 @@ pub verdict-fails : (b : Bool) → b ≡ false → 2 ≡ verdictOf b
 unfolding verdictOf
 verdict-fails b e = rw e
 
--- a verdict says what it was made of, and none is 0
-verdict-same : (a b : Bool) → verdictOf a ≡ verdictOf b → b ≡ a
+verdict-some : (b : Bool) → 1 ≤ verdictOf b
 unfolding verdictOf
-verdict-same true true e = refl
-verdict-same true false e = let no : ⊥ = omega (arith, e) in absurd no
-verdict-same false true e = let no : ⊥ = omega (arith, e) in absurd no
-verdict-same false false e = refl
+verdict-some true = omega arith
+verdict-some false = omega arith
 
-verdict-some : (b : Bool) → 0 ≡ verdictOf b → ⊥
+verdict-both : (a b : Bool) → max (verdictOf a) (verdictOf b) ≡ verdictOf (a && b)
 unfolding verdictOf
-verdict-some true e = omega (arith, e)
-verdict-some false e = omega (arith, e)
+verdict-both true true = refl
+verdict-both true false = refl
+verdict-both false true = refl
+verdict-both false false = refl
 
--- what is read where a verdict was kept is that verdict
-kept-says : (vs : List ℕ) (r : ℕ) (a b : Bool) → getD (set vs r (verdictOf b)) r 0 ≡ verdictOf a → a ≡ b
-kept-says vs r a b z =
-    elim (decLt r (length vs)) [
-      | yes h ↦ verdict-same b a (sym (getD-set-same vs r (verdictOf b) 0 h) ∙ z)
-      | no h ↦ absurd (verdict-some a (sym (List·getD-eq-default (set vs r (verdictOf b)) 0 (omega (arith, length-set vs r (verdictOf b)))) ∙ z))
-    ]
+verdict-is : (b : Bool) → eqb (verdictOf b) 1 ≡ b
+unfolding verdictOf
+verdict-is true = refl
+verdict-is false = refl
 
-module _ (c : Catalogue) (f : ℕ → Bool) where
-  pub verdicts-none : {vs : List ℕ} (n : ℕ) → vs ≡ replicate n 0 → Verdicts c f vs
-  verdicts-none n e = rw e (record { is = λ r b q. absurd (verdict-some b (sym (zeros n r) ∙ q)) })
+-- ---- one condition more is worked out
 
-module _ {c : Catalogue} {f : ℕ → Bool} {vs : List ℕ} (k : Verdicts c f vs) (r : ℕ) where
-  pub answer-holds : {v : ℕ} → v ≡ getD vs r 0 → v ≡ 1 → Answers c f (any f (matching c r)) true vs
-  answer-holds e q = record { is = k .is r true (sym e ∙ (q ∙ unfold verdictOf in refl)); kept = k }
-
-  pub answer-fails : {v : ℕ} → v ≡ getD vs r 0 → v ≡ 2 → Answers c f (any f (matching c r)) false vs
-  answer-fails e q = record { is = k .is r false (sym e ∙ (q ∙ unfold verdictOf in refl)); kept = k }
-
-  pub answer-new : {b : Bool} {vs′ : List ℕ} → b ≡ any f (matching c r) → vs′ ≡ set vs r (verdictOf b) → Answers c f (any f (matching c r)) b vs′
-  answer-new {b} {vs′} e q = rw q (record { is = e; kept = record { is = right } })
-    where
-      right : (i : ℕ) (a : Bool) → getD (set vs r (verdictOf b)) i 0 ≡ verdictOf a → a ≡ any f (matching c i)
-      right i a z =
-          by-cases (eqb i r) (λ p. rw (eqb-true i r p) (kept-says vs r a b (rw (eqb-true i r p) at z) ∙ e))
-          (λ p. k .is i a (rw (getD-set-other vs r i (verdictOf b) 0 (eqb-false i r p)) at z))
-
--- ---- one disjunct: was it asked, and does it hold?
-
-module _ {k : Counts} {m u t : List ℕ} {l : Limits} {n : Counters} {s vs js : List ℕ} {x i : ℕ} (q : AsksDisjunct k m u t l n s vs js x i) where
-  asks-few : i < 64
-  asks-few = let a = q .catalogued .kept .sized .allowed x (rw (conditions-counted k t) (q .given)) in omega (arith, a .most, q .there)
-
-  -- the place of its verdict is a number that fits
-  pub place-fits : x * 64 + i < 2 ^ 64
-  place-fits = omega (arith, asks-few, q .given, q .catalogued .kept .held .laid .conditions)
-
-  -- a disjunct of an earlier condition
-  asked-before : {h j : ℕ} {vs′ js′ : List ℕ} → Before (tables k t .conditions) x h j
-      → Verdicts (catalogue k m u t) (trueOf (variables (n .variables) (held l s)) (decisions (n .decisions) (held l s))) vs′
-      → DisjunctVerdicts (catalogue k m u t) (tables k t .conditions) (trueOf (variables (n .variables) (held l s)) (decisions (n .decisions) (held l s))) js′
-      → AsksDisjunct k m u t l n s vs′ js′ h j
-  asked-before b v d =
-      record {
-        catalogued = q .catalogued;
-        fits = q .fits;
-        mapped = q .mapped;
-        kept = q .kept;
-        ranges = v;
-        judged = d;
-        given = omega (arith, b .earlier, q .given);
-        there = b .there;
-      }
+-- the verdicts of condition x are put in ws, and the others are those of vs
+record Filled (c : Catalogue) (cs : List rules.Condition) (f : ℕ → Bool) (x : ℕ) (vs ws : List ℕ) : Type 0 where
+  pub here : (i : ℕ) → i < length (disjuncts cs x) → getD ws (x * 64 + i) 0 ≡ verdictOf (holdsNow c f (getD (disjuncts cs x) i []))
+  pub early : (p : ℕ) → p < x * 64 → getD ws p 0 ≡ getD vs p 0
+  pub late : (p : ℕ) → x * 64 + length (disjuncts cs x) ≤ p → getD ws p 0 ≡ getD vs p 0
 
 module _ {c : Catalogue} {cs : List rules.Condition} {f : ℕ → Bool} where
-  pub disjuncts-none : {js : List ℕ} (n : ℕ) → js ≡ replicate n 0 → DisjunctVerdicts c cs f js
-  disjuncts-none n e = rw e (record { is = λ x i b l q. absurd (verdict-some b (sym (zeros n (x * 64 + i)) ∙ q)) })
-
-  -- the verdict of disjunct i of condition x is kept
-  disjunct-kept : {js : List ℕ} (x i : ℕ) {b : Bool} → DisjunctVerdicts c cs f js → i < 64 → b ≡ holdsNow c f (getD (disjuncts cs x) i [])
-      → DisjunctVerdicts c cs f (set js (x * 64 + i) (verdictOf b))
-  disjunct-kept {js} x i {b} k l e = record { is = right }
+  filled-works : {x : ℕ} {vs ws : List ℕ} → x < 256 → Allowed (disjuncts cs x) → Verdicts c cs f vs → Filled c cs f x vs ws → WorkedOut c cs f x vs ws
+  filled-works {x} {vs} {ws} b a v g = record { right = record { is = right; ranges = ranges }; known = known; still = still }
     where
-      here : (y j : ℕ) (a : Bool) → y ≡ x → j ≡ i → getD (set js (x * 64 + i) (verdictOf b)) (x * 64 + i) 0 ≡ verdictOf a → a ≡ holdsNow c f (getD (disjuncts cs y) j [])
-      here y j a p q z = rw (p, q) (kept-says js (x * 64 + i) a b z ∙ e)
+      known : 1 ≤ getD ws (x * 64) 0
+      known =
+          let e : x * 64 + 0 ≡ x * 64 = omega arith in
+          let q = rw e at (g .here 0 (a .some)) in
+          omega (arith, q, verdict-some (holdsNow c f (getD (disjuncts cs x) 0 [])))
 
-      right : (y j : ℕ) (a : Bool) → j < 64 → getD (set js (x * 64 + i) (verdictOf b)) (y * 64 + j) 0 ≡ verdictOf a → a ≡ holdsNow c f (getD (disjuncts cs y) j [])
-      right y j a v z =
-          by-cases (eqb (y * 64 + j) (x * 64 + i))
-          (λ p. let q = eqb-true (y * 64 + j) (x * 64 + i) p in here y j a (omega (arith, q)) (omega (arith, q)) (rw q at z))
-          (λ p. k .is y j a v (rw (getD-set-other js (x * 64 + i) (y * 64 + j) (verdictOf b) 0 (eqb-false (y * 64 + j) (x * 64 + i) p)) at z))
+      -- those of another condition
+      other : (y i : ℕ) → (y ≡ x → ⊥) → i < 64 → getD ws (y * 64 + i) 0 ≡ getD vs (y * 64 + i) 0
+      other y i n h = elim (decLt y x) [
+        | yes l ↦ g .early (y * 64 + i) (omega arith)
+        | no l ↦ g .late (y * 64 + i) (omega (arith, n, a .most))
+      ]
+
+      first : (y : ℕ) → (y ≡ x → ⊥) → getD ws (y * 64) 0 ≡ getD vs (y * 64) 0
+      first y n = let e : y * 64 + 0 ≡ y * 64 = omega arith in rw e at (other y 0 n (omega arith))
+
+      still : (y : ℕ) → y < 256 → 1 ≤ getD vs (y * 64) 0 → 1 ≤ getD ws (y * 64) 0
+      still y k h = by-cases (eqb y x) (λ p. rw (eqb-true y x p) known) (λ p. rw (first y (eqb-false y x p)) h)
+
+      right : (y i : ℕ) → y < 256 → 1 ≤ getD ws (y * 64) 0 → i < 64 → i < length (disjuncts cs y) → getD ws (y * 64 + i) 0 ≡ verdictOf (holdsNow c f (getD (disjuncts cs y) i []))
+      right y i k h l m =
+          by-cases (eqb y x) (λ p. let e = eqb-true y x p in rw e (g .here i (rw e at m)))
+          (λ p. let n = eqb-false y x p in other y i n l ∙ v .is y i k (rw (first y n) at h) l m)
+
+      ranges : (r : ℕ) → 1 ≤ getD ws (16384 + r) 0 → getD ws (16384 + r) 0 ≡ verdictOf (any f (matching c r))
+      ranges r h = let e = g .late (16384 + r) (omega (arith, a .most)) in e ∙ v .ranges r (rw e at h)
+
+  -- after others
+  works-then : {x y : ℕ} {vs ws us : List ℕ} → WorkedOut c cs f y vs ws → WorkedOut c cs f x ws us → WorkedOut c cs f x vs us
+  works-then a b = record { right = b .right; known = b .known; still = λ z k h. b .still z k (a .still z k h) }
+
+  -- the verdicts of a condition that was worked out
+  pub works-known : {x : ℕ} {vs : List ℕ} → Verdicts c cs f vs → (getD vs (x * 64) 0 ≡ 0 → ⊥) → WorkedOut c cs f x vs vs
+  works-known v h = record { right = v; known = omega (arith, h); still = λ y k q. q }
+
+  -- the verdict of range r, which was asked
+  pub range-known : {vs : List ℕ} (r : ℕ) → Verdicts c cs f vs → (getD vs (16384 + r) 0 ≡ 0 → ⊥) → RangeAsked c cs f r (getD vs (16384 + r) 0) vs vs
+  range-known r v h = record { is = v .ranges r (omega (arith, h)); right = v; still = λ y k q. q }
+
+  -- or which is kept now
+  pub range-new : {vs : List ℕ} (r : ℕ) {b : Bool} {v : ℕ} → Verdicts c cs f vs → b ≡ any f (matching c r) → v ≡ verdictOf b
+      → RangeAsked c cs f r v vs (set vs (16384 + r) v)
+  range-new {vs} r {b} {v} g d e =
+      record { is = e ∙ ap verdictOf d; right = record { is = is; ranges = ranges }; still = λ y k h. rw (other (y * 64) (omega arith)) h }
+    where
+      other : (p : ℕ) → p < 16384 → getD (set vs (16384 + r) v) p 0 ≡ getD vs p 0
+      other p h = getD-set-other vs (16384 + r) p v 0 (λ z. omega arith)
+
+      is : (x i : ℕ) → x < 256 → 1 ≤ getD (set vs (16384 + r) v) (x * 64) 0 → i < 64 → i < length (disjuncts cs x)
+          → getD (set vs (16384 + r) v) (x * 64 + i) 0 ≡ verdictOf (holdsNow c f (getD (disjuncts cs x) i []))
+      is x i k h l m = other (x * 64 + i) (omega arith) ∙ g .is x i k (rw (other (x * 64) (omega arith)) at h) l m
+
+      here : 1 ≤ getD (set vs (16384 + r) v) (16384 + r) 0 → getD (set vs (16384 + r) v) (16384 + r) 0 ≡ verdictOf (any f (matching c r))
+      here h = elim (decLt (16384 + r) (length vs)) [
+        | yes l ↦ getD-set-same vs (16384 + r) v 0 l ∙ (e ∙ ap verdictOf d)
+        | no l ↦
+            let none : getD (set vs (16384 + r) v) (16384 + r) 0 ≡ 0 = List·getD-eq-default (set vs (16384 + r) v) 0 (omega (arith, length-set vs (16384 + r) v)) in
+            let no : ⊥ = omega (arith, none) in
+            absurd no
+      ]
+
+      ranges : (j : ℕ) → 1 ≤ getD (set vs (16384 + r) v) (16384 + j) 0 → getD (set vs (16384 + r) v) (16384 + j) 0 ≡ verdictOf (any f (matching c j))
+      ranges j h =
+          by-cases (eqb j r) (λ p. let q = eqb-true j r p in rw q (here (rw q at h)))
+          (λ p. let n = eqb-false j r p in let o = getD-set-other vs (16384 + r) (16384 + j) v 0 (λ z. n (omega arith)) in o ∙ g .ranges j (rw o at h))
+
+  -- no condition is worked out
+  verdicts-none : {vs : List ℕ} (n : ℕ) → vs ≡ replicate n 0 → Verdicts c cs f vs
+  verdicts-none n e = rw e (record {
+    is = λ x i k h l m. let no : ⊥ = omega (arith, zeros n (x * 64)) in absurd no;
+    ranges = λ r h. let no : ⊥ = omega (arith, zeros n (16384 + r)) in absurd no;
+  })
 
 alone : (b : Bool) → b ≡ (b && true)
 alone true = refl
@@ -156,71 +171,175 @@ module _ (k : Counts) (m u t : List ℕ) (l : Limits) (n : Counters) (s : List �
   abbrev f : ℕ → Bool
   f = trueOf (variables (n .variables) (held l s)) (decisions (n .decisions) (held l s))
 
-  module _ {vs₀ js₀ : List ℕ} {x i : ℕ} (q : AsksDisjunct k m u t l n s vs₀ js₀ x i) where
-    -- its verdict was kept
-    module _ {v : ℕ} (e : v ≡ getD js₀ (x * 64 + i) 0) where
-      pub known-holds : v ≡ 1 → AnswersDisjunct C cs f x i true vs₀ js₀
-      known-holds z = record { is = q .judged .is x i true (asks-few q) (sym e ∙ (z ∙ unfold verdictOf in refl)); ranges = q .ranges; judged = q .judged }
+  module _ {vs : List ℕ} {x : ℕ} (q : Asks k m u t l n s vs x) where
+    x-allowed : Allowed (disjuncts cs x)
+    x-allowed = q .catalogued .kept .sized .allowed x (rw (conditions-counted k t) (q .given))
 
-      pub known-fails : v ≡ 2 → AnswersDisjunct C cs f x i false vs₀ js₀
-      known-fails z = record { is = q .judged .is x i false (asks-few q) (sym e ∙ (z ∙ unfold verdictOf in refl)); ranges = q .ranges; judged = q .judged }
+    x-low : x < 256
+    x-low = omega (arith, q .given, q .catalogued .kept .held .laid .conditions)
 
-    -- it is one range, or a disjunct of one half, or one of each
-    module _ {o : Source} (from : From cs x i o) where
-      pub tell-range : (r : ℕ) {b : Bool} {vs : List ℕ} → o ≡ Range r → Answers C f (any f (matching C r)) b vs → AnswersDisjunct C cs f x i b vs js₀
-      unfolding worked holdsNow all
-      tell-range r {b} e a = record { is = rw (from .is, e) (a .is ∙ alone (any f (matching C r))); ranges = a .kept; judged = q .judged }
+    -- its verdicts have places
+    pub place-there : x * 64 + 64 ≤ length vs
+    place-there = omega (arith, q .room, q .given, q .catalogued .kept .held .laid .conditions)
 
-      module _ (h j : ℕ) (e : o ≡ Half h j) where
-        half-before : Before cs x h j
-        half-before = let z = from .before in rw e at z
+    module _ (it : table.Condition) (e : conditionIs it ≡ getD cs x noCondition) where
+      -- a leaf
+      module _ (z : it .operator ≡ 2) where
+        leaf-row : getD cs x noCondition ≡ rules.leaf (it .left)
+        leaf-row = sym e ∙ row-leaf it z
 
-        pub half-falls : (z : ℕ) → x ≡ z → h < z
-        half-falls z p = omega (arith, half-before .earlier)
+        pub range-asked : AsksRange k m u t l n s vs (it .left)
+        range-asked =
+            let p = q .catalogued .formed .conditions x (rw (conditions-held k m u t) (q .given)) in
+            let g : it .left < length (C .ranges) = rw (conditions-same k m u t, leaf-row) at p in
+            record {
+              catalogued = q .catalogued;
+              fits = q .fits;
+              mapped = q .mapped;
+              kept = q .kept;
+              room = q .room;
+              right = q .right;
+              given = omega (arith, g, ranges-held k m u t, q .catalogued .kept .held .laid .ranges);
+            }
 
-        pub half-asked : AsksDisjunct k m u t l n s vs₀ js₀ h j
-        half-asked = asked-before q half-before (q .ranges) (q .judged)
-
-        pub tell-half : {b : Bool} {vs js js′ : List ℕ} → AnswersDisjunct C cs f h j b vs js → js′ ≡ set js (x * 64 + i) (verdictOf b)
-            → AnswersDisjunct C cs f x i b vs js′
-        tell-half {b} a z = rw z (record { is = is; ranges = a .ranges; judged = disjunct-kept x i (a .judged) (asks-few q) is })
+        pub leaf-works : {v : ℕ} {vs₁ : List ℕ} → RangeAsked C cs f (it .left) v vs vs₁ → length vs₁ ≡ length vs → WorkedOut C cs f x vs (set vs₁ (x * 64) v)
+        unfolding holdsNow all
+        leaf-works {v} {vs₁} d y =
+            let w = filled-works x-low x-allowed (d .right) (record { here = here; early = early; late = late }) in
+            record { right = w .right; known = w .known; still = λ j b h. w .still j b (d .still j b h) }
           where
-            is : b ≡ holdsNow C f (getD (disjuncts cs x) i [])
-            is = unfold worked in rw (from .is, e) (a .is)
+            one : disjuncts cs x ≡ (it .left ∷ []) ∷ []
+            one = disjuncts-leaf cs x (it .left) leaf-row
 
-      module _ (left first right second : ℕ) (e : o ≡ Halves left first right second) where
-        halves-before : Before cs x left first × Before cs x right second
-        halves-before = let z = from .before in rw e at z
+            here : (i : ℕ) → i < length (disjuncts cs x) → getD (set vs₁ (x * 64) v) (x * 64 + i) 0 ≡ verdictOf (holdsNow C f (getD (disjuncts cs x) i []))
+            here i h =
+                let p : i < 1 = rw one at h in
+                let i0 : i ≡ 0 = omega arith in
+                let e0 : x * 64 + 0 ≡ x * 64 = omega arith in
+                rw (i0, one, e0) (getD-set-same vs₁ (x * 64) v 0 (omega (arith, place-there, y)) ∙ (d .is ∙ ap verdictOf (alone (any f (matching C (it .left))))))
 
-        pub left-falls : (z : ℕ) → x ≡ z → left < z
-        left-falls z p = omega (arith, halves-before .0 .earlier)
+            early : (p : ℕ) → p < x * 64 → getD (set vs₁ (x * 64) v) p 0 ≡ getD vs₁ p 0
+            early p h = getD-set-other vs₁ (x * 64) p v 0 (λ z. omega arith)
 
-        pub right-falls : (z : ℕ) → x ≡ z → right < z
-        right-falls z p = omega (arith, halves-before .1 .earlier)
+            late : (p : ℕ) → x * 64 + length (disjuncts cs x) ≤ p → getD (set vs₁ (x * 64) v) p 0 ≡ getD vs₁ p 0
+            late p h = getD-set-other vs₁ (x * 64) p v 0 (λ z. omega (arith, x-allowed .some))
 
-        pub left-asked : AsksDisjunct k m u t l n s vs₀ js₀ left first
-        left-asked = asked-before q (halves-before .0) (q .ranges) (q .judged)
+      -- a joined condition
+      module _ (z : it .operator ≡ 2 → ⊥) where
+        halves : Earlier x (joined (operatorOf (it .operator)) (it .left) (it .right))
+        halves =
+            let p = q .catalogued .kept .sized .earlier x (rw (conditions-counted k t) (q .given)) in
+            rw (sym e ∙ row-joined it z) at p
 
-        module _ {b : Bool} {vs js : List ℕ} (a : AnswersDisjunct C cs f left first b vs js) where
-          pub right-asked : AsksDisjunct k m u t l n s vs js right second
-          right-asked = asked-before q (halves-before .1) (a .ranges) (a .judged)
+        pub left-falls : (y : ℕ) → x ≡ y → it .left < y
+        left-falls y p = omega (arith, halves .0)
 
-          halves-hold : holdsNow C f (getD (disjuncts cs x) i []) ≡ (b && holdsNow C f (getD (disjuncts cs right) second []))
-          unfolding worked holdsNow
-          halves-hold = rw (from .is, e, a .is) (all-both (λ r. any f (matching C r)) (getD (disjuncts cs left) first []) (getD (disjuncts cs right) second []))
+        pub right-falls : (y : ℕ) → x ≡ y → it .right < y
+        right-falls y p = omega (arith, halves .1)
 
-          pub tell-both : {b′ : Bool} {vs′ js′ js″ : List ℕ} → b ≡ true → AnswersDisjunct C cs f right second b′ vs′ js′
-              → js″ ≡ set js′ (x * 64 + i) (verdictOf b′) → AnswersDisjunct C cs f x i b′ vs′ js″
-          tell-both {b′} p a′ z = rw z (record { is = is; ranges = a′ .ranges; judged = disjunct-kept x i (a′ .judged) (asks-few q) is })
-            where
-              is : b′ ≡ holdsNow C f (getD (disjuncts cs x) i [])
-              is = a′ .is ∙ sym (rw p at halves-hold)
+        pub left-given : it .left < k .conditions
+        left-given = omega (arith, halves .0, q .given)
 
-          pub tell-fails : {js′ : List ℕ} → b ≡ false → js′ ≡ set js (x * 64 + i) (verdictOf false) → AnswersDisjunct C cs f x i false vs js′
-          tell-fails p z = rw z (record { is = is; ranges = a .ranges; judged = disjunct-kept x i (a .judged) (asks-few q) is })
-            where
-              is : false ≡ holdsNow C f (getD (disjuncts cs x) i [])
-              is = sym (rw p at halves-hold)
+        pub right-given : it .right < k .conditions
+        right-given = omega (arith, halves .1, q .given)
+
+        left-low : it .left < 256
+        left-low = omega (arith, halves .0, x-low)
+
+        right-low : it .right < 256
+        right-low = omega (arith, halves .1, x-low)
+
+        pub left-asked : Asks k m u t l n s vs (it .left)
+        left-asked = record { catalogued = q .catalogued; fits = q .fits; mapped = q .mapped; kept = q .kept; room = q .room; right = q .right; given = left-given }
+
+        all-of : (o : Operator) → operatorOf (it .operator) ≡ o → disjuncts cs x ≡ combined o (disjuncts cs (it .left)) (disjuncts cs (it .right))
+        all-of o p = disjuncts-joined cs x o (it .left) (it .right) (sym e ∙ row-joined it z ∙ rw p) (halves .0) (halves .1)
+
+        module _ {vs₁ : List ℕ} (a : WorkedOut C cs f (it .left) vs vs₁) (la : length vs₁ ≡ length vs) where
+          pub right-asked : Asks k m u t l n s vs₁ (it .right)
+          right-asked = record { catalogued = q .catalogued; fits = q .fits; mapped = q .mapped; kept = q .kept; room = la ∙ q .room; right = a .right; given = right-given }
+
+          module _ {vs₂ : List ℕ} (b : WorkedOut C cs f (it .right) vs₁ vs₂) (lb : length vs₂ ≡ length vs₁)
+              {first second : ℕ} (p : Counted cs (it .left) first) (r : Counted cs (it .right) second) where
+            abbrev ls : List Disjunct
+            ls = disjuncts cs (it .left)
+
+            abbrev rs : List Disjunct
+            rs = disjuncts cs (it .right)
+
+            left-is : (i : ℕ) → i < first → getD vs₂ (it .left * 64 + i) 0 ≡ verdictOf (holdsNow C f (getD ls i []))
+            left-is i h = b .right .is (it .left) i left-low (b .still (it .left) left-low (a .known)) (omega (arith, p .most)) (omega (arith, p .is))
+
+            right-is : (i : ℕ) → i < second → getD vs₂ (it .right * 64 + i) 0 ≡ verdictOf (holdsNow C f (getD rs i []))
+            right-is i h = b .right .is (it .right) i right-low (b .known) (omega (arith, r .most)) (omega (arith, r .is))
+
+            joined-works : {ws : List ℕ} → Filled C cs f x vs₂ ws → WorkedOut C cs f x vs ws
+            joined-works g = works-then a (works-then b (filled-works x-low x-allowed (b .right) g))
+
+            module _ (o : it .operator ≡ 0) where
+              and-all : disjuncts cs x ≡ combined and ls rs
+              and-all = all-of and (and-when (it .operator) o)
+
+              and-count : length (disjuncts cs x) ≡ first * second
+              and-count = rw (and-all, p .is, r .is) (length-and ls rs)
+
+              pub and-apart : Apart (it .left * 64) first (it .right * 64) second (x * 64) (first * second) (length vs₂)
+              and-apart =
+                  record {
+                    ahead = omega (arith, halves .0, p .most);
+                    behind = omega (arith, halves .1, r .most);
+                    room = omega (arith, and-count, x-allowed .most, place-there, la, lb);
+                  }
+
+              pair-works : {ws : List ℕ} → Rows vs₂ (it .left * 64) (it .right * 64) second (x * 64) first ws → (i j : ℕ) → i < first → j < second
+                  → getD ws (x * 64 + (i * second + j)) 0 ≡ verdictOf (holdsNow C f (getD ls i [] ++ getD rs j []))
+              unfolding holdsNow
+              pair-works g i j h y =
+                  g .here i j h y ∙ rw (left-is i h, right-is j y)
+                  (verdict-both (holdsNow C f (getD ls i [])) (holdsNow C f (getD rs j [])) ∙ ap verdictOf (sym (all-both (λ d. any f (matching C d)) (getD ls i []) (getD rs j []))))
+
+              pub and-works : {ws : List ℕ} → Rows vs₂ (it .left * 64) (it .right * 64) second (x * 64) first ws → WorkedOut C cs f x vs ws
+              and-works {ws} g =
+                  joined-works (record { here = here; early = g .early; late = λ j h. g .late j (omega (arith, and-count)) })
+                where
+                  here : (i : ℕ) → i < length (disjuncts cs x) → getD ws (x * 64 + i) 0 ≡ verdictOf (holdsNow C f (getD (disjuncts cs x) i []))
+                  here i h =
+                      let there : i < first * second = rw and-count at h in
+                      let some : 0 < second = omega (arith, r .some) in
+                      let split : i / second * second + i % second ≡ i = div-add-mod' i second in
+                      let it-is = rw split at (pair-works g (i / second) (i % second) (div-lt-iff-lt-mul some .1 there) (mod-lt i some)) in
+                      let at : getD (disjuncts cs x) i [] ≡ getD ls (i / second) [] ++ getD rs (i % second) [] = rw (and-all, r .is) (and-at ls rs i (rw (p .is, r .is) at there)) in
+                      rw at it-is
+
+            module _ (o : it .operator ≡ 0 → ⊥) where
+              or-all : disjuncts cs x ≡ combined or ls rs
+              or-all = all-of or (or-when (it .operator) o)
+
+              or-count : length (disjuncts cs x) ≡ first + second
+              or-count = rw (or-all, p .is, r .is) (length-or ls rs)
+
+              pub or-apart : Apart (it .left * 64) first (it .right * 64) second (x * 64) (first + second) (length vs₂)
+              or-apart =
+                  record {
+                    ahead = omega (arith, halves .0, p .most);
+                    behind = omega (arith, halves .1, r .most);
+                    room = omega (arith, or-count, x-allowed .most, place-there, la, lb);
+                  }
+
+              pub or-works : {ws : List ℕ} → Either vs₂ (it .left * 64) first (it .right * 64) second (x * 64) ws → WorkedOut C cs f x vs ws
+              or-works {ws} g =
+                  joined-works (record { here = here; early = g .early; late = λ j h. g .late j (omega (arith, or-count)) })
+                where
+                  here : (i : ℕ) → i < length (disjuncts cs x) → getD ws (x * 64 + i) 0 ≡ verdictOf (holdsNow C f (getD (disjuncts cs x) i []))
+                  here i h = elim (decLt i first) [
+                    | yes y ↦ rw (or-all, or-left ls rs i (omega (arith, p .is))) (g .ahead i y ∙ left-is i y)
+                    | no y ↦
+                        let e : x * 64 + first + (i - first) ≡ x * 64 + i = omega arith in
+                        let past : length ls ≤ i = omega (arith, p .is) in
+                        let d : i - length ls ≡ i - first = rw (p .is) in
+                        let less : i - first < second = omega (arith, or-count) in
+                        rw (or-all, or-right ls rs i past, d) ((rw e at (g .behind (i - first) less)) ∙ right-is (i - first) less)
+                  ]
 
 -- ---- a flag for each disjunct
 
@@ -237,72 +356,46 @@ unfolding flagOf
 flag-is true x e = rw e
 flag-is false x e = rw e
 
--- those of the first i of n disjuncts
-pub record Judging (c : Catalogue) (cs : List rules.Condition) (f : ℕ → Bool) (k n i : ℕ) (vs js flags : List ℕ) : Type 0 where
-  pub verdicts : length vs ≡ 512
-  pub kept : Verdicts c f vs
-  pub judgements : length js ≡ 16384
-  pub kept-too : DisjunctVerdicts c cs f js
+-- those of the first i of n verdicts
+pub record FlagsSoFar (vs : List ℕ) (from n i : ℕ) (flags : List ℕ) : Type 0 where
   pub count : length flags ≡ 64
-  pub few : n ≤ 64
-  pub all : n ≡ length (disjuncts cs k)
   pub passed : i ≤ n
-  pub judged : (j : ℕ) → j < i → isHeld flags j ≡ holdsNow c f (getD (disjuncts cs k) j [])
+  pub flagged : Flags vs from i flags
 
-pub judging-start : {c : Catalogue} {f : ℕ → Bool} {cs : List rules.Condition} {k n : ℕ} {vs js flags : List ℕ} → vs ≡ replicate 512 0 → js ≡ replicate 16384 0
-    → length flags ≡ 64 → Counted cs k n → Judging c cs f k n 0 vs js flags
-judging-start {c} {f} z y e h =
-    record {
-      verdicts = ap length z ∙ length-replicate {A = ℕ} 512 0;
-      kept = verdicts-none c f 512 z;
-      judgements = ap length y ∙ length-replicate {A = ℕ} 16384 0;
-      kept-too = disjuncts-none 16384 y;
-      count = e;
-      few = h .most;
-      all = h .is;
-      passed = zero-le;
-      judged = λ j q. let no : ⊥ = omega arith in absurd no;
-    }
+pub flags-start : {vs flags : List ℕ} {from n : ℕ} → length flags ≡ 64 → FlagsSoFar vs from n 0 flags
+flags-start e = record { count = e; passed = zero-le; flagged = record { is = λ i h. let no : ⊥ = omega arith in absurd no } }
 
-module _ {c : Catalogue} {cs : List rules.Condition} {f : ℕ → Bool} {k n i : ℕ} {vs js flags : List ℕ} (r : Judging c cs f k n i vs js flags) where
-  pub judging-step : {b : Bool} {x : ℕ} {vs′ js′ : List ℕ} → i < n → AnswersDisjunct c cs f k i b vs′ js′ → length vs′ ≡ length vs → length js′ ≡ length js
-      → x ≡ flagOf b → Judging c cs f k n (i + 1) vs′ js′ (set flags i x)
+module _ {vs : List ℕ} {from n i : ℕ} {flags : List ℕ} (r : FlagsSoFar vs from n i flags) where
+  pub flags-step : {x : ℕ} → i < n → n ≤ 64 → x ≡ flagOf (eqb (getD vs (from + i) 0) 1) → FlagsSoFar vs from n (i + 1) (set flags i x)
   unfolding isHeld isFree
-  judging-step {b} {x} h t v w e =
-      record {
-        verdicts = v ∙ r .verdicts;
-        kept = t .ranges;
-        judgements = w ∙ r .judgements;
-        kept-too = t .judged;
-        count = length-set flags i x ∙ r .count;
-        few = r .few;
-        all = r .all;
-        passed = omega arith;
-        judged = λ j m. by-place j (eqb j i) refl m;
-      }
+  flags-step {x} h m e = record { count = length-set flags i x ∙ r .count; passed = omega arith; flagged = record { is = is } }
     where
-      by-place : (j : ℕ) (z : Bool) → eqb j i ≡ z → j < i + 1 → not (eqb (getD (set flags i x) j 0) 0) ≡ holdsNow c f (getD (disjuncts cs k) j [])
-      by-place j true q m = rw (eqb-true j i q, getD-set-same flags i x 0 (omega (arith, r .count, r .few))) (flag-is b x e ∙ t .is)
-      by-place j false q m = rw (getD-set-other flags i j x 0 (eqb-false j i q)) (r .judged j (omega (arith, eqb-false j i q)))
+      is : (j : ℕ) → j < i + 1 → not (eqb (getD (set flags i x) j 0) 0) ≡ eqb (getD vs (from + j) 0) 1
+      is j q =
+          by-cases (eqb j i)
+          (λ p. rw (eqb-true j i p, getD-set-same flags i x 0 (omega (arith, r .count))) (flag-is (eqb (getD vs (from + i) 0) 1) x e))
+          (λ p. let no = eqb-false j i p in rw (getD-set-other flags i j x 0 no) (r .flagged .is j (omega (arith, no))))
 
-  pub judging-end : n ≤ i → Judged c f (disjuncts cs k) flags
-  judging-end h = record { is = λ j q. r .judged j (omega (arith, r .all)) }
+  pub flags-end : n ≤ i → Flags vs from n flags
+  flags-end h = let e : i ≡ n = omega (arith, r .passed) in rw e at (r .flagged)
 
-pub judging-asks : {k : Counts} {m u t : List ℕ} {l : Limits} {n : Counters} {s vs js flags : List ℕ} {x y i : ℕ}
-    → Judging (catalogue k m u t) (tables k t .conditions) (trueOf (variables (n .variables) (held l s)) (decisions (n .decisions) (held l s))) x y i vs js flags
-    → Catalogued k m u t → Fits l (length s) → Mapped l (n .variables) (held l s) → Kept l (n .decisions) (held l s) → x < k .conditions → i < y
-    → AsksDisjunct k m u t l n s vs js x i
-judging-asks r g f p d h e =
-    record {
-      catalogued = g;
-      fits = f;
-      mapped = p;
-      kept = d;
-      ranges = r .kept;
-      judged = r .kept-too;
-      given = h;
-      there = omega (arith, r .all);
-    }
+-- ---- the disjuncts of condition x
+
+pub asked-first : {k : Counts} {m u t : List ℕ} {l : Limits} {n : Counters} {s vs : List ℕ} {x : ℕ} → Catalogued k m u t → Fits l (length s)
+    → Mapped l (n .variables) (held l s) → Kept l (n .decisions) (held l s) → x < k .conditions → vs ≡ replicate 16896 0 → Asks k m u t l n s vs x
+asked-first g f p d h e =
+    record { catalogued = g; fits = f; mapped = p; kept = d; room = ap length e ∙ length-replicate {A = ℕ} 16896 0; right = verdicts-none 16896 e; given = h }
+
+pub flags-judge : {k : Counts} {m u t : List ℕ} {f : ℕ → Bool} {x n : ℕ} {vs ws flags : List ℕ} → Catalogued k m u t → x < k .conditions
+    → Counted (tables k t .conditions) x n → WorkedOut (catalogue k m u t) (tables k t .conditions) f x vs ws → Flags ws (x * 64) n flags
+    → Judged (catalogue k m u t) f (disjuncts (tables k t .conditions) x) flags
+flags-judge {k} {m} {u} {t} {f} {x} {flags = flags} g b h w r = record { is = is }
+  where
+    is : (i : ℕ) → i < length (disjuncts (tables k t .conditions) x) → isHeld flags i ≡ holdsNow (catalogue k m u t) f (getD (disjuncts (tables k t .conditions) x) i [])
+    is i l =
+        let low : x < 256 = omega (arith, b, g .kept .held .laid .conditions) in
+        r .is i (omega (arith, h .is)) ∙ rw (w .right .is x i low (w .known) (omega (arith, h .is, h .most)) l)
+        (verdict-is (holdsNow (catalogue k m u t) f (getD (disjuncts (tables k t .conditions) x) i [])))
 
 -- ---- one disjunct alone
 
