@@ -333,7 +333,7 @@ fn handle_unconditional(
     add_through_gate(marks, unions, t, k, s, clauses, l, n, r, q, ranges)
 }
 
-// Its goal's ranges being at hand. Of candidates that are known to be settled the first of each range is named.
+// Its goal's ranges being at hand. Of candidates that are known to be settled one of each name is named.
 fn handle(
     marks: &[u8],
     unions: &[u8],
