@@ -1,14 +1,12 @@
--- What has variables: after the candidates are named the owner and the candidates, after the fired disjuncts are named all that those name; and
--- what has a variable keeps it.
+-- What has variables: after the candidates are named the owner and the candidates, after the fired disjuncts are named all that those name.
 use mathlib.Core.Path.{_≡_, refl}
 use mathlib.Core.Bool.{Bool, true, false, true≢false, false≢true}
 use mathlib.Core.List.{List, [], _∷_, map, List·Memᴰ·head, List·Memᴰ·tail}
 use mathlib.Core.Option.{Option, none, some}
-use Prim.Native.Nat.{ℕ, _<_}
+use Prim.Native.Nat.{ℕ}
 use lib.Dec.{ltb}
-use lib.ListN.{length, getD}
-use Rattle.rules.specs.Lists.{fold, when, concatMap, distinct}
-use Rattle.rules.specs.Clause.{Clause}
+use lib.ListN.{length}
+use Rattle.rules.specs.Lists.{fold, concatMap, distinct}
 use Rattle.rules.specs.Catalogue.{Owner, root, part, Catalogue, ownerAt, goalAt, conditionAt}
 use Rattle.rules.specs.Candidates.{sorted, goalRanges, candidates}
 use Rattle.rules.specs.Conditions.{isNone, disjunctAt, unconditional}
@@ -16,27 +14,21 @@ use Rattle.rules.specs.Variables.{Origin, chosen, one, known, withVariables, pa
 use Rattle.rules.specs.Encoding.{shapeBy, shape, shapeOf, disjunctOrigins}
 use Rattle.rules.specs.State.{State, Run}
 use Rattle.rules.specs.Called.{_∈_}
-use Rattle.rules.proofs.Each.{Each, each-imp, each-in, each-at}
+use Rattle.rules.proofs.Each.{each-in}
 use Rattle.rules.proofs.Membership.{map-in, concatMap-in, concatMap-out, distinct-in}
-use Rattle.rules.proofs.Grows.{Prefix, whole, withVariable-prefix, withVariables-prefix}
+use Rattle.rules.proofs.Grows.{withVariable-prefix}
 use Rattle.rules.proofs.Places.{keeps-variable, withVariable-known, withVariables-known}
-use Rattle.rules.proofs.Capped.{addVariable, addVariable-grows, addClause-grows}
-use Rattle.rules.proofs.ClauseByClause.{addClause}
-use Rattle.variable_map.specs.Mapping.{AllKnown}
+use Rattle.rules.proofs.Capped.{addVariable}
 use Rattle.parts.specs.declared.Naming.the-variants.{Candidate}
 use Rattle.parts.specs.Parts.{namingOf}
 use Rattle.naming.specs.Naming.{nameCandidates, nameDisjuncts}
 use Rattle.naming.specs.Settled.{AllSettled}
 use Rattle.naming.proofs.Settled.{first-variables}
-use Rattle.condition_literals.specs.Literals.{RangeKnown, DisjunctKnown, FiredKnown, Named}
-use Rattle.handling.specs.Handling.{addGate, addFired, addBy, addUnconditional, addAllFired}
+use Rattle.condition_literals.specs.Literals.{DisjunctKnown, FiredKnown, Named}
+use Rattle.handling.specs.Handling.{addBy, addUnconditional, addAllFired}
 use Rattle.handling.proofs.Handled.{candidates-named, disjuncts-named}
 
 -- ---- what is named is known
-
--- all these origins, after they were named
-pub each-known : (os vs : List Origin) → Each (λ o. known (withVariables os vs) o ≡ true) os
-each-known os vs = each-in os (λ o m. withVariables-known os vs o m)
 
 -- the owner and the candidates of requirement q
 candidates-known : (c : Catalogue) (q : ℕ) (s : State)
@@ -87,52 +79,6 @@ fired-known c q is s = rw (disjuncts-named c q is s) named
 
     named : FiredKnown c (withVariables (concatMap (of-disjunct c q) is) (s .variables)) q is
     named = record { known = each-in is at }
-
--- ---- and stays known
-
-module _ {vs ws : List Origin} (more : Prefix vs ws) where
-  pub known-stays : (o : Origin) → known vs o ≡ true → known ws o ≡ true
-  known-stays o e = keeps-variable more o e .0
-
-  pub range-stays : {c : Catalogue} {x : ℕ} → RangeKnown c vs x → RangeKnown c ws x
-  range-stays h = record { known = each-imp known-stays (h .known) }
-
-  pub disjunct-stays : {c : Catalogue} {d : List ℕ} → DisjunctKnown c vs d → DisjunctKnown c ws d
-  disjunct-stays h = record { known = each-imp known-stays (h .known) }
-
-  pub fired-stays : {c : Catalogue} {q : ℕ} {is : List ℕ} → FiredKnown c vs q is → FiredKnown c ws q is
-  fired-stays h = record { known = each-imp (λ i k. disjunct-stays k) (h .known) }
-
-  pub named-stays : {c : Catalogue} {q : ℕ} → Named c q vs → Named c q ws
-  named-stays {c} {q} h = record { owner = known-stays (chosen (ownerAt c q)) (h .owner); candidates = each-imp (λ p. known-stays (partOrigin p)) (h .candidates) }
-
-  pub parts-stay : {ps : List ℕ} → AllKnown vs ps → AllKnown ws ps
-  parts-stay h = record { known = each-imp (λ p. known-stays (partOrigin p)) (h .known) }
-
--- a variable or a clause more keeps the variables
-pub variable-keeps : (o : Origin) (s : State) → Prefix (s .variables) ((addVariable o s) .variables)
-variable-keeps o s = addVariable-grows o s .variables
-
-pub clause-keeps : (r : Run) (k : Clause) (s : State) → Prefix (s .variables) ((addClause r k s) .variables)
-clause-keeps r k s = addClause-grows r k s .variables
-
-module _ (c : Catalogue) (r : Run) (q : ℕ) where
-  pub fired-keeps : (i : ℕ) (s : State) → Prefix (s .variables) ((addFired c r q i s) .variables)
-  unfolding addFired
-  fired-keeps i s = clause-keeps r _ s
-
-  pub gate-keeps : (new : Bool) (s : State) → Prefix (s .variables) ((addGate c r q new s) .variables)
-  unfolding addGate when
-  gate-keeps true s = clause-keeps r _ s
-  gate-keeps false s = whole
-
-pub disjuncts-keep : (c : Catalogue) (q : ℕ) (is : List ℕ) (s : State) → Prefix (s .variables) ((nameDisjuncts c q is s) .variables)
-disjuncts-keep c q is s = rw (disjuncts-named c q is s) (withVariables-prefix (concatMap (λ i. disjunctOrigins c (disjunctAt c q i)) is) (s .variables))
-
--- ---- of a whole, of its parts
-
-pub fired-at : {c : Catalogue} {vs : List Origin} {q : ℕ} {is : List ℕ} → FiredKnown c vs q is → (j d : ℕ) → j < length is → DisjunctKnown c vs (disjunctAt c q (getD is j d))
-fired-at h j d l = each-at (h .known) j d l
 
 -- ---- with a condition or without
 

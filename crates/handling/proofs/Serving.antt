@@ -1,5 +1,5 @@
 -- A requirement's task: its goal's ranges are at hand while it is handled, and what was handled and fired is not kept.
-use mathlib.Core.Path.{_≡_, refl, sym, _∙_}
+use mathlib.Core.Path.{_≡_, refl}
 use mathlib.Core.Bool.{Bool, true, false}
 use mathlib.Core.List.{List, [], _∷_}
 use Prim.Native.Nat.{ℕ}
@@ -10,7 +10,6 @@ use Rattle.rules.specs.Candidates.{goalRanges}
 use Rattle.rules.specs.Variables.{chosen}
 use Rattle.rules.specs.Opening.{requirement}
 use Rattle.rules.specs.State.{State, Run}
-use Rattle.rules.proofs.Forgotten.{forget, serveTask-forgets}
 use Rattle.requirement.specs.declared.ConditionalRequirement.{ConditionalRequirement}
 use Rattle.requirement.specs.Requirements.{goalOf, requirementIs}
 use Rattle.tables.specs.declared.Counts.{Counts}
@@ -21,7 +20,7 @@ use Rattle.state.specs.Changed.{Changed}
 use Rattle.marked.specs.Marked.{Marked, Emptied}
 use Rattle.encoder.specs.declared.Counters.{Counters}
 use Rattle.encoder.specs.Held.{Reading, openingOf, stateOf}
-use Rattle.encoder.specs.Did.{Widens, ClausesDid}
+use Rattle.encoder.specs.Did.{ClausesDid}
 use Rattle.goals.specs.Goals.{Gathers}
 use Rattle.goals.proofs.Released.{did-released}
 use Rattle.owners.specs.Owners.{serving}
@@ -32,7 +31,6 @@ use Rattle.naming.proofs.Alike.{in-same}
 use Rattle.condition_literals.specs.Literals.{AtHand}
 use Rattle.handling.specs.Handling.{handled}
 use Rattle.handling.proofs.Handled.{handled-served}
-use Rattle.handling.proofs.Widening.{handled-widens}
 use Rattle.handling.proofs.Settled.{variable-settled}
 use Rattle.handling.proofs.Alike.{handled-alike}
 
@@ -46,21 +44,6 @@ gathered k m us t q it e g = record { marked = g .marked; is = rw (goal-is k m u
 -- ---- served
 
 module _ (c : Catalogue) (r : Run) (q : ℕ) (is : List ℕ) where
-  serving-forgot : (s : State) → serving c r (requirement q is) s ≡ handled c r q false is (forget s)
-  unfolding serving
-  serving-forgot s = serveTask-forgets c r (requirement q is) s ∙ sym (handled-served c r q is (forget s) refl refl)
-
-  pub serving-widens : (s : State) → Widens s (serving c r (requirement q is) s)
-  serving-widens s = rw (serving-forgot s) (from (handled-widens c r q false is (forget s)))
-    where
-      from : {u : State} → Widens (forget s) u → Widens s u
-      from w =
-          record {
-            grows = record { variables = w .grows .variables; clauses = w .grows .clauses; waiting = w .grows .waiting };
-            line = w .line;
-            several = w .several;
-          }
-
   module _ (l : Limits) (v : Reading) (n : Counters) (st : ℕ → List ℕ) (cl wt : List ℕ) where
     held-served : handled c r q false is (stateOf c l v n st cl wt) ≡ serving c r (requirement q is) (stateOf c l v n st cl wt)
     unfolding stateOf openingOf

@@ -1,6 +1,6 @@
 -- What a handled requirement does makes nothing that is counted less.
 use mathlib.Core.Bool.{Bool}
-use mathlib.Core.List.{List, []}
+use mathlib.Core.List.{List}
 use Prim.Native.Nat.{ℕ}
 use Rattle.rules.specs.Lists.{distinct}
 use Rattle.rules.specs.Catalogue.{Catalogue, ownerAt, goalAt}
@@ -14,7 +14,7 @@ use Rattle.encoder.proofs.Did.{widens-then, widens-fold}
 use Rattle.encoder.proofs.Widening.{widens-when, addVariable-widens, addClause-widens}
 use Rattle.naming.specs.Naming.{nameDisjuncts}
 use Rattle.naming.proofs.Widening.{named-widens, disjuncts-widen}
-use Rattle.handling.specs.Handling.{addDirect, addGate, addThroughGate, addFired, addAllFired, addBy, addUnconditional, handled}
+use Rattle.handling.specs.Handling.{addDirect, addGate, addThroughGate, addFired, addAllFired, addBy, handled}
 
 module _ (c : Catalogue) (r : Run) (q : ℕ) where
   pub direct-widens : (s : State) → Widens s (addDirect c r q s)
@@ -42,10 +42,6 @@ module _ (c : Catalogue) (r : Run) (q : ℕ) where
   added-widens direct is s = direct-widens s
   added-widens throughGate is s = through-gate-widens s
   added-widens onFiring is s = widens-then (disjuncts-widen c q is s) (all-fired-widen is (nameDisjuncts c q is s))
-
-  pub unconditional-widens : (s : State) → Widens s (addUnconditional c r q s)
-  unfolding addUnconditional
-  unconditional-widens s = added-widens (shapeOf c q) [] s
 
   -- the whole
   pub handled-widens : (settled : Bool) (is : List ℕ) (s : State) → Widens s (handled c r q settled is s)

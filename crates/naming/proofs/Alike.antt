@@ -1,16 +1,13 @@
 -- Alike states stay alike: no task asks which parts the run has named but to name another, and at the run's end the same parts join.
 use mathlib.Core.Path.{_≡_, refl, sym, _∙_, ap, fun-ext}
-use mathlib.Core.Bool.{Bool, true, false, not, _&&_, _||_, cond, true≢false}
+use mathlib.Core.Bool.{Bool, true, false, not, _&&_, _||_, cond}
 use mathlib.Core.List.{List, [], _∷_, _++_, map, append-nil}
 use Prim.Native.Nat.{ℕ}
 use lib.Dec.{eqb}
-use lib.ListN.{length}
-use borrow.Author.Tests.{eq-eqb}
-use Rattle.rules.specs.Lists.{filter, any, elem, snoc, fold, when, unless, concatMap, distinct}
+use Rattle.rules.specs.Lists.{filter, elem, snoc, fold, unless, concatMap, distinct}
 use Rattle.rules.specs.Catalogue.{Owner, part, Catalogue, nameOf, rangeName, goalAt}
 use Rattle.rules.specs.Candidates.{candidates}
-use Rattle.rules.specs.Called.{_∈_}
-use Rattle.rules.specs.Opening.{Task, owner, name, condition, requirement, constraint, Opening, setNamed, setTracked, setLine, joining, endRun}
+use Rattle.rules.specs.Opening.{Task, owner, name, condition, requirement, constraint, Opening, setNamed, joining, endRun}
 use Rattle.rules.specs.Opening.{queue, openOwner, openName, markHandled, openNames, rangesOf, rangesFirst, tasksOf, serveOwner, serveName, fire, serveCondition}
 use Rattle.rules.specs.Opening.{firedParts, nameForTracking, openReady, serveRequirement, serve}
 use Rattle.rules.specs.Variables.{Origin}
@@ -20,10 +17,10 @@ use Rattle.rules.specs.State.{State, setOpening, decidedTrue, Run, emit}
 use Rattle.rules.specs.Run.{serveTask, joinAll}
 use Rattle.rules.specs.Limits.{above}
 use Rattle.rules.proofs.Bools.{by-cases}
-use Rattle.rules.proofs.ListLaws.{map-snoc, any-snoc}
+use Rattle.rules.proofs.ListLaws.{map-snoc}
 use Rattle.rules.proofs.MemberLaws.{filter-append, filter-pass, filter-stop, filter-both}
 use Rattle.rules.proofs.Membership.{filter-in, filter-out, elem-in, elem-out, elem-not, not-elem, map-in, when-either, unless-either, distinct-in}
-use Rattle.rules.proofs.DistinctEnough.{fold-append, passedOver}
+use Rattle.rules.proofs.DistinctEnough.{passedOver}
 use Rattle.rules.proofs.Grows.{serve-waits}
 use Rattle.rules.proofs.Capped.{addVariable}
 use Rattle.rules.proofs.ClauseByClause.{addClause, effect-changed, effects-changed}
@@ -49,9 +46,6 @@ module _ {c : Catalogue} where
         names = q .names ∙ p .names;
         joining = rw (tracked-same p) at (q .joining) ∙ p .joining;
       }
-
-  pub alike-sym : {o o′ : Opening} → Alike c o o′ → Alike c o′ o
-  alike-sym {o} p = record { rest = sym (ap (setNamed (o .named)) (p .rest)); names = sym (p .names); joining = rw (tracked-same p) (sym (p .joining)) }
 
   pub alike-fold : {A : Type 0} (f : A → Opening → Opening) → ((x : A) (o o′ : Opening) → Alike c o o′ → Alike c (f x o) (f x o′))
       → (xs : List A) {o o′ : Opening} → Alike c o o′ → Alike c (fold f xs o) (fold f xs o′)
@@ -210,9 +204,6 @@ module _ {c : Catalogue} where
 
   pub in-then : {s s′ s″ : State} → AlikeIn c s s′ → AlikeIn c s′ s″ → AlikeIn c s s″
   in-then {s″ = s″} p q = record { rest = q .rest ∙ ap (setOpening (s″ .opening)) (p .rest); opening = alike-then (p .opening) (q .opening) }
-
-  pub in-sym : {s s′ : State} → AlikeIn c s s′ → AlikeIn c s′ s
-  in-sym {s} p = record { rest = sym (ap (setOpening (s .opening)) (p .rest)); opening = alike-sym (p .opening) }
 
   -- a step of the opening
   pub in-opening : (f : Opening → Opening) → ((o o′ : Opening) → Alike c o o′ → Alike c (f o) (f o′)) → {s s′ : State} → AlikeIn c s s′ → AlikeIn c (onOpening f s) (onOpening f s′)
