@@ -21,7 +21,7 @@ use Rattle.marked.specs.Marked.{listed, ownerOf, Marked}
 use Rattle.marked.proofs.Laws.{length-listed, at-low}
 use Rattle.encoder.specs.declared.Counters.{Counters}
 use Rattle.encoder.specs.Held.{Reading, openingOf, stateOf, GoodAlone}
-use Rattle.encoder.specs.Did.{Widens, onOpening, PlainDid}
+use Rattle.encoder.specs.Did.{Widens, onOpening, PlainDid, isFull}
 use Rattle.encoder.proofs.Did.{did-then, did-stop, did-as}
 use Rattle.encoder.proofs.Widening.{Lengthens, lengthens-fold, openOwner-lengthens, widens-opening}
 use Rattle.encoder.proofs.Steps.{state-none, alone-after}
@@ -141,10 +141,10 @@ module _ {l : Limits} {n₀ n : Counters} {b₀ b : List ℕ} {i : ℕ} (x : Ope
   marked-now : Marked 6 7 (n .added) (held l b)
   marked-now = good-now .good .state .added
 
-  module _ (f : n .full ≡ false) where
+  module _ (f : isFull n ≡ false) where
     -- so it was not full before
-    not-before : n₀ .full ≡ false
-    not-before = by-cases (n₀ .full) (λ e. absurd (true≢false (sym (x .did .is c₀ .is [] [] .stays e) ∙ f))) (λ e. e)
+    not-before : isFull n₀ ≡ false
+    not-before = by-cases (isFull n₀) (λ e. absurd (true≢false (sym (x .did .is c₀ .is [] [] .stays e) ∙ f))) (λ e. e)
 
     same-added : addedIn (n .added) (held l b) ≡ addedIn (n₀ .added) (held l b₀)
     same-added =
@@ -210,7 +210,7 @@ module _ {l : Limits} {n₀ n : Counters} {b₀ b : List ℕ} {i : ℕ} (x : Ope
         record { is = λ c. record { is = λ cl wt. did-as (x .did .is c .is cl wt) (λ v. added-widens) (λ g z v. all-is c v cl wt) } }
 
   -- where it is full the others are left out
-  pub opened-full : n .full ≡ true → PlainDid l (λ c v. onOpening openAdded) n₀ (held l b₀) n (held l b)
+  pub opened-full : isFull n ≡ true → PlainDid l (λ c v. onOpening openAdded) n₀ (held l b₀) n (held l b)
   opened-full f =
       record {
         is = λ c. record {

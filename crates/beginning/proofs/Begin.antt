@@ -35,7 +35,7 @@ use Rattle.line.proofs.Tasks.{task-drawn}
 use Rattle.entries.specs.Entries.{drawnIn}
 use Rattle.encoder.specs.declared.Counters.{Counters}
 use Rattle.encoder.specs.Held.{Reading, drawnTask, noSuch, taskFrom, taskIn, openingOf, stateOf, Good, GoodAlone}
-use Rattle.encoder.specs.Did.{limitsOf, roomOf, beyond, onOpening, Did, StateDid, PlainDid}
+use Rattle.encoder.specs.Did.{limitsOf, roomOf, beyond, onOpening, Did, StateDid, PlainDid, isFull}
 use Rattle.encoder.proofs.Did.{beside-kept, did-made, did-then}
 use Rattle.encoder.proofs.Frames.{good-kept, list-kept, line-kept}
 use Rattle.encoder.proofs.Widening.{Lengthens, widens-opening}
@@ -214,14 +214,14 @@ module _ {c : Catalogue} {l : Limits} (n : Counters) {n₀ a b m : Counters} {st
         ap (beginning c (readingOf s) (drawnIn l (n .drawn) wt)) (emptied-is c l (readingOf s) n st cl wt ∙ ap newRun (h .is (readingOf s)))
         ∙ (beginning-is c (readingOf s) (drawnIn l (n .drawn) wt) (forget s) (held-drawn h) (held-drawn h) (valid g reached .line-empty) ∙ begun-forgets c s)
 
-    going : (emptied n) .full ≡ false
+    going : isFull (emptied n) ≡ false
     unfolding emptied
     going = h .room
 
-    begun-now : m .full ≡ false → stateOf c l (readingOf s) m st₃ cl wt ≡ forget (begun c s)
+    begun-now : isFull m ≡ false → stateOf c l (readingOf s) m st₃ cl wt ≡ forget (begun c s)
     begun-now f = whole-did .done (emptied-good (h .good)) going f (readingOf s) ∙ begun-is
 
-    begun-over : m .full ≡ true → (level : ℕ) → above (limitsOf l) (runOnce c level s) ≡ true
+    begun-over : isFull m ≡ true → (level : ℕ) → above (limitsOf l) (runOnce c level s) ≡ true
     unfolding beyond roomOf emptied above limitsOf ceiling
     begun-over f level =
         let u = begun c s in

@@ -15,7 +15,7 @@ use Rattle.state.specs.declared.Limits.{Limits}
 use Rattle.marked.specs.Marked.{Marked}
 use Rattle.encoder.specs.declared.Counters.{Counters}
 use Rattle.encoder.specs.Held.{Reading, taskIn, stateOf, Good, GoodAlone}
-use Rattle.encoder.specs.Did.{limitsOf}
+use Rattle.encoder.specs.Did.{limitsOf, isFull}
 use Rattle.firing.specs.Firing.{queued}
 
 -- a run's tasks are read by what is decided true and drawn in the state in which it begins
@@ -26,7 +26,7 @@ readingOf s = record { truth = decidedTrue s; drawn = s .opening .drawn }
 pub record Holds (c : Catalogue) (l : Limits) (s : State) (n : Counters) (st : ℕ → List ℕ) (cl wt : List ℕ) : Type 0 where
   pub good : Good c l n st cl wt
   pub hand : Marked 14 15 0 st
-  pub room : n .full ≡ false
+  pub room : isFull n ≡ false
   pub is : (v : Reading) → stateOf c l v n st cl wt ≡ forget s
 
 -- the areas hold a state that a job can come to
@@ -85,7 +85,7 @@ pub record Begins (c : Catalogue) (l : Limits) (n : Counters) (st : ℕ → List
   pub hand : Marked 14 15 0 st′
   pub first : n′ .first ≡ 0
   pub none : n′ .drawn ≡ 0
-  pub done : (s : State) → Given c → Reached (limitsOf l) c s → Holds c l s n st cl wt → n′ .full ≡ false
+  pub done : (s : State) → Given c → Reached (limitsOf l) c s → Holds c l s n st cl wt → isFull n′ ≡ false
       → stateOf c l (readingOf s) n′ st′ cl wt ≡ forget (begun c s)
-  pub over : (s : State) → Given c → Reached (limitsOf l) c s → Holds c l s n st cl wt → n′ .full ≡ true
+  pub over : (s : State) → Given c → Reached (limitsOf l) c s → Holds c l s n st cl wt → isFull n′ ≡ true
       → (level : ℕ) → above (limitsOf l) (runOnce c level s) ≡ true

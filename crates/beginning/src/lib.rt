@@ -39,7 +39,7 @@ fn open_added(s: &mut [u8], l: Limits, n: Counters) -> Counters
     let mut m = n;
     let mut i = 0;
     while i < n.added {
-        if m.full {
+        if m.full != 0 {
             return m;
         }
         let o = marked::at(s, l, state::ADDED, n.added, i);

@@ -39,7 +39,7 @@ use Rattle.marked.proofs.Laws.{length-listed, free-room, listed-after}
 use Rattle.encoder.specs.declared.Counters.{Counters}
 use Rattle.encoder.specs.declared.Run as code
 use Rattle.encoder.specs.Held.{runOf, Reading, openingOf, stateOf}
-use Rattle.encoder.specs.Did.{Widens, onOpening, StateDid}
+use Rattle.encoder.specs.Did.{Widens, onOpening, StateDid, isFull}
 use Rattle.encoder.proofs.Did.{widens-then}
 use Rattle.encoder.proofs.Widening.{widens-opening, widens-when}
 use Rattle.tracking.specs.Joining.{Makes, AddsAll, NamesAll, GoodOf, GoodSome, GoodAny, firstHelpers, joinOrigins, helperVariables, partName, ofName, NamesLow, newHelperClauses, oneClauses, trackedClauses, joinedClauses, tracking, Tracks, MakesOf, trackWith, joinStep, joinIf, CanJoin, CanAddPart}
@@ -53,8 +53,8 @@ pub record Named (os : List Origin) (n : Counters) (st : ℕ → List ℕ) (n′
   pub tracked : listed (n′ .tracked) 10 st′ ≡ listed (n .tracked) 10 st
   pub named : listed (n′ .named) 8 st′ ≡ listed (n .named) 8 st
 
-pub names-after : {l : Limits} {os : List Origin} {n n′ : Counters} {st st′ : ℕ → List ℕ} → GoodAny l n st → NamesAll l os n st n′ st′ → n .full ≡ false
-    → n′ .full ≡ false → Named os n st n′ st′
+pub names-after : {l : Limits} {os : List Origin} {n n′ : Counters} {st st′ : ℕ → List ℕ} → GoodAny l n st → NamesAll l os n st n′ st′ → isFull n ≡ false
+    → isFull n′ ≡ false → Named os n st n′ st′
 unfolding stateOf openingOf
 names-after {os = os} (GoodAny.any c cl g) a e e′ =
     let d = a .is c .is cl [] .done g e e′ blind ∙ addVariables-is os _ in
@@ -146,7 +146,7 @@ known-first : (vs : List Origin) (os : List Origin) (ps : List ℕ) → AllKnown
 known-first vs os ps k = record { known = each-imp (λ q e. keeps-variable (withVariables-prefix os vs) (partOrigin q) e .0) (k .known) }
 
 module _ {l : Limits} {n n′ : Counters} {st st′ : ℕ → List ℕ} {r : code.Run} (name p h : ℕ) (g : GoodAny l n st) (c : CanJoin n st r)
-    (d : NamesAll l (joinOrigins name p h) n st n′ st′) (f : n′ .full ≡ false) where
+    (d : NamesAll l (joinOrigins name p h) n st n′ st′) (f : isFull n′ ≡ false) where
   after : Named (joinOrigins name p h) n st n′ st′
   after = names-after g d (c .going) f
 
@@ -203,7 +203,7 @@ module _ (k : Counts) (t : List ℕ) (l : Limits) (n a : Counters) (st st₁ : �
         let same-count : h ≡ helpersFor (suc (length (trackedOf c (nameOf c p) ps))) = z ∙ rw (add-one i, e, same-parts) in
         rw (same-parts, same-count, is-name) (unfold runOf stateOf openingOf in step-is (runOf r) p c s)
 
-    stopped : a .full ≡ true → Makes (catalogue k m u t) l (joinStep (runOf r) p (catalogue k m u t)) n st cl a st₁ cl
+    stopped : isFull a ≡ true → Makes (catalogue k m u t) l (joinStep (runOf r) p (catalogue k m u t)) n st cl a st₁ cl
     stopped f =
         let c = catalogue k m u t in
         makes-as (makes-stop (state-makes (fold addVariable (joinOrigins name p h)) (d .is c)) {G = trackWith (runOf r) those p c} f (trackWith-widens (runOf r) those p c))
@@ -215,10 +215,10 @@ module _ (k : Counts) (t : List ℕ) (l : Limits) (n a : Counters) (st st₁ : �
         makes-as (makes-then (state-makes (fold addVariable (joinOrigins name p h)) (d .is (catalogue k m u t))) x)
         (joinStep-widens (runOf r) p (catalogue k m u t)) (λ g _ v wt. lists v wt)
 
-  pub join-stop : a .full ≡ true → MakesOf k t l (joinStep (runOf r) p) n st cl a st₁ cl
+  pub join-stop : isFull a ≡ true → MakesOf k t l (joinStep (runOf r) p) n st cl a st₁ cl
   join-stop f = record { is = λ m u. stopped m u f }
 
-  pub join-done : {b : Counters} {st₂ : ℕ → List ℕ} {cl₂ : List ℕ} → GoodAny l n st → n .full ≡ false → a .full ≡ false
+  pub join-done : {b : Counters} {st₂ : ℕ → List ℕ} {cl₂ : List ℕ} → GoodAny l n st → isFull n ≡ false → isFull a ≡ false
       → MakesOf k t l (trackWith (runOf r) (joinedClauses (r .before) (variables (a .variables) st₁) name p (ofName k t name (listed (a .tracked) 10 st₁))) p) a st₁ cl b st₂ cl₂
       → MakesOf k t l (joinStep (runOf r) p) n st cl b st₂ cl₂
   join-done g f f′ x =
@@ -229,7 +229,7 @@ module _ (k : Counts) (t : List ℕ) (l : Limits) (n a : Counters) (st st₁ : �
 -- ---- the clauses, and the tracking
 
 module _ {k : Counts} {t : List ℕ} {l : Limits} {n a : Counters} {st st₁ : ℕ → List ℕ} {cl cl₁ : List ℕ} {r : code.Run} {ks : List Clause} (p : ℕ) (d : AddsAll l r ks n st cl a st₁ cl₁) where
-  pub track-stop : a .full ≡ true → MakesOf k t l (trackWith (runOf r) ks p) n st cl a st₁ cl₁
+  pub track-stop : isFull a ≡ true → MakesOf k t l (trackWith (runOf r) ks p) n st cl a st₁ cl₁
   unfolding trackWith
   track-stop f = record { is = λ m u. makes-stop (d .is (catalogue k m u t)) {G = onOpening (tracking p)} f (tracking-widens p) }
 
@@ -241,7 +241,7 @@ module _ {l : Limits} {n a : Counters} {st st₁ : ℕ → List ℕ} {cl cl₁ :
   pub track-marked : Marked 10 11 (a .tracked) st₁
   track-marked = some-tracked (some-all g d)
 
-  module _ (f : a .full ≡ false) where
+  module _ (f : isFull a ≡ false) where
     pub track-count : (k : Counts) (t : List ℕ) (i name : ℕ) → i ≡ length (ofName k t name (listed (n .tracked) 10 st))
         → i ≡ length (ofName k t name (listed (a .tracked) 10 st₁))
     track-count k t i name e = rw (clauses-same d (some-good g) f .tracked) e

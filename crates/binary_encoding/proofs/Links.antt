@@ -34,7 +34,7 @@ use Rattle.marked.specs.Marked.{listed}
 use Rattle.encoder.specs.declared.Counters.{Counters}
 use Rattle.encoder.specs.declared.Run as code
 use Rattle.encoder.specs.Held.{runOf, openingOf, stateOf, Good, LongEnough}
-use Rattle.encoder.specs.Did.{Widens, ClausesDid}
+use Rattle.encoder.specs.Did.{Widens, ClausesDid, isFull}
 use Rattle.encoder.proofs.Did.{widens-fold}
 use Rattle.tracking.specs.Joining.{Makes, AddsAll, GoodSome, ofName, variablesOf, anyClauses, linkClauses, CanLink}
 use Rattle.tracking.proofs.Steps.{some-good, some-all, makes-as, Folded, folded-start, folded-step, folded-stop, folded-end, adds-none, adds-as, Areas, areas-start, areas-then, Same, same-count, clauses-same, known-same}
@@ -175,10 +175,10 @@ module _ {k : Counts} {m u t : List ℕ} {l : Limits} {r : code.Run} {n₀ : Cou
         let left : drop y vs ≡ getD vs y (chosen root) ∷ drop (y + 1) vs = drop-cons vs y (chosen root) (omega (arith, x .count, variables.count (n .variables) (held l b))) ∙ rw (add-one y) in
         folded-step (rw left at (x .did)) here
 
-    pub linked-stop : n′ .full ≡ true → ClausesDid (catalogue k m u t) l (λ v. linkAll (catalogue k m u t) (runOf r)) n₀ (held l b₀) cl₀ n′ (held l b′) cl′
+    pub linked-stop : isFull n′ ≡ true → ClausesDid (catalogue k m u t) l (λ v. linkAll (catalogue k m u t) (runOf r)) n₀ (held l b₀) cl₀ n′ (held l b′) cl′
     linked-stop f = all-makes (folded-stop stepped f (λ o. linkIf-widens (runOf r) o (catalogue k m u t)))
 
-    pub linked-step : n′ .full ≡ false → length b′ ≡ length b → length cl′ ≡ length cl → Linked k m u t l r n₀ b₀ cl₀ b′ cl′ n′ (y + 1)
+    pub linked-step : isFull n′ ≡ false → length b′ ≡ length b → length cl′ ≡ length cl → Linked k m u t l r n₀ b₀ cl₀ b′ cl′ n′ (y + 1)
     linked-step f s s′ =
         let z : Same n (held l b) n′ (held l b′) = clauses-same a (some-good (x .good)) f in
         record {

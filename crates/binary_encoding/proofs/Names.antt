@@ -30,7 +30,7 @@ use Rattle.marked.proofs.Laws.{length-listed, at-low}
 use Rattle.encoder.specs.declared.Counters.{Counters}
 use Rattle.encoder.specs.declared.Run as code
 use Rattle.encoder.specs.Held.{runOf, openingOf, stateOf, LongEnough}
-use Rattle.encoder.specs.Did.{Widens, onOpening, Beside}
+use Rattle.encoder.specs.Did.{Widens, onOpening, Beside, isFull}
 use Rattle.encoder.proofs.Did.{widens-fold}
 use Rattle.tracking.specs.Joining.{Makes, GoodOf, tracking, MakesOf, joinStep, joinIf, joinName, joinNames, CanJoin}
 use Rattle.tracking.proofs.Steps.{stateNow, makes-good, makes-state, makes-as, makes-same, Folded, folded-start, folded-step, folded-stop, folded-end, Areas, areas-start, areas-then}
@@ -97,7 +97,7 @@ record Shown (before : ℕ) (qs : List ℕ) (n : Counters) (st : ℕ → List �
 
 module _ {k : Counts} {t : List ℕ} {l : Limits} {r : code.Run} {n₀ : Counters} {b₀ cl₀ b cl : List ℕ} {n : Counters} (x : Ready k t l r n₀ b₀ cl₀ b cl n)
     (F : Catalogue → State → State) {n′ : Counters} (b′ : List ℕ) {cl′ : List ℕ} (d : MakesOf k t l F n (held l b) cl n′ (held l b′) cl′) where
-  module _ (w : (c : Catalogue) (s : State) → Fine (r .before) (listed (n .named) 8 (held l b)) s → Fine (r .before) (listed (n .named) 8 (held l b)) (F c s)) (f : n′ .full ≡ false) where
+  module _ (w : (c : Catalogue) (s : State) → Fine (r .before) (listed (n .named) 8 (held l b)) s → Fine (r .before) (listed (n .named) 8 (held l b)) (F c s)) (f : isFull n′ ≡ false) where
     fine-after : GoodOf k t l n (held l b) cl → Shown (r .before) (listed (n .named) 8 (held l b)) n′ (held l b′)
     unfolding stateOf openingOf
     fine-after (GoodOf.good m u g) =
@@ -161,10 +161,10 @@ module _ {k : Counts} {t : List ℕ} {l : Limits} {r : code.Run} {name : ℕ} {n
         let left : drop i ps ≡ p ∷ drop (i + 1) ps = drop-cons ps i 0 (omega (arith, length-listed (of-named (x .ready .good)))) ∙ rw (add-one i, ← e) in
         folded-step (rw left at (x .did m u)) (d .is m u)
 
-    pub parting-stop : n′ .full ≡ true → MakesOf k t l (joinName (runOf r) name) n₀ (held l b₀) cl₀ n′ (held l b′) cl′
+    pub parting-stop : isFull n′ ≡ true → MakesOf k t l (joinName (runOf r) name) n₀ (held l b₀) cl₀ n′ (held l b′) cl′
     parting-stop f = name-makes (λ m u. folded-stop (stepped m u) f (λ q. joinIf-widens (runOf r) name q (catalogue k m u t)))
 
-    pub parting-step : n′ .full ≡ false → length b′ ≡ length b → length cl′ ≡ length cl → Parting k t l r name n₀ b₀ cl₀ b′ cl′ n′ (i + 1)
+    pub parting-step : isFull n′ ≡ false → length b′ ≡ length b → length cl′ ≡ length cl → Parting k t l r name n₀ b₀ cl₀ b′ cl′ n′ (i + 1)
     parting-step f s s′ =
         let kept = joinIf-fine (runOf r) name p in
         let y = ready-after (x .ready) (joinIf (runOf r) name p) b′ d kept f s s′ in
@@ -209,10 +209,10 @@ module _ {k : Counts} {t : List ℕ} {l : Limits} {r : code.Run} {names : ℕ} {
         let left : drop i ns ≡ name ∷ drop (i + 1) ns = drop-cons ns i 0 (omega (arith, length-listed (x .marked))) ∙ rw (add-one i, ← e) in
         folded-step (rw left at (x .did m u)) (d .is m u)
 
-    pub naming-stop : n′ .full ≡ true → MakesOf k t l (joinNames (runOf r) (listed names 14 (held l b₀))) n₀ (held l b₀) cl₀ n′ (held l b′) cl′
+    pub naming-stop : isFull n′ ≡ true → MakesOf k t l (joinNames (runOf r) (listed names 14 (held l b₀))) n₀ (held l b₀) cl₀ n′ (held l b′) cl′
     naming-stop f = names-make (λ m u. folded-stop (stepped-name m u) f (λ y. joinName-widens (runOf r) y (catalogue k m u t)))
 
-    pub naming-step : n′ .full ≡ false → length b′ ≡ length b → length cl′ ≡ length cl → Naming k t l r names n₀ b₀ cl₀ b′ cl′ n′ (i + 1)
+    pub naming-step : isFull n′ ≡ false → length b′ ≡ length b → length cl′ ≡ length cl → Naming k t l r names n₀ b₀ cl₀ b′ cl′ n′ (i + 1)
     naming-step f s s′ =
         let beside = of-beside (joinName (runOf r) name) (x .ready .good) d in
         record {

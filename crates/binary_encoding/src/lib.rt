@@ -75,7 +75,7 @@ fn join_named(
     ensures { λ m. ⌜ MakesOf k (now (t .entry)) l (trackWith (runOf r) (joinedClauses (r .before) (variables (n .variables) (held l (now (s .entry)))) name p (ofName k (now (t .entry)) name (listed (n .tracked) 10 (held l (now (s .entry)))))) p) n (held l (now (s .entry))) (now (clauses .entry)) m (held l (now (s .exit))) (now (clauses .exit)) ⌝ }
 {
     let m = tracking::join_clauses(t, k, s, clauses, l, n, r, name, p, i, h);
-    if m.full {
+    if m.full != 0 {
         return m;
     }
     push_tracked(t, k, s, l, m, name, p, i)
@@ -104,7 +104,7 @@ fn join(
     let i = state::get(s, l, state::TRACKED_COUNTS, name as usize);
     let h = tracking::helpers_for(i + 1);
     let a = tracking::name_join(s, l, n, name, p, h);
-    if a.full {
+    if a.full != 0 {
         return a;
     }
     join_named(t, k, s, clauses, l, a, r, name, p, i, h)
@@ -166,7 +166,7 @@ fn join_name(
     while i < m.named {
         let p = marked::at(s, l, state::NAMED, m.named, i);
         m = join_if(t, k, s, clauses, l, m, r, name, p);
-        if m.full {
+        if m.full != 0 {
             return m;
         }
         i += 1;
@@ -199,7 +199,7 @@ fn join_names(
     while i < names {
         let name = marked::at(s, l, state::CANDIDATES, names, i);
         m = join_name(t, k, s, clauses, l, m, r, name);
-        if m.full {
+        if m.full != 0 {
             return m;
         }
         i += 1;
@@ -387,7 +387,7 @@ pub fn link_all(
     let mut y = r.before;
     while y < n.variables {
         m = link_if(t, k, s, clauses, l, m, r, y);
-        if m.full {
+        if m.full != 0 {
             return m;
         }
         y += 1;

@@ -58,7 +58,7 @@ pub fn start(s: &mut [u8], clauses: &mut [u8], l: Limits) -> Counters
         first: 0,
         tail: 0,
         runs: 0,
-        full: false,
+        full: 0,
     }
 }
 

@@ -25,7 +25,7 @@ use Rattle.marked.specs.Marked.{Marked}
 use Rattle.entries.specs.Deferred.{isHeld}
 use Rattle.encoder.specs.declared.Counters.{Counters}
 use Rattle.encoder.specs.Held.{Reading, stateOf, Good}
-use Rattle.encoder.specs.Did.{limitsOf, onOpening}
+use Rattle.encoder.specs.Did.{limitsOf, onOpening, isFull}
 use Rattle.commands.specs.declared.Outcome.{Outcome}
 use Rattle.commands.specs.declared.Outcome.the-variants.{Carried, Refused}
 
@@ -33,7 +33,7 @@ use Rattle.commands.specs.declared.Outcome.the-variants.{Carried, Refuse
 pub record ChangesOf (c : Catalogue) (l : Limits) (F : State → State) (n : Counters) (st : ℕ → List ℕ) (cl wt : List ℕ) (n′ : Counters) (st′ : ℕ → List ℕ) : Type 0 where
   pub good : Good c l n st cl wt → Good c l n′ st′ cl wt
   pub hand : Marked 14 15 0 st → Marked 14 15 0 st′
-  pub full : n′ .full ≡ n .full
+  pub full : isFull n′ ≡ isFull n
   pub runs : n′ .runs ≡ n .runs
   pub is : (v : Reading) → stateOf c l v n′ st′ cl wt ≡ F (stateOf c l v n st cl wt)
 
@@ -58,7 +58,7 @@ pub record Idle (c : Catalogue) (true? : ℕ → Bool) (k : ℕ) (s : opening.Op
 -- the entries of condition k that hold were drawn
 pub record Draws (c : Catalogue) (l : Limits) (k : ℕ) (n : Counters) (st : ℕ → List ℕ) (wt : List ℕ) (n′ : Counters) (wt′ : List ℕ) : Type 0 where
   pub good : (cl : List ℕ) → Good c l n st cl wt → Good c l n′ st cl wt′
-  pub full : n′ .full ≡ n .full
+  pub full : isFull n′ ≡ isFull n
   pub runs : n′ .runs ≡ n .runs
   pub is : (cl : List ℕ) (v : Reading)
       → stateOf c l v n′ st cl wt′ ≡ onOpening (opening.draw c (decidedTrue (stateOf c l v n st cl wt)) k) (stateOf c l v n st cl wt)
@@ -79,7 +79,7 @@ pub record DecidesLiteral (l : Limits) (x : Literal) (level : ℕ) (n : Counters
 pub record CarriedOut (c : Catalogue) (l : Limits) (o : Command) (n : Counters) (st : ℕ → List ℕ) (cl wt : List ℕ) (m : Counters) (st′ : ℕ → List ℕ) : Type 0 where
   pub good : Good c l n st cl wt → Good c l m st′ cl wt
   pub hand : Marked 14 15 0 st → Marked 14 15 0 st′
-  pub full : m .full ≡ n .full
+  pub full : isFull m ≡ isFull n
   pub runs : m .runs ≡ n .runs
   pub is : (v : Reading) → carryOut (limitsOf l) c o (stateOf c l v n st cl wt) ≡ ok (stateOf c l v m st′ cl wt)
 

@@ -20,7 +20,7 @@ use Rattle.variable_map.proofs.Laws.{count}
 use Rattle.encoder.specs.declared.Counters.{Counters}
 use Rattle.encoder.specs.declared.Run.{Run}
 use Rattle.encoder.specs.Held.{runOf, Reading, stateOf, GoodAlone, KnownUnlessFull}
-use Rattle.encoder.specs.Did.{Widens, Looked, StateDid, ClausesDid, PlainDid}
+use Rattle.encoder.specs.Did.{Widens, Looked, StateDid, ClausesDid, PlainDid, isFull}
 use Rattle.encoder.proofs.Did.{widens-then, widens-fold, did-as, did-then, did-stop}
 use Rattle.encoder.proofs.Widening.{widens-when, addVariable-widens, addClause-widens}
 use Rattle.cache.specs.declared.Choice.the-variants.{NonMatching}
@@ -37,14 +37,14 @@ use Rattle.constraints.specs.Constraints.{Knows, constrainFew, addViolat
 -- ---- origins that have their variables
 
 module _ {c : Catalogue} {l : Limits} {n n′ : Counters} {st st′ : ℕ → List ℕ} where
-  pub knows-after : {F : Reading → State → State} {o : Origin} → StateDid c l F n st n′ st′ → GoodAlone c l n st → Knows (n .full) (variables (n .variables) st) o
-      → Knows (n′ .full) (variables (n′ .variables) st′) o
+  pub knows-after : {F : Reading → State → State} {o : Origin} → StateDid c l F n st n′ st′ → GoodAlone c l n st → Knows (isFull n) (variables (n .variables) st) o
+      → Knows (isFull n′) (variables (n′ .variables) st′) o
   knows-after {o = o} d g k =
       let b = d .is (g .clauses) [] in
       record { known = λ e. still-known b (g .good) e o (k .known (not-full b (g .good) e)) }
 
   pub named-knows : (w : code.Origin) {o : Origin} → originOf w ≡ o → PlainDid l (λ c v. addVariable (originOf w)) n st n′ st′ → GoodAlone c l n st
-      → Knows (n′ .full) (variables (n′ .variables) st′) o
+      → Knows (isFull n′) (variables (n′ .variables) st′) o
   named-knows w i d g =
       let v : Reading = record { truth = λ p. false; drawn = [] } in
       record {
@@ -84,7 +84,7 @@ module _ (c : Catalogue) (run : rules.Run) (o : Owner) (r : ℕ) where
 -- ---- few
 
 module _ {c : Catalogue} {l : Limits} (run : Run) (o : Owner) (r : ℕ) {n n′ n″ : Counters} {st st′ st″ : ℕ → List ℕ} {cl cl′ : List ℕ} where
-  pub few-added : (w : code.Origin) {x : ℕ} → Knows (n′ .full) (variables (n′ .variables) st′) (chosen o) → originOf w ≡ chosen o → Looked (variables (n′ .variables) st′) (originOf w) x
+  pub few-added : (w : code.Origin) {x : ℕ} → Knows (isFull n′) (variables (n′ .variables) st′) (chosen o) → originOf w ≡ chosen o → Looked (variables (n′ .variables) st′) (originOf w) x
       → StateDid c l (λ v. fold (namingOf c Variable) (partsFor c (Chosen r NonMatching))) n st n′ st′
       → ClausesDid c l (λ v. fold (addingOf (runOf run) (Constrains x)) (partsFor c (Chosen r NonMatching))) n′ st′ cl n″ st″ cl′
       → ClausesDid c l (λ v. constrainFew c (runOf run) o r) n st cl n″ st″ cl′
@@ -130,7 +130,7 @@ module _ {c : Catalogue} {l : Limits} (run : Run) (o : Owner) (r : ℕ) (w : cod
       ≡ constrainMany c (runOf run) o r (stateOf c l v n st cl wt)
   many cl v wt = unfold constrainMany stateOf in rw e
 
-  pub many-full : {cl : List ℕ} → n₂ .full ≡ true → ClausesDid c l (λ v. constrainMany c (runOf run) o r) n st cl n₂ st₂ cl
+  pub many-full : {cl : List ℕ} → isFull n₂ ≡ true → ClausesDid c l (λ v. constrainMany c (runOf run) o r) n st cl n₂ st₂ cl
   many-full {cl} f =
       record {
         is = λ wt. did-as (did-stop {G = λ v. addViolation c (runOf run) o r new} (named .is cl wt) f (λ v s. violation-widens c (runOf run) o r new s))

@@ -23,7 +23,7 @@ ghost use Rattle.state.specs.Layout.{held, Fits};
 ghost use Rattle.variable_map.specs.Mapping.{variables};
 ghost use Rattle.marked.specs.Marked.{ownerOf};
 ghost use Rattle.encoder.specs.Held.{runOf, LongEnough, Good, KnownUnlessFull};
-ghost use Rattle.encoder.specs.Did.{ClausesDid};
+ghost use Rattle.encoder.specs.Did.{ClausesDid, isFull};
 ghost use Rattle.owners.specs.Owners.{serving};
 ghost use Rattle.constraints.specs.Constraints.{Knows, constrainFew, addViolation, constrainMany};
 
@@ -46,7 +46,7 @@ fn constrain_each(
     requires { ⌜ Good (catalogue k (now marks) (now unions) (now t)) l n (held l (now s)) (now clauses) [] ⌝ }
     requires { ⌜ LongEnough l (length (now clauses)) 16384 ⌝ }
     requires { ⌜ (0 < run .number) × (r < k .ranges) × (o < 1025) ⌝ }
-    requires { ⌜ Knows (n .full) (variables (n .variables) (held l (now s))) (chosen (ownerOf o)) ⌝ }
+    requires { ⌜ Knows (isFull n) (variables (n .variables) (held l (now s))) (chosen (ownerOf o)) ⌝ }
     ensures { λ m. ⌜ ClausesDid (catalogue k (now (marks .entry)) (now (unions .entry)) (now (t .entry))) l (λ v. constrainFew (catalogue k (now (marks .entry)) (now (unions .entry)) (now (t .entry))) (runOf run) (ownerOf o) r) n (held l (now (s .entry))) (now (clauses .entry)) m (held l (now (s .exit))) (now (clauses .exit)) ⌝ }
 {
     let m = parts::name_each(
@@ -102,7 +102,7 @@ fn constrain_few(
     requires { ⌜ Good (catalogue k (now marks) (now unions) (now t)) l n (held l (now s)) (now clauses) [] ⌝ }
     requires { ⌜ LongEnough l (length (now clauses)) 16384 ⌝ }
     requires { ⌜ (0 < run .number) × (r < k .ranges) × (o < 1025) ⌝ }
-    requires { ⌜ Knows (n .full) (variables (n .variables) (held l (now s))) (chosen (ownerOf o)) ⌝ }
+    requires { ⌜ Knows (isFull n) (variables (n .variables) (held l (now s))) (chosen (ownerOf o)) ⌝ }
     requires { ⌜ Counted count (nonMatching (catalogue k (now marks) (now unions) (now t)) r) ⌝ }
     ensures { λ m. ⌜ ClausesDid (catalogue k (now (marks .entry)) (now (unions .entry)) (now (t .entry))) l (λ v. constrainFew (catalogue k (now (marks .entry)) (now (unions .entry)) (now (t .entry))) (runOf run) (ownerOf o) r) n (held l (now (s .entry))) (now (clauses .entry)) m (held l (now (s .exit))) (now (clauses .exit)) ⌝ }
 {
@@ -133,7 +133,7 @@ fn add_violation(
     requires { ⌜ LongEnough l (length (now clauses)) 16384 ⌝ }
     requires { ⌜ (0 < run .number) × (r < k .ranges) × (o < 1025) ⌝ }
     requires { ⌜ (known (variables (n .variables) (held l (now s))) (chosen (ownerOf o)) ≡ true) × (known (variables (n .variables) (held l (now s))) (violation r) ≡ true) ⌝ }
-    requires { ⌜ KnownUnlessFull (n .full) (variables (n .variables) (held l (now s))) (nonMatching (catalogue k (now marks) (now unions) (now t)) r) ⌝ }
+    requires { ⌜ KnownUnlessFull (isFull n) (variables (n .variables) (held l (now s))) (nonMatching (catalogue k (now marks) (now unions) (now t)) r) ⌝ }
     ensures { λ m. ⌜ ClausesDid (catalogue k (now (marks .entry)) (now (unions .entry)) (now (t .entry))) l (λ v. addViolation (catalogue k (now (marks .entry)) (now (unions .entry)) (now (t .entry))) (runOf run) (ownerOf o) r new) n (held l (now (s .entry))) (now (clauses .entry)) m (held l (now (s .exit))) (now (clauses .exit)) ⌝ }
 {
     let y = opening::variable_of(s, l, n, variable_map::violation(r as u16));
@@ -178,7 +178,7 @@ fn constrain_many(
     requires { ⌜ Good (catalogue k (now marks) (now unions) (now t)) l n (held l (now s)) (now clauses) [] ⌝ }
     requires { ⌜ LongEnough l (length (now clauses)) 16384 ⌝ }
     requires { ⌜ (0 < run .number) × (r < k .ranges) × (o < 1025) ⌝ }
-    requires { ⌜ Knows (n .full) (variables (n .variables) (held l (now s))) (chosen (ownerOf o)) ⌝ }
+    requires { ⌜ Knows (isFull n) (variables (n .variables) (held l (now s))) (chosen (ownerOf o)) ⌝ }
     ensures { λ m. ⌜ ClausesDid (catalogue k (now (marks .entry)) (now (unions .entry)) (now (t .entry))) l (λ v. constrainMany (catalogue k (now (marks .entry)) (now (unions .entry)) (now (t .entry))) (runOf run) (ownerOf o) r) n (held l (now (s .entry))) (now (clauses .entry)) m (held l (now (s .exit))) (now (clauses .exit)) ⌝ }
 {
     let new = variable_map::variable(s, l, n.variables, variable_map::violation(r as u16)) == 0;
@@ -197,7 +197,7 @@ fn constrain_many(
         },
         Naming::Variable,
     );
-    if b.full {
+    if b.full != 0 {
         return b;
     }
     add_violation(marks, unions, t, k, s, clauses, l, b, run, r, o, new)

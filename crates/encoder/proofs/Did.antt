@@ -1,10 +1,12 @@
 -- Steps one after another.
 use mathlib.Core.Path.{_≡_, refl, sym, _∙_, ap}
-use mathlib.Core.Bool.{true, false, true≢false}
+use mathlib.Core.Bool.{true, false, not, true≢false}
 use mathlib.Core.List.{List, [], _∷_}
 use Prim.Native.Nat.{ℕ}
 use native.Mathlib.Omega.{arith}
+use lib.Dec.{eqb}
 use lib.ListN.{take}
+use borrow.Author.Tests.{eq-eqb, ne-eqb}
 use Rattle.rules.specs.Catalogue.{Catalogue}
 use Rattle.rules.specs.Lists.{fold, elem}
 use Rattle.rules.specs.State.{State}
@@ -16,8 +18,17 @@ use Rattle.entries.specs.Entries.{drawnIn}
 use Rattle.marked.proofs.Laws.{listed-same, marked-same}
 use Rattle.encoder.specs.declared.Counters.{Counters}
 use Rattle.encoder.specs.Held.{Reading, stateOf, Good}
-use Rattle.encoder.specs.Did.{limitsOf, roomOf, beyond, Widens, filled, Beside, Did, PlainDid}
+use Rattle.encoder.specs.Did.{limitsOf, roomOf, beyond, Widens, filled, Beside, Did, PlainDid, isFull}
 use Rattle.encoder.proofs.Frames.{good-filled}
+
+-- ---- the test for a limit that would have been passed
+
+-- x is the counters' `full`
+pub told-full : {x : ℕ} → (x ≡ 0 → ⊥) → not (eqb x 0) ≡ true
+told-full {x} h = ap not (ne-eqb x 0 h)
+
+pub told-going : {x : ℕ} → x ≡ 0 → not (eqb x 0) ≡ false
+told-going {x} h = ap not (eq-eqb x 0 h)
 
 -- ---- widening
 
@@ -75,7 +86,7 @@ module _ {c : Catalogue} {l : Limits} where
         }
 
     -- nothing, where it is full already
-    pub did-full : {F : Reading → State → State} → n .full ≡ true → ((v : Reading) (s : State) → Widens s (F v s)) → Did c l F n st cl wt n st cl wt
+    pub did-full : {F : Reading → State → State} → isFull n ≡ true → ((v : Reading) (s : State) → Widens s (F v s)) → Did c l F n st cl wt n st cl wt
     did-full f w =
         record {
           wide = w;
@@ -91,7 +102,7 @@ module _ {c : Catalogue} {l : Limits} where
 
     -- nothing, where F would change nothing
     pub did-idle : {F : Reading → State → State} → ((v : Reading) (s : State) → Widens s (F v s))
-        → (Good c l n st cl wt → n .full ≡ false → (v : Reading) → F v (stateOf c l v n st cl wt) ≡ stateOf c l v n st cl wt)
+        → (Good c l n st cl wt → isFull n ≡ false → (v : Reading) → F v (stateOf c l v n st cl wt) ≡ stateOf c l v n st cl wt)
         → Did c l F n st cl wt n st cl wt
     did-idle w h =
         record {
@@ -125,7 +136,7 @@ module _ {c : Catalogue} {l : Limits} where
 
   module _ {F : Reading → State → State} {n : Counters} {st : ℕ → List ℕ} {cl wt : List ℕ} {n′ : Counters} {st′ : ℕ → List ℕ} {cl′ wt′ : List ℕ} where
     -- F, and nothing becomes full
-    pub did-made : ((v : Reading) (s : State) → Widens s (F v s)) → n′ .first ≡ n .first → (Good c l n st cl wt → Beside (n .first) st st′) → n′ .drawn ≡ n .drawn → n′ .full ≡ n .full
+    pub did-made : ((v : Reading) (s : State) → Widens s (F v s)) → n′ .first ≡ n .first → (Good c l n st cl wt → Beside (n .first) st st′) → n′ .drawn ≡ n .drawn → isFull n′ ≡ isFull n
         → ((k : ℕ) → drawnIn l k wt′ ≡ drawnIn l k wt)
         → (Good c l n st cl wt → Good c l n′ st′ cl′ wt′)
         → (Good c l n st cl wt → (v : Reading) → stateOf c l v n′ st′ cl′ wt′ ≡ F v (stateOf c l v n st cl wt))
@@ -145,7 +156,7 @@ module _ {c : Catalogue} {l : Limits} where
 
     -- the same by another name
     pub did-as : {G : Reading → State → State} → Did c l F n st cl wt n′ st′ cl′ wt′ → ((v : Reading) (s : State) → Widens s (G v s))
-        → (Good c l n st cl wt → n .full ≡ false → (v : Reading) → F v (stateOf c l v n st cl wt) ≡ G v (stateOf c l v n st cl wt))
+        → (Good c l n st cl wt → isFull n ≡ false → (v : Reading) → F v (stateOf c l v n st cl wt) ≡ G v (stateOf c l v n st cl wt))
         → Did c l G n st cl wt n′ st′ cl′ wt′
     did-as d w h =
         record {
@@ -161,7 +172,7 @@ module _ {c : Catalogue} {l : Limits} where
         }
 
     -- the next step is not taken where it is full
-    pub did-stop : {G : Reading → State → State} → Did c l F n st cl wt n′ st′ cl′ wt′ → n′ .full ≡ true → ((v : Reading) (s : State) → Widens s (G v s))
+    pub did-stop : {G : Reading → State → State} → Did c l F n st cl wt n′ st′ cl′ wt′ → isFull n′ ≡ true → ((v : Reading) (s : State) → Widens s (G v s))
         → Did c l (λ v s. G v (F v s)) n st cl wt n′ st′ cl′ wt′
     did-stop d f w =
         record {
@@ -189,16 +200,16 @@ module _ {c : Catalogue} {l : Limits} where
             drawn = λ i. k .drawn i ∙ d .drawn i;
             stays = λ e. k .stays (d .stays e);
             done = λ g e e″ v. let e′ = not-full e″ in k .done (d .good g) e′ e″ v ∙ ap (G v) (d .done g e e′ v);
-            over = λ g e e″ v. by-cases (n′ .full)
+            over = λ g e e″ v. by-cases (isFull n′)
                 (λ e′. stays-beyond l (roomOf l n) (k .wide v _) (d .over g e e′ v))
                 (λ e′. ap (λ s. beyond l (roomOf l n) (G v s)) (sym (d .done g e e′ v))
                 ∙ (ap (λ m. beyond l m (G v (stateOf c l v n′ st′ cl′ wt′))) (sym (same-room l n n′ (d .first))) ∙ k .over (d .good g) e′ e″ v));
           }
         where
-          not-full : n″ .full ≡ false → n′ .full ≡ false
-          not-full e″ = by-cases (n′ .full) (λ e′. absurd (true≢false (sym (k .stays e′) ∙ e″))) (λ e′. e′)
+          not-full : isFull n″ ≡ false → isFull n′ ≡ false
+          not-full e″ = by-cases (isFull n′) (λ e′. absurd (true≢false (sym (k .stays e′) ∙ e″))) (λ e′. e′)
 
 -- a step that does not read the catalogue, where it is full already
 pub plain-full : {l : Limits} {n : Counters} {st : ℕ → List ℕ} {F : Catalogue → Reading → State → State}
-    → ((c : Catalogue) (v : Reading) (s : State) → Widens s (F c v s)) → n .full ≡ true → PlainDid l F n st n st
+    → ((c : Catalogue) (v : Reading) (s : State) → Widens s (F c v s)) → isFull n ≡ true → PlainDid l F n st n st
 plain-full w f = record { is = λ c. record { is = λ cl wt. did-full f (w c) } }

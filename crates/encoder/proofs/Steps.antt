@@ -15,7 +15,7 @@ use Rattle.state.specs.declared.Limits.{Limits}
 use Rattle.variable_map.specs.Mapping.{variables}
 use Rattle.encoder.specs.declared.Counters.{Counters}
 use Rattle.encoder.specs.Held.{Reading, openingOf, stateOf, Good, GoodAlone, KnownUnlessFull, LongEnough}
-use Rattle.encoder.specs.Did.{Widens, Did, StateDid, ClausesDid}
+use Rattle.encoder.specs.Did.{Widens, Did, StateDid, ClausesDid, isFull}
 use Rattle.encoder.proofs.Did.{did-as, did-then, did-idle, widens-same}
 
 -- the waiting area has no part in it
@@ -87,9 +87,9 @@ some : Reading
 some = record { truth = λ p. false; drawn = [] }
 
 module _ {c : Catalogue} {l : Limits} {F : Reading → State → State} {n n′ : Counters} {st st′ : ℕ → List ℕ} {cl wt cl′ wt′ : List ℕ}
-    (d : Did c l F n st cl wt n′ st′ cl′ wt′) (g : Good c l n st cl wt) (e : n′ .full ≡ false) where
-  pub not-full : n .full ≡ false
-  not-full = by-cases (n .full) (λ f. absurd (true≢false (sym (d .stays f) ∙ e))) (λ f. f)
+    (d : Did c l F n st cl wt n′ st′ cl′ wt′) (g : Good c l n st cl wt) (e : isFull n′ ≡ false) where
+  pub not-full : isFull n ≡ false
+  not-full = by-cases (isFull n) (λ f. absurd (true≢false (sym (d .stays f) ∙ e))) (λ f. f)
 
   -- the variables are those of F
   pub variables-after : (v : Reading) → variables (n′ .variables) st′ ≡ (F v (stateOf c l v n st cl wt)) .variables
@@ -102,16 +102,16 @@ module _ {c : Catalogue} {l : Limits} {F : Reading → State → State} {n n′ 
   still-known o k = keeps-variable prefix o k .0
 
 module _ {c : Catalogue} {l : Limits} {F : Reading → State → State} {n n′ : Counters} {st st′ : ℕ → List ℕ} {ps : List ℕ} where
-  did-known : {cl wt cl′ wt′ : List ℕ} → Did c l F n st cl wt n′ st′ cl′ wt′ → Good c l n st cl wt → KnownUnlessFull (n .full) (variables (n .variables) st) ps
-      → KnownUnlessFull (n′ .full) (variables (n′ .variables) st′) ps
+  did-known : {cl wt cl′ wt′ : List ℕ} → Did c l F n st cl wt n′ st′ cl′ wt′ → Good c l n st cl wt → KnownUnlessFull (isFull n) (variables (n .variables) st) ps
+      → KnownUnlessFull (isFull n′) (variables (n′ .variables) st′) ps
   did-known d g a = record { known = λ e. record { known = each-imp (λ p k. still-known d g e (partOrigin p) k) (a .known (not-full d g e) .known) } }
 
-  pub known-after : StateDid c l F n st n′ st′ → GoodAlone c l n st → KnownUnlessFull (n .full) (variables (n .variables) st) ps
-      → KnownUnlessFull (n′ .full) (variables (n′ .variables) st′) ps
+  pub known-after : StateDid c l F n st n′ st′ → GoodAlone c l n st → KnownUnlessFull (isFull n) (variables (n .variables) st) ps
+      → KnownUnlessFull (isFull n′) (variables (n′ .variables) st′) ps
   known-after d g a = did-known (d .is (g .clauses) []) (g .good) a
 
-  pub known-later : {cl cl′ : List ℕ} → ClausesDid c l F n st cl n′ st′ cl′ → Good c l n st cl [] → KnownUnlessFull (n .full) (variables (n .variables) st) ps
-      → KnownUnlessFull (n′ .full) (variables (n′ .variables) st′) ps
+  pub known-later : {cl cl′ : List ℕ} → ClausesDid c l F n st cl n′ st′ cl′ → Good c l n st cl [] → KnownUnlessFull (isFull n) (variables (n .variables) st) ps
+      → KnownUnlessFull (isFull n′) (variables (n′ .variables) st′) ps
   known-later d g a = did-known (d .is []) g a
 
 -- ---- what was handled and fired is not kept

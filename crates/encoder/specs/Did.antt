@@ -1,9 +1,9 @@
 -- What a step of the encoder does: what a function of the definitions does, or, where that would pass a limit, nothing but to say so.
 use mathlib.Core.Path.{_≡_}
-use mathlib.Core.Bool.{Bool, true, false, _||_}
+use mathlib.Core.Bool.{Bool, true, false, not, _||_}
 use mathlib.Core.List.{List}
 use Prim.Native.Nat.{ℕ, _+_, _-_, _<_, _≤_}
-use lib.Dec.{ltb}
+use lib.Dec.{eqb, ltb}
 use lib.ListN.{length, take}
 use Rattle.rules.specs.Catalogue.{Catalogue}
 use Rattle.rules.specs.Lists.{snoc}
@@ -20,6 +20,10 @@ use Rattle.encoder.specs.Held.{Reading, stateOf, Good}
 
 unfoldable pub limitsOf : Limits → rules.Limits
 limitsOf l = record { variables = l .variables; clauses = l .clauses; conditionLiterals = l .literals; waiting = l .waiting }
+
+-- a limit would have been passed
+abbrev pub isFull : Counters → Bool
+isFull n = not (eqb (n .full) 0)
 
 -- the places that are left in the line for the tasks that the present task queues
 unfoldable pub roomOf : Limits → Counters → ℕ
@@ -63,9 +67,9 @@ pub record Did (c : Catalogue) (l : Limits) (F : Reading → State → State) (n
   pub beside : Good c l n st cl wt → Beside (n .first) st st′
   pub fewer : n′ .drawn ≡ n .drawn
   pub drawn : (k : ℕ) → drawnIn l k wt′ ≡ drawnIn l k wt
-  pub stays : n .full ≡ true → n′ .full ≡ true
-  pub done : Good c l n st cl wt → n .full ≡ false → n′ .full ≡ false → (v : Reading) → stateOf c l v n′ st′ cl′ wt′ ≡ F v (stateOf c l v n st cl wt)
-  pub over : Good c l n st cl wt → n .full ≡ false → n′ .full ≡ true → (v : Reading) → beyond l (roomOf l n) (F v (stateOf c l v n st cl wt)) ≡ true
+  pub stays : isFull n ≡ true → isFull n′ ≡ true
+  pub done : Good c l n st cl wt → isFull n ≡ false → isFull n′ ≡ false → (v : Reading) → stateOf c l v n′ st′ cl′ wt′ ≡ F v (stateOf c l v n st cl wt)
+  pub over : Good c l n st cl wt → isFull n ≡ false → isFull n′ ≡ true → (v : Reading) → beyond l (roomOf l n) (F v (stateOf c l v n st cl wt)) ≡ true
 
 -- the same of a step of the state area alone, whatever the other two hold
 pub record StateDid (c : Catalogue) (l : Limits) (F : Reading → State → State) (n : Counters) (st : ℕ → List ℕ) (n′ : Counters) (st′ : ℕ → List ℕ) : Type 0 where
@@ -102,5 +106,5 @@ filled n =
       first = n .first;
       tail = n .tail;
       runs = n .runs;
-      full = true;
+      full = 1;
     }

@@ -2,7 +2,8 @@
 ghost use mathlib.Core.Path.{_≡_};
 ghost use Rattle.encoder.specs.Did.{filled};
 
-// How much of each table is used; the tasks that the present task has queued begin at `first`.
+// How much of each table is used; the tasks that the present task has queued begin at `first`. `full` is 1 if a limit would be passed, and else 0: a number
+// as the others, because a byte among them leaves a hole, which makes each copy slow.
 pub struct Counters {
     pub variables: usize,
     pub clauses: usize,
@@ -19,7 +20,7 @@ pub struct Counters {
     pub first: usize,
     pub tail: usize,
     pub runs: usize,
-    pub full: bool,
+    pub full: usize,
 }
 
 // A run: its number from 1, its level, and how many variables it began with.
@@ -34,6 +35,6 @@ pub fn filled(n: Counters) -> Counters
     ensures { λ r. ⌜ r ≡ filled n ⌝ }
 {
     let mut m = n;
-    m.full = true;
+    m.full = 1;
     m
 }

@@ -24,7 +24,7 @@ use Rattle.marked.specs.Marked.{listed}
 use Rattle.encoder.specs.declared.Counters.{Counters}
 use Rattle.encoder.specs.declared.Run.{Run}
 use Rattle.encoder.specs.Held.{Reading, runOf, openingOf, stateOf, LongEnough, Good}
-use Rattle.encoder.specs.Did.{limitsOf, roomOf, ClausesDid}
+use Rattle.encoder.specs.Did.{limitsOf, roomOf, ClausesDid, isFull}
 use Rattle.encoder.proofs.Steps.{long-same}
 use Rattle.naming.specs.Alike.{AlikeIn}
 use Rattle.naming.proofs.Alike.{in-same}
@@ -79,7 +79,7 @@ module _ {c : Catalogue} {l : Limits} {r : Run} {n a : Counters} {st st₁ : ℕ
     unfolding runOf
     run-is = rw (w .number, w .before) (held-run h (r .level))
 
-    first-point : a .full ≡ false → Point c l (r .level) (runOf r) s (readingOf s) 0 a st₁ cl wt
+    first-point : isFull a ≡ false → Point c l (r .level) (runOf r) s (readingOf s) 0 a st₁ cl wt
     first-point f = run-begins g reached run-is size refl refl (held-entries h) (x .first) (x .done s g reached h f)
 
   -- what serving the line asks
@@ -97,17 +97,17 @@ module _ {c : Catalogue} {l : Limits} {r : Run} {n a : Counters} {st st₁ : ℕ
 
   module _ {b : Counters} {st₂ : ℕ → List ℕ} {cl₂ wt₂ : List ℕ} (y : LineServed c l (runOf r) (n .drawn) a st₁ cl wt b st₂ cl₂ wt₂) where
     -- full already: when the run began, or in its line
-    pub line-over : b .full ≡ true → RunDid c l (r .level) n st cl wt b st₂ cl₂ wt₂
+    pub line-over : isFull b ≡ true → RunDid c l (r .level) n st cl wt b st₂ cl₂ wt₂
     line-over f =
         record {
           done = λ s g reached h z. absurd (true≢false (sym f ∙ z));
-          over = λ s g reached h _. by-cases (a .full) (λ e. x .over s g reached h e (r .level))
+          over = λ s g reached h _. by-cases (isFull a) (λ e. x .over s g reached h e (r .level))
               (λ e. y .over (r .level) s (held-count h) (first-point g reached h e) e f);
         }
 
-    module _ (f : b .full ≡ false) where
-      not-before : a .full ≡ false
-      not-before = by-cases (a .full) (λ e. absurd (true≢false (sym (y .stays e) ∙ f))) (λ e. e)
+    module _ (f : isFull b ≡ false) where
+      not-before : isFull a ≡ false
+      not-before = by-cases (isFull a) (λ e. absurd (true≢false (sym (y .stays e) ∙ f))) (λ e. e)
 
       all-taken : taken b ≡ b
       all-taken = taken-none b (y .ended f)
@@ -141,7 +141,7 @@ module _ {c : Catalogue} {l : Limits} {r : Run} {n a : Counters} {st st₁ : ℕ
         joined-good = j .is wt₂ .good (y .good)
 
         -- full when the parts had joined
-        pub join-over : d .full ≡ true → RunDid c l (r .level) n st cl wt d st₃ cl₃ wt₂
+        pub join-over : isFull d ≡ true → RunDid c l (r .level) n st cl wt d st₃ cl₃ wt₂
         join-over z =
             record {
               done = λ s g reached h i. absurd (true≢false (sym z ∙ i));
@@ -149,7 +149,7 @@ module _ {c : Catalogue} {l : Limits} {r : Run} {n a : Counters} {st st₁ : ℕ
                   (j .is wt₂ .over (y .good) f z (readingOf s));
             }
 
-        module _ (z : d .full ≡ false) where
+        module _ (z : isFull d ≡ false) where
           join-is : (v : Reading) → stateOf c l v d st₃ cl₃ wt₂ ≡ joinAll c (runOf r) (stateOf c l v b st₂ cl₂ wt₂)
           join-is v = j .is wt₂ .done (y .good) f z v
 

@@ -46,11 +46,11 @@ pub fn run_once(
     let drawn = n.drawn;
     let a = beginning::begin_run(marks, unions, t, k, s, clauses, w, l, n);
     let b = serving::serve_line(marks, unions, t, k, s, clauses, w, l, a, r, drawn, settled);
-    if b.full {
+    if b.full != 0 {
         return b;
     }
     let c = binary_encoding::join_all(marks, unions, t, k, s, clauses, l, b, r);
-    if c.full {
+    if c.full != 0 {
         return c;
     }
     binary_encoding::link_all(marks, unions, t, k, s, clauses, l, c, r)

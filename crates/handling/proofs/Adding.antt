@@ -28,7 +28,7 @@ use Rattle.decision_tracker.specs.Tracking.{decisions}
 use Rattle.encoder.specs.declared.Counters.{Counters}
 use Rattle.encoder.specs.declared.Run.{Run}
 use Rattle.encoder.specs.Held.{runOf, Reading, literalsIn, goalVariables, stateOf, Good}
-use Rattle.encoder.specs.Did.{Widens, filled, Did, ClausesDid, PlainDid}
+use Rattle.encoder.specs.Did.{Widens, filled, Did, ClausesDid, PlainDid, isFull}
 use Rattle.encoder.proofs.Did.{widens-then, did-as, did-then, did-stop}
 use Rattle.encoder.proofs.Widening.{addClause-widens, addClause-variables}
 use Rattle.encoder.proofs.Steps.{clauses-none, variables-after}
@@ -149,7 +149,7 @@ module _ (c : Catalogue) (r : rules.Run) (q : ℕ) where
 
 -- named, it has one
 pub gate-known : {c : Catalogue} {l : Limits} (q : ℕ) {n n₁ : Counters} {st st₁ : ℕ → List ℕ} {cl : List ℕ} (w : code.Origin) → originOf w ≡ gate (goalAt c q)
-    → PlainDid l (λ c v. addVariable (originOf w)) n st n₁ st₁ → Good c l n st cl [] → n₁ .full ≡ false
+    → PlainDid l (λ c v. addVariable (originOf w)) n st n₁ st₁ → Good c l n st cl [] → isFull n₁ ≡ false
     → known (variables (n₁ .variables) st₁) (gate (goalAt c q)) ≡ true
 gate-known {c} q {cl = cl} w i d g f =
     let v : Reading = record { truth = λ p. false; drawn = [] } in
@@ -165,14 +165,14 @@ module _ (c : Catalogue) {l : Limits} (r : Run) (q : ℕ) {new : Bool} {n n₁ :
       → afterGate c (runOf r) q new (addVariable (gate (goalAt c q)) (stateOf c l v n st cl wt)) ≡ addThroughGate c (runOf r) q (stateOf c l v n st cl wt)
   through v wt = through-is c (runOf r) q (stateOf c l v n st cl wt) new (unfold stateOf in e)
 
-  pub through-full : n₁ .full ≡ true → ClausesDid c l (λ v. addThroughGate c (runOf r) q) n st cl n₁ st₁ cl
+  pub through-full : isFull n₁ ≡ true → ClausesDid c l (λ v. addThroughGate c (runOf r) q) n st cl n₁ st₁ cl
   through-full f =
       record {
         is = λ wt. did-as (did-stop {G = λ v. afterGate c (runOf r) q new} (opened wt) f (λ v s. after-widens c (runOf r) q new s))
             (λ v s. through-gate-widens c (runOf r) q s) (λ _ _ v. through v wt);
       }
 
-  pub through-added : {n₂ n₃ : Counters} {st₂ st₃ : ℕ → List ℕ} {cl₂ cl₃ : List ℕ} {y x : ℕ} → n₁ .full ≡ false
+  pub through-added : {n₂ n₃ : Counters} {st₂ st₃ : ℕ → List ℕ} {cl₂ cl₃ : List ℕ} {y x : ℕ} → isFull n₁ ≡ false
       → Found l (variables (n₁ .variables) st₁) (gate (goalAt c q)) y → Found l (variables (n₁ .variables) st₁) (chosen (ownerAt c q)) x
       → ClausesDid c l (λ v. addGate c (runOf r) q new) n₁ st₁ cl n₂ st₂ cl₂ → Adds l r (anyGate y x) n₂ st₂ cl₂ n₃ st₃ cl₃
       → ClausesDid c l (λ v. addThroughGate c (runOf r) q) n st cl n₃ st₃ cl₃

@@ -23,7 +23,7 @@ use Rattle.variable_map.specs.Mapping.{originOf, variables}
 use Rattle.marked.specs.Marked.{listed}
 use Rattle.encoder.specs.declared.Counters.{Counters}
 use Rattle.encoder.specs.Held.{Reading, stateOf, Good}
-use Rattle.encoder.specs.Did.{StateDid, ClausesDid, PlainDid}
+use Rattle.encoder.specs.Did.{StateDid, ClausesDid, PlainDid, isFull}
 use Rattle.encoder.proofs.Did.{widens-fold, did-as, did-stop}
 use Rattle.encoder.proofs.Steps.{clauses-same, clauses-none, state-then, clauses-then, state-then-clauses, state-clauses, good-later, not-full, variables-after, still-known}
 use Rattle.firing.specs.declared.Indices.{Indices}
@@ -51,11 +51,11 @@ module _ {c : Catalogue} {l : Limits} {F : Reading → State → State} {n n′ 
       let b = d .is [] .beside g in
       record { marked = b .marked ranges (h .marked); is = b .list ranges (h .marked) ∙ h .is }
 
-  named-later : ClausesDid c l F n st cl n′ st′ cl′ → Good c l n st cl [] → n′ .full ≡ false → Named c q (variables (n .variables) st)
+  named-later : ClausesDid c l F n st cl n′ st′ cl′ → Good c l n st cl [] → isFull n′ ≡ false → Named c q (variables (n .variables) st)
       → Named c q (variables (n′ .variables) st′)
   named-later d g e h = named-kept (still-known (d .is []) g e) h
 
-  fired-later : {is : List ℕ} → ClausesDid c l F n st cl n′ st′ cl′ → Good c l n st cl [] → n′ .full ≡ false → FiredKnown c (variables (n .variables) st) q is
+  fired-later : {is : List ℕ} → ClausesDid c l F n st cl n′ st′ cl′ → Good c l n st cl [] → isFull n′ ≡ false → FiredKnown c (variables (n .variables) st) q is
       → FiredKnown c (variables (n′ .variables) st′) q is
   fired-later d g e h = fired-kept (still-known (d .is []) g e) h
 
@@ -63,7 +63,7 @@ module _ {c : Catalogue} {l : Limits} {F : Reading → State → State} {n n′ 
   pub hand-after : {ranges : ℕ} → StateDid c l F n st n′ st′ → Good c l n st cl [] → AtHand c q ranges st → AtHand c q ranges st′
   hand-after d g h = hand-later (state-clauses d) g h
 
-  pub named-after : StateDid c l F n st n′ st′ → Good c l n st cl [] → n′ .full ≡ false → Named c q (variables (n .variables) st)
+  pub named-after : StateDid c l F n st n′ st′ → Good c l n st cl [] → isFull n′ ≡ false → Named c q (variables (n .variables) st)
       → Named c q (variables (n′ .variables) st′)
   named-after d g e h = named-later (state-clauses d) g e h
 
@@ -79,8 +79,8 @@ pub record Firing (c : Catalogue) (l : Limits) (r : Run) (q ranges : ℕ) (is : 
   pub same-clauses : length cl ≡ length cl₀
   pub good : Good c l n (held l s) cl []
   pub hand : AtHand c q ranges (held l s)
-  pub named : n .full ≡ false → Named c q (variables (n .variables) (held l s))
-  pub fired : n .full ≡ false → FiredKnown c (variables (n .variables) (held l s)) q is
+  pub named : isFull n ≡ false → Named c q (variables (n .variables) (held l s))
+  pub fired : isFull n ≡ false → FiredKnown c (variables (n .variables) (held l s)) q is
   pub did : ClausesDid c l (λ v. fold (addFired c r q) (take j is)) n₀ (held l s₀) cl₀ n (held l s) cl
 
 all-of-them : (f : ℕ → State → State) (xs : List ℕ) (j : ℕ) (s : State) → fold f (drop j xs) (fold f (take j xs) s) ≡ fold f xs s
@@ -118,10 +118,10 @@ module _ {c : Catalogue} {l : Limits} {r : Run} {q ranges : ℕ} {n₀ : Counter
   unfolding indicesIn
   index-is h = sym (getD-take (is .len) (is .at) j 0 h)
 
-  pub firing-known : n .full ≡ false → j < is .len → DisjunctKnown c (variables (n .variables) (held l s)) (disjunctAt c q (getD (is .at) j 0))
+  pub firing-known : isFull n ≡ false → j < is .len → DisjunctKnown c (variables (n .variables) (held l s)) (disjunctAt c q (getD (is .at) j 0))
   firing-known e h = rw (index-is h) (each-at (x .fired e .known) j 0 (rw indices-length h))
 
-  pub firing-step : n .full ≡ false → j < is .len → {n′ : Counters} {s′ cl′ : List ℕ} → length s′ ≡ length s → length cl′ ≡ length cl
+  pub firing-step : isFull n ≡ false → j < is .len → {n′ : Counters} {s′ cl′ : List ℕ} → length s′ ≡ length s → length cl′ ≡ length cl
       → ClausesDid c l (λ v. addFired c r q (getD (is .at) j 0)) n (held l s) cl n′ (held l s′) cl′ → Firing c l r q ranges (indicesIn is) n₀ s₀ cl₀ n′ s′ cl′ (j + 1)
   firing-step e h i k d =
       let below : j < length (indicesIn is) = rw indices-length h in
@@ -139,7 +139,7 @@ module _ {c : Catalogue} {l : Limits} {r : Run} {q ranges : ℕ} {n₀ : Counter
   pub firing-end : is .len ≤ j → ClausesDid c l (λ v. addAllFired c r q (indicesIn is)) n₀ (held l s₀) cl₀ n (held l s) cl
   firing-end h = clauses-same (x .did) (λ v t. unfold addAllFired in none-left (addFired c r q) (indicesIn is) j t (all-passed h))
 
-  pub firing-full : n .full ≡ true → ClausesDid c l (λ v. addAllFired c r q (indicesIn is)) n₀ (held l s₀) cl₀ n (held l s) cl
+  pub firing-full : isFull n ≡ true → ClausesDid c l (λ v. addAllFired c r q (indicesIn is)) n₀ (held l s₀) cl₀ n (held l s) cl
   firing-full f =
       record {
         is = λ wt. did-as (did-stop {G = λ v. fold (addFired c r q) (drop j (indicesIn is))} (x .did .is wt) f
@@ -151,10 +151,10 @@ module _ {c : Catalogue} {l : Limits} {r : Run} {q ranges : ℕ} {n₀ : Counter
 
 module _ {c : Catalogue} {l : Limits} (q : ℕ) (is : List ℕ) {n n₁ : Counters} {st st₁ : ℕ → List ℕ} {cl : List ℕ}
     (d : StateDid c l (λ v. nameDisjuncts c q is) n st n₁ st₁) where
-  pub fired-after : Good c l n st cl [] → n₁ .full ≡ false → FiredKnown c (variables (n₁ .variables) st₁) q is
+  pub fired-after : Good c l n st cl [] → isFull n₁ ≡ false → FiredKnown c (variables (n₁ .variables) st₁) q is
   fired-after g e = rw (variables-after (d .is cl []) g e anything) (fired-known c q is (stateOf c l anything n st cl []))
 
-  pub conditional-full : (r : Run) → n₁ .full ≡ true → ClausesDid c l (λ v u. addAllFired c r q is (nameDisjuncts c q is u)) n st cl n₁ st₁ cl
+  pub conditional-full : (r : Run) → isFull n₁ ≡ true → ClausesDid c l (λ v u. addAllFired c r q is (nameDisjuncts c q is u)) n st cl n₁ st₁ cl
   conditional-full r f = record { is = λ wt. did-stop {G = λ v. addAllFired c r q is} (d .is cl wt) f (λ v s. all-fired-widen c r q is s) }
 
 -- ---- without
@@ -184,7 +184,7 @@ module _ {c : Catalogue} {l : Limits} {q ranges : ℕ} (settled : Bool) (w : cod
   pub handle-good : {cl : List ℕ} → Good c l n st cl [] → Good c l n₂ st₂ cl []
   handle-good {cl} g = named .is cl [] .good g
 
-  pub handle-named : {cl : List ℕ} → Good c l n st cl [] → (settled ≡ true → Settles c l (distinct (goalRanges c (goalAt c q))) n st) → n₂ .full ≡ false
+  pub handle-named : {cl : List ℕ} → Good c l n st cl [] → (settled ≡ true → Settles c l (distinct (goalRanges c (goalAt c q))) n st) → isFull n₂ ≡ false
       → Named c q (variables (n₂ .variables) st₂)
   handle-named {cl} g f e =
       rw (variables-after (named .is cl []) g e anything)
@@ -194,7 +194,7 @@ module _ {c : Catalogue} {l : Limits} {q ranges : ℕ} (settled : Bool) (w : cod
   handle-hand g a = hand-after named g a
 
   module _ (r : Run) (is : List ℕ) {cl : List ℕ} where
-    pub handled-full : n₂ .full ≡ true → ClausesDid c l (λ v. handled c r q settled is) n st cl n₂ st₂ cl
+    pub handled-full : isFull n₂ ≡ true → ClausesDid c l (λ v. handled c r q settled is) n st cl n₂ st₂ cl
     handled-full f =
         record {
           is = λ wt. did-as (did-stop {G = λ v. addBy c r q (shapeOf c q) is} (named .is cl wt) f (λ v s. added-widens c r q (shapeOf c q) is s))

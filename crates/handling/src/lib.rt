@@ -160,7 +160,7 @@ fn add_through_gate(
     let o = gate_origin(goal);
     let new = variable_map::variable(s, l, n.variables, o) == 0;
     let a = opening::name_variable(s, l, n, o);
-    if a.full {
+    if a.full != 0 {
         return a;
     }
     let g = opening::variable_of(s, l, a, o);
@@ -244,7 +244,7 @@ fn add_all_fired(
     let mut m = n;
     let mut j = 0;
     while j < is.len {
-        if m.full {
+        if m.full != 0 {
             return m;
         }
         let i = is.at[j];
@@ -294,7 +294,7 @@ fn handle_conditional(
     ensures { λ m. ⌜ ClausesDid (catalogue k (now (marks .entry)) (now (unions .entry)) (now (t .entry))) l (λ v. λ u. addAllFired (catalogue k (now (marks .entry)) (now (unions .entry)) (now (t .entry))) (runOf r) q (indicesIn is) (nameDisjuncts (catalogue k (now (marks .entry)) (now (unions .entry)) (now (t .entry))) q (indicesIn is) u)) n (held l (now (s .entry))) (now (clauses .entry)) m (held l (now (s .exit))) (now (clauses .exit)) ⌝ }
 {
     let m = naming::name_disjuncts(marks, unions, t, k, s, l, n, q, is);
-    if m.full {
+    if m.full != 0 {
         return m;
     }
     add_all_fired(marks, unions, t, k, s, clauses, l, m, r, q, ranges, is)
@@ -367,7 +367,7 @@ fn handle(
         owners::owner_origin(owners::owner_number(it.owner)),
     );
     let b = naming::name_candidates(marks, unions, t, k, s, l, a, ranges, settled);
-    if b.full {
+    if b.full != 0 {
         return b;
     }
     if it.condition == 65535 {

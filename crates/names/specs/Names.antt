@@ -9,7 +9,7 @@ use Rattle.rules.specs.State.{State, Run}
 use Rattle.state.specs.declared.Limits.{Limits}
 use Rattle.variable_map.specs.Mapping.{variables}
 use Rattle.encoder.specs.declared.Counters.{Counters}
-use Rattle.encoder.specs.Did.{onOpening, StateDid}
+use Rattle.encoder.specs.Did.{onOpening, StateDid, isFull}
 use Rattle.encoder.specs.Held.{KnownUnlessFull}
 use Rattle.parts.specs.declared.Naming.the-variants.{Variable}
 use Rattle.parts.specs.declared.Adding.the-variants.{Lock, Excluded}
@@ -27,8 +27,8 @@ nameParts c n s =
 -- the parts of name n that its clauses are for are named, and so have variables
 pub record NamesParts (c : Catalogue) (l : Limits) (n : ℕ) (a : Counters) (st : ℕ → List ℕ) (a′ : Counters) (st′ : ℕ → List ℕ) : Type 0 where
   pub did : StateDid c l (λ v. nameParts c n) a st a′ st′
-  pub locked : KnownUnlessFull (a′ .full) (variables (a′ .variables) st′) (lockedOut c n)
-  pub excluded : KnownUnlessFull (a′ .full) (variables (a′ .variables) st′) (excludedParts c n)
+  pub locked : KnownUnlessFull (isFull a′) (variables (a′ .variables) st′) (lockedOut c n)
+  pub excluded : KnownUnlessFull (isFull a′) (variables (a′ .variables) st′) (excludedParts c n)
 
 unfoldable pub addClauses : Catalogue → Run → ℕ → State → State
 addClauses c r n s = fold (addingOf r Excluded) (excludedParts c n) (fold (addingOf r Lock) (lockedOut c n) s)

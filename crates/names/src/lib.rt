@@ -20,7 +20,7 @@ ghost use Rattle.index.specs.Indexed.{Indexed};
 ghost use Rattle.state.specs.Layout.{held, Fits};
 ghost use Rattle.variable_map.specs.Mapping.{variables};
 ghost use Rattle.encoder.specs.Held.{runOf, LongEnough, Good, GoodAlone, KnownUnlessFull};
-ghost use Rattle.encoder.specs.Did.{onOpening, StateDid, ClausesDid};
+ghost use Rattle.encoder.specs.Did.{onOpening, StateDid, ClausesDid, isFull};
 ghost use Rattle.parts.specs.declared.Naming.the-variants.{Variable};
 ghost use Rattle.parts.specs.declared.Adding.the-variants as Adding;
 ghost use Rattle.parts.specs.Parts.{namingOf, addingOf};
@@ -161,7 +161,7 @@ fn lock_others(
     requires { ⌜ LongEnough l (length (now clauses)) 16384 ⌝ }
     requires { ⌜ 0 < r .number ⌝ }
     requires { ⌜ locked ≡ firstOf (length ((catalogue k (now marks) (now unions) (now t)) .parts)) (lockedPart (catalogue k (now marks) (now unions) (now t)) name) ⌝ }
-    requires { ⌜ KnownUnlessFull (n .full) (variables (n .variables) (held l (now s))) (lockedOut (catalogue k (now marks) (now unions) (now t)) name) ⌝ }
+    requires { ⌜ KnownUnlessFull (isFull n) (variables (n .variables) (held l (now s))) (lockedOut (catalogue k (now marks) (now unions) (now t)) name) ⌝ }
     ensures { λ m. ⌜ ClausesDid (catalogue k (now (marks .entry)) (now (unions .entry)) (now (t .entry))) l (λ v. fold (addingOf (runOf r) Adding.Lock) (lockedOut (catalogue k (now (marks .entry)) (now (unions .entry)) (now (t .entry))) name)) n (held l (now (s .entry))) (now (clauses .entry)) m (held l (now (s .exit))) (now (clauses .exit)) ⌝ }
 {
     if locked < k.parts {
@@ -202,8 +202,8 @@ fn add_clauses(
     requires { ⌜ LongEnough l (length (now clauses)) 16384 ⌝ }
     requires { ⌜ 0 < r .number ⌝ }
     requires { ⌜ locked ≡ firstOf (length ((catalogue k (now marks) (now unions) (now t)) .parts)) (lockedPart (catalogue k (now marks) (now unions) (now t)) name) ⌝ }
-    requires { ⌜ KnownUnlessFull (n .full) (variables (n .variables) (held l (now s))) (lockedOut (catalogue k (now marks) (now unions) (now t)) name) ⌝ }
-    requires { ⌜ KnownUnlessFull (n .full) (variables (n .variables) (held l (now s))) (excludedParts (catalogue k (now marks) (now unions) (now t)) name) ⌝ }
+    requires { ⌜ KnownUnlessFull (isFull n) (variables (n .variables) (held l (now s))) (lockedOut (catalogue k (now marks) (now unions) (now t)) name) ⌝ }
+    requires { ⌜ KnownUnlessFull (isFull n) (variables (n .variables) (held l (now s))) (excludedParts (catalogue k (now marks) (now unions) (now t)) name) ⌝ }
     ensures { λ m. ⌜ ClausesDid (catalogue k (now (marks .entry)) (now (unions .entry)) (now (t .entry))) l (λ v. addClauses (catalogue k (now (marks .entry)) (now (unions .entry)) (now (t .entry))) (runOf r) name) n (held l (now (s .entry))) (now (clauses .entry)) m (held l (now (s .exit))) (now (clauses .exit)) ⌝ }
 {
     let m = lock_others(marks, unions, t, k, s, clauses, l, n, r, name, locked);

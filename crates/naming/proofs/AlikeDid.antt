@@ -14,7 +14,7 @@ use Rattle.rules.proofs.Grows.{Prefix, either}
 use Rattle.state.specs.declared.Limits.{Limits}
 use Rattle.encoder.specs.declared.Counters.{Counters}
 use Rattle.encoder.specs.Held.{Reading, stateOf, Good}
-use Rattle.encoder.specs.Did.{Did}
+use Rattle.encoder.specs.Did.{Did, isFull}
 use Rattle.encoder.proofs.Steps.{not-full}
 use Rattle.naming.specs.Settled.{Noted, Settled, AllSettled, Settles}
 use Rattle.naming.specs.Alike.{untracked, Alike, AlikeIn, AlikeDid}
@@ -63,7 +63,7 @@ module _ {c : Catalogue} {l : Limits} {G : Reading → State → State} {n n′ 
 module _ {c : Catalogue} {l : Limits} {G : Reading → State → State} {n n′ : Counters} {st st′ : ℕ → List ℕ} {cl wt cl′ wt′ : List ℕ}
     (d : AlikeDid c l G n st cl wt n′ st′ cl′ wt′) (g : Good c l n st cl wt) {rs : List ℕ} where
   -- what is settled by G is settled now
-  pub settles-by : ((v : Reading) → n .full ≡ false → AllSettled c rs (G v (stateOf c l v n st cl wt))) → Settles c l rs n′ st′
+  pub settles-by : ((v : Reading) → isFull n ≡ false → AllSettled c rs (G v (stateOf c l v n st cl wt))) → Settles c l rs n′ st′
   settles-by h =
       record {
         held = λ f v cl″ wt″.

@@ -10,7 +10,7 @@ use Rattle.rules.specs.State.{State, setOpening}
 use Rattle.state.specs.declared.Limits.{Limits}
 use Rattle.encoder.specs.declared.Counters.{Counters}
 use Rattle.encoder.specs.Held.{Reading, stateOf}
-use Rattle.encoder.specs.Did.{Did}
+use Rattle.encoder.specs.Did.{Did, isFull}
 
 -- the names of these parts, each where it first stands
 unfoldable pub namesIn : Catalogue → List ℕ → List ℕ
@@ -33,7 +33,7 @@ pub record AlikeDid (c : Catalogue) (l : Limits) (G : Reading → State → Stat
     (n′ : Counters) (st′ : ℕ → List ℕ) (cl′ wt′ : List ℕ) : Type 0 where
   pub step : Reading → State → State
   pub did : Did c l step n st cl wt n′ st′ cl′ wt′
-  pub like : n .full ≡ false → (v : Reading) → AlikeIn c (G v (stateOf c l v n st cl wt)) (step v (stateOf c l v n st cl wt))
+  pub like : isFull n ≡ false → (v : Reading) → AlikeIn c (G v (stateOf c l v n st cl wt)) (step v (stateOf c l v n st cl wt))
 
 -- the same of the state area and the clauses', whatever the waiting area holds
 pub record ClausesAlike (c : Catalogue) (l : Limits) (G : Reading → State → State) (n : Counters) (st : ℕ → List ℕ) (cl : List ℕ)

@@ -13,6 +13,7 @@ use Rattle.rules.specs.Called.{_∈_}
 use Rattle.state.specs.declared.Limits.{Limits}
 use Rattle.encoder.specs.declared.Counters.{Counters}
 use Rattle.encoder.specs.Held.{Reading, stateOf}
+use Rattle.encoder.specs.Did.{isFull}
 
 -- part p is tracked, or is not to be named for tracking any more
 abbrev pub Noted : Catalogue → ℕ → Opening → Type 0
@@ -30,4 +31,4 @@ pub record AllSettled (c : Catalogue) (rs : List ℕ) (s : State) : Type 0 where
 
 -- and so they are in what the areas hold, unless it is full
 pub record Settles (c : Catalogue) (l : Limits) (rs : List ℕ) (n : Counters) (st : ℕ → List ℕ) : Type 0 where
-  pub held : n .full ≡ false → (v : Reading) (cl wt : List ℕ) → AllSettled c rs (stateOf c l v n st cl wt)
+  pub held : isFull n ≡ false → (v : Reading) (cl wt : List ℕ) → AllSettled c rs (stateOf c l v n st cl wt)

@@ -22,7 +22,7 @@ use Rattle.line.specs.Line.{queued, Queued}
 use Rattle.line.proofs.Line.{length-queued, line-room}
 use Rattle.encoder.specs.declared.Counters.{Counters}
 use Rattle.encoder.specs.Held.{Reading, taskIn, openingOf, stateOf, Good}
-use Rattle.encoder.specs.Did.{limitsOf, roomOf, beyond, onOpening, filled, Beside, PlainDid}
+use Rattle.encoder.specs.Did.{limitsOf, roomOf, beyond, onOpening, filled, Beside, PlainDid, isFull}
 use Rattle.encoder.proofs.Counted as counted
 use Rattle.encoder.proofs.Frames.{good-kept, list-kept}
 use Rattle.encoder.proofs.Did.{plain-full, did-filled, did-made}
@@ -39,7 +39,7 @@ beside-queued {first} q h =
     record { marked = λ m k. marked-same k (q .others) refl refl; list = λ m k. listed-same m 14 (q .others) refl; line = q .before first h }
 
 module _ {l : Limits} {n : Counters} where
-  pub queue-full : (x : ℕ) {st : ℕ → List ℕ} → n .full ≡ true → PlainDid l (λ c v. onOpening (queue (taskIn c v x))) n st n st
+  pub queue-full : (x : ℕ) {st : ℕ → List ℕ} → isFull n ≡ true → PlainDid l (λ c v. onOpening (queue (taskIn c v x))) n st n st
   queue-full x f = plain-full (λ c v. queue-widens _) f
 
   module _ {x tail : ℕ} {st st′ : ℕ → List ℕ} (q : Queued (n .tail) x st tail st′) where

@@ -19,7 +19,7 @@ use Rattle.marked.proofs.Owners.{owners-snoc, owner-after}
 use Rattle.line.proofs.Tasks.{task-owner, task-name}
 use Rattle.encoder.specs.declared.Counters.{Counters}
 use Rattle.encoder.specs.Held.{Reading, taskFrom, taskIn, openingOf, stateOf, Good}
-use Rattle.encoder.specs.Did.{onOpening, Did, PlainDid}
+use Rattle.encoder.specs.Did.{onOpening, Did, PlainDid, isFull}
 use Rattle.encoder.proofs.Counted as counted
 use Rattle.encoder.proofs.Frames.{good-kept, list-kept, line-kept}
 use Rattle.encoder.proofs.Did.{plain-full, did-idle, did-made, did-then, did-as, beside-kept}
@@ -72,7 +72,7 @@ module _ (l : Limits) (n : Counters) where
     owner-did : Did c l (λ v. onOpening (addOwner x)) n st cl wt (counted.withOwners count n) st′ cl wt
     owner-did = did-made (λ v. widens-opening (addOwner x) (addOwner-lengthens x)) refl (λ g. unfold any in beside-kept (p .others) refl refl refl) refl refl (λ k. refl) owner-good (λ g. owner-state)
 
-  pub openOwner-full : (o : ℕ) {st : ℕ → List ℕ} → n .full ≡ true → PlainDid l (λ c v. onOpening (openOwner (ownerOf o))) n st n st
+  pub openOwner-full : (o : ℕ) {st : ℕ → List ℕ} → isFull n ≡ true → PlainDid l (λ c v. onOpening (openOwner (ownerOf o))) n st n st
   openOwner-full o f = plain-full (λ c v. openOwner-widens _) f
 
   module _ (o : ℕ) {b : Bool} {st : ℕ → List ℕ} (m : Marked 1 2 (n .owners) st) (e : b ≡ isMarked 2 o st) where
@@ -122,7 +122,7 @@ module _ (l : Limits) (n : Counters) where
     name-did : Did c l (λ v. onOpening (addName x)) n st cl wt (counted.withNames count n) st′ cl wt
     name-did = did-made (λ v. widens-opening (addName x) (addName-lengthens x)) refl (λ g. unfold any in beside-kept (p .others) refl refl refl) refl refl (λ k. refl) name-good (λ g. name-state)
 
-  pub openName-full : (x : ℕ) {st : ℕ → List ℕ} → n .full ≡ true → PlainDid l (λ c v. onOpening (openName x)) n st n st
+  pub openName-full : (x : ℕ) {st : ℕ → List ℕ} → isFull n ≡ true → PlainDid l (λ c v. onOpening (openName x)) n st n st
   openName-full x f = plain-full (λ c v. openName-widens _) f
 
   module _ (x : ℕ) {b : Bool} {st : ℕ → List ℕ} (m : Marked 3 4 (n .names) st) (e : b ≡ isMarked 4 x st) where

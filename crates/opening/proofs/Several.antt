@@ -28,7 +28,7 @@ use Rattle.decision_tracker.proofs.Laws.{decisions-kept}
 use Rattle.marked.specs.Marked.{listed}
 use Rattle.encoder.specs.declared.Counters.{Counters}
 use Rattle.encoder.specs.Held.{Reading, openingOf, stateOf, Good}
-use Rattle.encoder.specs.Did.{limitsOf, roomOf, beyond, onOpening, withSeveral, filled, PlainDid}
+use Rattle.encoder.specs.Did.{limitsOf, roomOf, beyond, onOpening, withSeveral, filled, PlainDid, isFull}
 use Rattle.encoder.proofs.Counted as counted
 use Rattle.encoder.proofs.Frames.{good-kept, list-kept, line-kept}
 use Rattle.encoder.proofs.Did.{plain-full, did-filled, did-made, beside-kept}
@@ -78,7 +78,7 @@ unfolding beyond
 several-beyond l room s h = rw (lt-ltb 64 (length (s .opening .several)) h, or-true (ltb room (length (s .opening .line)))) (or-true (above (limitsOf l) s))
 
 module _ (l : Limits) (n : Counters) where
-  pub several-full : (x : ℕ) {st : ℕ → List ℕ} → n .full ≡ true → PlainDid l (λ c v. onOpening (withSeveral x)) n st n st
+  pub several-full : (x : ℕ) {st : ℕ → List ℕ} → isFull n ≡ true → PlainDid l (λ c v. onOpening (withSeveral x)) n st n st
   several-full x f = plain-full (λ c v. withSeveral-widens _) f
 
   module _ (x : ℕ) (b b′ : List ℕ) (f : Fits l (length b)) (h : n .several < 64) (e : held l b′ ≡ stored (held l b) 5 (n .several) x) where

@@ -18,7 +18,7 @@ use Rattle.marked.specs.Marked.{listed, isMarked, Marked, Free, Pushed}
 use Rattle.marked.proofs.Laws.{free-after, listed-after, mark-room}
 use Rattle.encoder.specs.declared.Counters.{Counters}
 use Rattle.encoder.specs.Held.{Reading, openingOf, stateOf, Good}
-use Rattle.encoder.specs.Did.{onOpening, Did, StateDid}
+use Rattle.encoder.specs.Did.{onOpening, Did, StateDid, isFull}
 use Rattle.encoder.proofs.Counted as counted
 use Rattle.encoder.proofs.Frames.{good-kept, list-kept, line-kept}
 use Rattle.encoder.proofs.Did.{did-full, did-idle, did-made, did-as, beside-kept}
@@ -52,7 +52,7 @@ module _ (l : Limits) (n : Counters) where
     named-did = did-made (λ v. widens-opening (addNamed x) (addNamed-lengthens x)) refl (λ g. unfold any in beside-kept (p .others) refl refl refl) refl refl (λ k. refl) named-good (λ g. named-state)
 
   module _ (c : Catalogue) (p : ℕ) {st : ℕ → List ℕ} where
-    pub tracking-full : n .full ≡ true → StateDid c l (λ v. onOpening (nameForTracking c p)) n st n st
+    pub tracking-full : isFull n ≡ true → StateDid c l (λ v. onOpening (nameForTracking c p)) n st n st
     tracking-full f = record { is = λ cl wt. did-full f (λ v. nameForTracking-widens c p) }
 
     -- it is not to be named

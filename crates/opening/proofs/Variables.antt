@@ -23,14 +23,14 @@ use Rattle.decision_tracker.proofs.Laws.{decisions-kept}
 use Rattle.encoder.specs.declared.Counters.{Counters}
 use Rattle.solver.specs.Rows.{rows}
 use Rattle.encoder.specs.Held.{Reading, clausesIn, openingOf, stateOf, Good}
-use Rattle.encoder.specs.Did.{limitsOf, roomOf, beyond, filled, Looked, PlainDid}
+use Rattle.encoder.specs.Did.{limitsOf, roomOf, beyond, filled, Looked, PlainDid, isFull}
 use Rattle.encoder.proofs.Counted as counted
 use Rattle.encoder.proofs.Frames.{state-kept, list-kept, line-kept, sound-still, clauses-still, good-within}
 use Rattle.encoder.proofs.Did.{plain-full, did-filled, did-made, beside-kept}
 use Rattle.encoder.proofs.Widening.{addVariable-widens}
 
 module _ (l : Limits) (n : Counters) where
-  pub variable-full : (o : Origin) {st : ℕ → List ℕ} → n .full ≡ true → PlainDid l (λ c v. addVariable o) n st n st
+  pub variable-full : (o : Origin) {st : ℕ → List ℕ} → isFull n ≡ true → PlainDid l (λ c v. addVariable o) n st n st
   variable-full o f = plain-full (λ c v. addVariable-widens o) f
 
   module _ {o : Origin} {count x : ℕ} {st st′ : ℕ → List ℕ} (m : Made l (n .variables) o count x st st′) (c : Catalogue) (cl wt : List ℕ) (g : Good c l n st cl wt) where

@@ -16,14 +16,14 @@ use Rattle.state.proofs.Changed.{changed-none}
 use Rattle.entries.specs.Entries.{waitingIn, PushedWaiting}
 use Rattle.encoder.specs.declared.Counters.{Counters}
 use Rattle.encoder.specs.Held.{Reading, openingOf, stateOf, Good}
-use Rattle.encoder.specs.Did.{limitsOf, roomOf, beyond, filled, WaitingDid}
+use Rattle.encoder.specs.Did.{limitsOf, roomOf, beyond, filled, WaitingDid, isFull}
 use Rattle.encoder.proofs.Counted as counted
 use Rattle.encoder.proofs.Frames.{good-kept, waiting-counted, good-within}
 use Rattle.encoder.proofs.Did.{did-full, did-filled, did-made, beside-same}
 use Rattle.encoder.proofs.Widening.{addWaiting-widens}
 
 module _ (l : Limits) (n : Counters) where
-  pub waiting-full : (e : ℕ × ℕ) {wt : List ℕ} → n .full ≡ true → WaitingDid l (λ v. addWaiting e) n wt n wt
+  pub waiting-full : (e : ℕ × ℕ) {wt : List ℕ} → isFull n ≡ true → WaitingDid l (λ v. addWaiting e) n wt n wt
   waiting-full e f = record { is = λ c st cl. did-full f (λ v. addWaiting-widens e) }
 
   module _ {e : ℕ × ℕ} {count : ℕ} {wt wt′ : List ℕ} (z : n .drawn ≡ 0) (h : n .waiting < l .waiting) (p : PushedWaiting l (n .waiting) e wt count wt′)

@@ -33,7 +33,7 @@ pub fn queue(s: &mut [u8], l: Limits, n: Counters, task: u16) -> Counters
     requires { ⌜ Fits l (length (now s)) ⌝ }
     ensures { λ r. ⌜ PlainDid l (λ c v. onOpening (queue (taskIn c v task))) n (held l (now (s .entry))) r (held l (now (s .exit))) ⌝ }
 {
-    if n.full {
+    if n.full != 0 {
         return n;
     }
     if n.tail < 3649 + l.waiting {
@@ -53,7 +53,7 @@ pub fn open_owner(s: &mut [u8], l: Limits, n: Counters, o: u16) -> Counters
     requires { ⌜ o < 1025 ⌝ }
     ensures { λ r. ⌜ PlainDid l (λ c v. onOpening (openOwner (ownerOf o))) n (held l (now (s .entry))) r (held l (now (s .exit))) ⌝ }
 {
-    if n.full {
+    if n.full != 0 {
         return n;
     }
     if marked::contains(s, l, state::OWNER_MARKS, o) {
@@ -71,7 +71,7 @@ pub fn open_name(s: &mut [u8], l: Limits, n: Counters, name: u16) -> Counters
     requires { ⌜ name < 64 ⌝ }
     ensures { λ r. ⌜ PlainDid l (λ c v. onOpening (openName name)) n (held l (now (s .entry))) r (held l (now (s .exit))) ⌝ }
 {
-    if n.full {
+    if n.full != 0 {
         return n;
     }
     if marked::contains(s, l, state::NAME_MARKS, name) {
@@ -105,7 +105,7 @@ pub fn push_several(s: &mut [u8], l: Limits, n: Counters, name: u16) -> Counters
     requires { ⌜ Fits l (length (now s)) ⌝ }
     ensures { λ r. ⌜ PlainDid l (λ c v. onOpening (withSeveral name)) n (held l (now (s .entry))) r (held l (now (s .exit))) ⌝ }
 {
-    if n.full {
+    if n.full != 0 {
         return n;
     }
     if n.several < 64 {
@@ -137,7 +137,7 @@ pub fn name_for_tracking(
         (λ v. onOpening (nameForTracking (catalogue k (now (marks .entry)) (now (unions .entry)) (now (t .entry))) p))
         n (held l (now (s .entry))) r (held l (now (s .exit))) ⌝ }
 {
-    if n.full {
+    if n.full != 0 {
         return n;
     }
     if marked::contains(s, l, state::NAMED_MARKS, p) {
@@ -160,7 +160,7 @@ pub fn add_waiting(w: &mut [u8], l: Limits, n: Counters, e: Entry) -> Counters
     requires { ⌜ n .drawn ≡ 0 ⌝ }
     ensures { λ r. ⌜ WaitingDid l (λ v. addWaiting (entryOf e)) n (now (w .entry)) r (now (w .exit)) ⌝ }
 {
-    if n.full {
+    if n.full != 0 {
         return n;
     }
     if n.waiting < l.waiting {
@@ -181,7 +181,7 @@ pub fn name_variable(s: &mut [u8], l: Limits, n: Counters, o: Origin) -> Counter
     requires { ⌜ inTables (originOf o) ≡ true ⌝ }
     ensures { λ r. ⌜ PlainDid l (λ c v. addVariable (originOf o)) n (held l (now (s .entry))) r (held l (now (s .exit))) ⌝ }
 {
-    if n.full {
+    if n.full != 0 {
         return n;
     }
     match variable_map::name(s, l, n.variables, o) {

@@ -31,7 +31,7 @@ use Rattle.marked.proofs.Owners.{root-is, part-is}
 use Rattle.encoder.specs.declared.Counters.{Counters}
 use Rattle.encoder.specs.declared.Run as encoder
 use Rattle.encoder.specs.Held.{runOf, Reading, stateOf, LongEnough, Good}
-use Rattle.encoder.specs.Did.{Widens, onOpening, Looked, StateDid, ClausesDid, PlainDid}
+use Rattle.encoder.specs.Did.{Widens, onOpening, Looked, StateDid, ClausesDid, PlainDid, isFull}
 use Rattle.encoder.proofs.Did.{widens-then, did-as, did-then, did-stop}
 use Rattle.encoder.proofs.Widening.{addVariable-widens, addClause-widens}
 use Rattle.encoder.proofs.Steps.{forget-widens, nothing-kept}
@@ -128,7 +128,7 @@ module _ (c : Catalogue) {l : Limits} (r : encoder.Run) (p : ℕ) (o : Origin) {
   named : PlainDid l (λ c v. addVariable (partOrigin p)) n st n′ st′
   named = rw i at d
 
-  pub unknown-full : {cl : List ℕ} → n′ .full ≡ true → ClausesDid c l (λ v. serving c (runOf r) (owner (part p))) n st cl n′ st′ cl
+  pub unknown-full : {cl : List ℕ} → isFull n′ ≡ true → ClausesDid c l (λ v. serving c (runOf r) (owner (part p))) n st cl n′ st′ cl
   unknown-full {cl} f =
       record {
         is = λ wt. did-as (did-stop {G = λ v. excludeUnknown (runOf r) p} (named .is c .is cl wt) f (λ v s. exclude-widens (runOf r) p s))
@@ -136,7 +136,7 @@ module _ (c : Catalogue) {l : Limits} (r : encoder.Run) (p : ℕ) (o : Origin) {
             (λ g u v. sym (unknown-is c (runOf r) p e (stateOf c l v n st cl wt) (nothing-kept c l v n st cl wt)));
       }
 
-  pub unknown-excluded : {cl cl′ : List ℕ} {n″ : Counters} {x : ℕ} {a : Origin} → n′ .full ≡ false → a ≡ partOrigin p → Looked (variables (n′ .variables) st′) a x
+  pub unknown-excluded : {cl cl′ : List ℕ} {n″ : Counters} {x : ℕ} {a : Origin} → isFull n′ ≡ false → a ≡ partOrigin p → Looked (variables (n′ .variables) st′) a x
       → Adds l r (excluded x p (reasonFor true)) n′ st′ cl n″ st′ cl′
       → ClausesDid c l (λ v. serving c (runOf r) (owner (part p))) n st cl n″ st′ cl′
   unknown-excluded {cl} {cl′} {x = x} f j k g =
@@ -146,11 +146,11 @@ module _ (c : Catalogue) {l : Limits} (r : encoder.Run) (p : ℕ) (o : Origin) {
             (λ h u v. same wt h u v ∙ sym (unknown-is c (runOf r) p e (stateOf c l v n st cl wt) (nothing-kept c l v n st cl wt)));
       }
     where
-      vars : (wt : List ℕ) → Good c l n st cl wt → n .full ≡ false → (v : Reading)
+      vars : (wt : List ℕ) → Good c l n st cl wt → isFull n ≡ false → (v : Reading)
           → variables (n′ .variables) st′ ≡ withVariable (partOrigin p) (stateOf c l v n st cl wt .variables)
       vars wt h u v = variables-after c l v n n′ st st′ cl wt (partOrigin p) (named .is c .is cl wt .done h u f v)
 
-      same : (wt : List ℕ) → Good c l n st cl wt → n .full ≡ false → (v : Reading)
+      same : (wt : List ℕ) → Good c l n st cl wt → isFull n ≡ false → (v : Reading)
           → addClause (runOf r) (excluded x p (reasonFor true)) (addVariable (partOrigin p) (stateOf c l v n st cl wt))
           ≡ excludeUnknown (runOf r) p (addVariable (partOrigin p) (stateOf c l v n st cl wt))
       same wt h u v =

@@ -425,7 +425,7 @@ fn serve_unknown(
     ensures { λ m. ⌜ ClausesDid (catalogue k (now (marks .entry)) (now (unions .entry)) (now (t .entry))) l (λ v. serving (catalogue k (now (marks .entry)) (now (unions .entry)) (now (t .entry))) (runOf r) (owner (part p))) n (held l (now (s .entry))) (now (clauses .entry)) m (held l (now (s .exit))) (now (clauses .exit)) ⌝ }
 {
     let m = opening::name_variable(s, l, n, variable_map::part(p));
-    if m.full {
+    if m.full != 0 {
         return m;
     }
     let x = opening::variable_of(s, l, m, variable_map::part(p));

@@ -25,7 +25,7 @@ use Rattle.variable_map.specs.Mapping.{originOf, variables}
 use Rattle.encoder.specs.declared.Counters.{Counters}
 use Rattle.encoder.specs.declared.Run.{Run}
 use Rattle.encoder.specs.Held.{runOf, stateOf, Good, KnownUnlessFull}
-use Rattle.encoder.specs.Did.{Looked, ClausesDid}
+use Rattle.encoder.specs.Did.{Looked, ClausesDid, isFull}
 use Rattle.encoder.proofs.Did.{did-as}
 use Rattle.encoder.proofs.Widening.{addClause-widens, addClause-variables}
 use Rattle.encoder.proofs.Steps.{clauses-same, clauses-none, clauses-then, good-later, known-later}
@@ -44,8 +44,8 @@ pub settable-out : {l : Limits} {r : Run} {a : Adding} {y : ℕ} → CanAdd l r 
 settable-out h e = rw e at (h .settable)
 
 module _ (o : code.Origin) (n : Counters) (st : ℕ → List ℕ) {x p : ℕ}
-    (e : originOf o ≡ partOrigin p) (k : Looked (variables (n .variables) st) (originOf o) x) (h : KnownUnlessFull (n .full) (variables (n .variables) st) (p ∷ [])) where
-  its-variable : n .full ≡ false → x ≡ partVariable (variables (n .variables) st) p
+    (e : originOf o ≡ partOrigin p) (k : Looked (variables (n .variables) st) (originOf o) x) (h : KnownUnlessFull (isFull n) (variables (n .variables) st) (p ∷ [])) where
+  its-variable : isFull n ≡ false → x ≡ partVariable (variables (n .variables) st) p
   its-variable f = first (h .known f .known)
     where
       first : Each (λ q. known (variables (n .variables) st) (partOrigin q) ≡ true) (p ∷ []) → x ≡ partVariable (variables (n .variables) st) p
@@ -94,11 +94,11 @@ pub record AddedSoFar (c : Catalogue) (l : Limits) (r : rules.Run) (which : Part
   pub same : length s ≡ length s₀
   pub same-clauses : length cl ≡ length cl₀
   pub good : Good c l n (held l s) cl []
-  pub known : KnownUnlessFull (n .full) (variables (n .variables) (held l s)) (partsFor c which)
+  pub known : KnownUnlessFull (isFull n) (variables (n .variables) (held l s)) (partsFor c which)
   pub did : ClausesDid c l (λ v. fold (addingOf r a) (filter (selectedOf c which) (upTo 0 p))) n₀ (held l s₀) cl₀ n (held l s) cl
 
 module _ {c : Catalogue} {l : Limits} {r : rules.Run} {which : Parts} {a : Adding} {count : ℕ} {n₀ : Counters} {s₀ cl₀ : List ℕ} where
-  adding-start : Good c l n₀ (held l s₀) cl₀ [] → KnownUnlessFull (n₀ .full) (variables (n₀ .variables) (held l s₀)) (partsFor c which)
+  adding-start : Good c l n₀ (held l s₀) cl₀ [] → KnownUnlessFull (isFull n₀) (variables (n₀ .variables) (held l s₀)) (partsFor c which)
       → AddedSoFar c l r which a count n₀ s₀ cl₀ n₀ s₀ cl₀ 0
   adding-start g h =
       record {
@@ -125,7 +125,7 @@ module _ {c : Catalogue} {l : Limits} {r : rules.Run} {which : Parts} {a : Addin
   adding-on : {n : Counters} {s cl : List ℕ} {p x : ℕ} → Skips count (selectedOf c which) p x → AddedSoFar c l r which a count n₀ s₀ cl₀ n s cl p → AddedSoFar c l r which a count n₀ s₀ cl₀ n s cl x
   adding-on {n} {s} {cl} z y = walk (AddedSoFar c l r which a count n₀ s₀ cl₀ n s cl) (λ i h e y. adding-step y h refl refl (adding-other r which a i refl e)) z y
 
-  pub adding-first : {x : ℕ} → Good c l n₀ (held l s₀) cl₀ [] → KnownUnlessFull (n₀ .full) (variables (n₀ .variables) (held l s₀)) (partsFor c which)
+  pub adding-first : {x : ℕ} → Good c l n₀ (held l s₀) cl₀ [] → KnownUnlessFull (isFull n₀) (variables (n₀ .variables) (held l s₀)) (partsFor c which)
       → Skips count (selectedOf c which) 0 x → AddedSoFar c l r which a count n₀ s₀ cl₀ n₀ s₀ cl₀ x
   adding-first g h z = adding-on z (adding-start g h)
 

@@ -30,7 +30,7 @@ use Rattle.marked.specs.Marked.{ownerOf, listed, isMarked, Marked}
 use Rattle.marked.proofs.Owners.{part-is}
 use Rattle.encoder.specs.declared.Counters.{Counters}
 use Rattle.encoder.specs.Held.{Reading, stateOf, GoodAlone, KnownUnlessFull}
-use Rattle.encoder.specs.Did.{onOpening, StateDid, PlainDid}
+use Rattle.encoder.specs.Did.{onOpening, StateDid, PlainDid, isFull}
 use Rattle.encoder.proofs.Did.{did-idle}
 use Rattle.encoder.proofs.Widening.{addVariable-widens}
 use Rattle.encoder.proofs.Steps.{state-same, state-none, state-then, alone-after, variables-after}
@@ -231,7 +231,7 @@ module _ (c : Catalogue) (naming : Naming) where
       each-in ps (λ p m. fold-gives (λ (u : State). known (u .variables) (partOrigin p) ≡ true) (namingOf c naming) ps m (naming-knows p) (λ q u. naming-keeps p q u) s)
 
 pub named-known : {c : Catalogue} {l : Limits} (naming : Naming) {n n′ : Counters} {st st′ : ℕ → List ℕ} {ps : List ℕ}
-    → StateDid c l (λ v. fold (namingOf c naming) ps) n st n′ st′ → GoodAlone c l n st → KnownUnlessFull (n′ .full) (variables (n′ .variables) st′) ps
+    → StateDid c l (λ v. fold (namingOf c naming) ps) n st n′ st′ → GoodAlone c l n st → KnownUnlessFull (isFull n′) (variables (n′ .variables) st′) ps
 named-known {c} {l} naming {n} {st = st} {ps = ps} d g =
     record {
       known = λ e. let v : Reading = record { truth = λ p. false; drawn = [] } in

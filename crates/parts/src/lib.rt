@@ -21,7 +21,7 @@ ghost use Rattle.index.specs.Indexed.{Indexed};
 ghost use Rattle.state.specs.Layout.{held, Fits};
 ghost use Rattle.variable_map.specs.Mapping.{variables, Mapped};
 ghost use Rattle.encoder.specs.Held.{runOf, LongEnough, Good, GoodAlone, KnownUnlessFull};
-ghost use Rattle.encoder.specs.Did.{onOpening, StateDid, ClausesDid};
+ghost use Rattle.encoder.specs.Did.{onOpening, StateDid, ClausesDid, isFull};
 ghost use Rattle.parts.specs.declared.Naming.the-variants.{Tracked, Candidate};
 ghost use Rattle.parts.specs.Parts.{selectedOf, partsFor, namingOf, addingOf, CanAdd, Settled, Due};
 
@@ -353,7 +353,7 @@ fn add_part(
     requires { ⌜ LongEnough l (length (now clauses)) 16384 ⌝ }
     requires { ⌜ CanAdd l r adding ⌝ }
     requires { ⌜ p < 1024 ⌝ }
-    requires { ⌜ KnownUnlessFull (n .full) (variables (n .variables) (held l (now s))) (p ∷ []) ⌝ }
+    requires { ⌜ KnownUnlessFull (isFull n) (variables (n .variables) (held l (now s))) (p ∷ []) ⌝ }
     ensures { λ m. ⌜ ClausesDid (catalogue k (now (marks .entry)) (now (unions .entry)) (now (t .entry))) l (λ v. addingOf (runOf r) adding p) n (held l (now (s .entry))) (now (clauses .entry)) m (held l (now (s .exit))) (now (clauses .exit)) ⌝ }
 {
     let x = opening::variable_of(s, l, n, variable_map::part(p));
@@ -385,7 +385,7 @@ fn add_if(
     requires { ⌜ LongEnough l (length (now clauses)) 16384 ⌝ }
     requires { ⌜ CanAdd l r adding ⌝ }
     requires { ⌜ p < k .parts ⌝ }
-    requires { ⌜ KnownUnlessFull (n .full) (variables (n .variables) (held l (now s))) (partsFor (catalogue k (now marks) (now unions) (now t)) which) ⌝ }
+    requires { ⌜ KnownUnlessFull (isFull n) (variables (n .variables) (held l (now s))) (partsFor (catalogue k (now marks) (now unions) (now t)) which) ⌝ }
     ensures { λ m. ⌜ ClausesDid (catalogue k (now (marks .entry)) (now (unions .entry)) (now (t .entry))) l (λ v. when (selectedOf (catalogue k (now (marks .entry)) (now (unions .entry)) (now (t .entry))) which p) (addingOf (runOf r) adding p)) n (held l (now (s .entry))) (now (clauses .entry)) m (held l (now (s .exit))) (now (clauses .exit)) ⌝ }
 {
     if selected(marks, unions, t, k, which, p) {
@@ -413,7 +413,7 @@ pub fn add_each(
     requires { ⌜ Good (catalogue k (now marks) (now unions) (now t)) l n (held l (now s)) (now clauses) [] ⌝ }
     requires { ⌜ LongEnough l (length (now clauses)) 16384 ⌝ }
     requires { ⌜ CanAdd l r adding ⌝ }
-    requires { ⌜ KnownUnlessFull (n .full) (variables (n .variables) (held l (now s))) (partsFor (catalogue k (now marks) (now unions) (now t)) which) ⌝ }
+    requires { ⌜ KnownUnlessFull (isFull n) (variables (n .variables) (held l (now s))) (partsFor (catalogue k (now marks) (now unions) (now t)) which) ⌝ }
     ensures { λ m. ⌜ ClausesDid (catalogue k (now (marks .entry)) (now (unions .entry)) (now (t .entry))) l (λ v. fold (addingOf (runOf r) adding) (partsFor (catalogue k (now (marks .entry)) (now (unions .entry)) (now (t .entry))) which)) n (held l (now (s .entry))) (now (clauses .entry)) m (held l (now (s .exit))) (now (clauses .exit)) ⌝ }
 {
     let mut m = n;

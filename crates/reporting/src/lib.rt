@@ -140,7 +140,7 @@ pub fn add_requires(
     requires { ⌜ (0 < r .number) × (count ≤ 16384) ⌝ }
     ensures { λ m. ⌜ AddsRequires l r owner count form number all n (held l (now (s .entry))) (now (clauses .entry)) m (now (clauses .exit)) ⌝ }
 {
-    if n.full {
+    if n.full != 0 {
         return n;
     }
     if l.literals < n.literals + count {

@@ -19,7 +19,7 @@ use Rattle.line.specs.Tasks.{taskOf}
 use Rattle.entries.specs.Entries.{drawnIn}
 use Rattle.encoder.specs.declared.Counters.{Counters}
 use Rattle.encoder.specs.Held.{LongEnough, Good}
-use Rattle.encoder.specs.Did.{limitsOf}
+use Rattle.encoder.specs.Did.{limitsOf, isFull}
 use Rattle.serving.specs.Serving.{TaskGiven}
 use Rattle.beginning.specs.Beginning.{readingOf}
 use Rattle.serving.specs.Line.{from, Point, Serves, Begun, LineServed}
@@ -38,11 +38,11 @@ pub record Passed (c : Catalogue) (l : Limits) (r : Run) (drawn : ℕ) (n₀ : C
   pub hand : Marked 14 15 0 (held l b)
   pub first : n .first ≡ head
   pub none : n .drawn ≡ 0
-  pub stays : n₀ .full ≡ true → n .full ≡ true
+  pub stays : isFull n₀ ≡ true → isFull n ≡ true
   pub done : (level : ℕ) (s₀ : State) → drawn ≡ length (s₀ .opening .drawn) → Point c l level r s₀ (readingOf s₀) 0 n₀ (held l b₀) cl₀ wt₀
-      → n₀ .full ≡ false → n .full ≡ false → Point c l level r s₀ (readingOf s₀) head n (held l b) cl wt
+      → isFull n₀ ≡ false → isFull n ≡ false → Point c l level r s₀ (readingOf s₀) head n (held l b) cl wt
   pub over : (level : ℕ) (s₀ : State) → drawn ≡ length (s₀ .opening .drawn) → Point c l level r s₀ (readingOf s₀) 0 n₀ (held l b₀) cl₀ wt₀
-      → n₀ .full ≡ false → n .full ≡ true → above (limitsOf l) (runOnce c level s₀) ≡ true
+      → isFull n₀ ≡ false → isFull n ≡ true → above (limitsOf l) (runOnce c level s₀) ≡ true
 
 pub passed-start : {c : Catalogue} {l : Limits} {r : Run} {drawn : ℕ} {n : Counters} {b cl wt : List ℕ} → Fits l (length b) → Good c l n (held l b) cl wt
     → LongEnough l (length cl) (length wt) → Marked 14 15 0 (held l b) → Begun c l r drawn n (held l b) cl wt → Passed c l r drawn n b cl wt b cl wt n 0
@@ -65,17 +65,17 @@ passed-start f g h z x =
 
 module _ {c : Catalogue} {l : Limits} {r : Run} {drawn : ℕ} {n₀ : Counters} {b₀ cl₀ wt₀ b cl wt : List ℕ} {n : Counters} {head : ℕ}
     (x : Passed c l r drawn n₀ b₀ cl₀ wt₀ b cl wt n head) where
-  not-at-first : n .full ≡ false → n₀ .full ≡ false
-  not-at-first f = by-cases (n₀ .full) (λ e. absurd (true≢false (sym (x .stays e) ∙ f))) (λ e. e)
+  not-at-first : isFull n ≡ false → isFull n₀ ≡ false
+  not-at-first f = by-cases (isFull n₀) (λ e. absurd (true≢false (sym (x .stays e) ∙ f))) (λ e. e)
 
   -- the number at the head names something given
-  pub passed-given : n .full ≡ false → head < n .tail → TaskGiven c (drawnIn l drawn wt) (taskOf (lineAt head (held l b)))
+  pub passed-given : isFull n ≡ false → head < n .tail → TaskGiven c (drawnIn l drawn wt) (taskOf (lineAt head (held l b)))
   passed-given f h =
       let u = x .begun in
       let f₀ = not-at-first f in
       point-given (x .done (u .level) (u .state) (u .count) (u .point f₀) f₀ f) (u .count) (x .good) h
 
-  pub passed-next : {b′ cl′ wt′ : List ℕ} {n′ : Counters} → n .full ≡ false → head < n .tail → Serves c l r drawn head n (held l b) cl wt n′ (held l b′) cl′ wt′
+  pub passed-next : {b′ cl′ wt′ : List ℕ} {n′ : Counters} → isFull n ≡ false → head < n .tail → Serves c l r drawn head n (held l b) cl wt n′ (held l b′) cl′ wt′
       → length b′ ≡ length b → length cl′ ≡ length cl → length wt′ ≡ length wt → Passed c l r drawn n₀ b₀ cl₀ wt₀ b′ cl′ wt′ n′ (head + 1)
   unfolding from
   passed-next {b′} f h k p q s =
@@ -98,7 +98,7 @@ module _ {c : Catalogue} {l : Limits} {r : Run} {drawn : ℕ} {n₀ : Counters} 
       }
 
   -- it is full
-  pub passed-stop : n .full ≡ true → LineServed c l r drawn n₀ (held l b₀) cl₀ wt₀ n (held l b) cl wt
+  pub passed-stop : isFull n ≡ true → LineServed c l r drawn n₀ (held l b₀) cl₀ wt₀ n (held l b) cl wt
   passed-stop f =
       record {
         good = x .good;

@@ -26,7 +26,7 @@ use Rattle.line.proofs.Line.{queued-none}
 use Rattle.entries.specs.Entries.{drawnIn}
 use Rattle.encoder.specs.declared.Counters.{Counters}
 use Rattle.encoder.specs.Held.{Reading, taskIn, openingOf, stateOf, Good}
-use Rattle.encoder.specs.Did.{limitsOf, roomOf, beyond}
+use Rattle.encoder.specs.Did.{limitsOf, roomOf, beyond, isFull}
 use Rattle.encoder.proofs.Frames.{good-kept}
 use Rattle.encoder.proofs.Steps.{nothing-kept}
 use Rattle.naming.specs.Alike.{AlikeIn, AlikeDid}
@@ -74,12 +74,12 @@ module _ {c : Catalogue} {l : Limits} {level : ℕ} {s₀ : State} {v : Reading}
   truth-before : v .truth ≡ decidedTrue (stateOf c l v (from (head + 1) n) st cl wt)
   truth-before = p .truth ∙ (sym (truth-at l (p .given) (p .reached) level (p .after)) ∙ (unfold decidedTrue in refl ∙ sym (truth-same before-alike)))
 
-  module _ {drawn : ℕ} {n′ : Counters} {st′ : ℕ → List ℕ} {cl′ wt′ : List ℕ} (e : drawn ≡ length (v .drawn)) (f : n .full ≡ false)
+  module _ {drawn : ℕ} {n′ : Counters} {st′ : ℕ → List ℕ} {cl′ wt′ : List ℕ} (e : drawn ≡ length (v .drawn)) (f : isFull n ≡ false)
       (k : Serves c l (runFrom level s₀) drawn head n st cl wt n′ st′ cl′ wt′) where
     entries-now : drawnIn l drawn wt ≡ v .drawn
     entries-now = rw e (p .entries)
 
-    not-full : (from (head + 1) n) .full ≡ false
+    not-full : isFull (from (head + 1) n) ≡ false
     unfolding from
     not-full = f
 
@@ -97,7 +97,7 @@ module _ {c : Catalogue} {l : Limits} {level : ℕ} {s₀ : State} {v : Reading}
         ap forget (serveTask-behind rest c run task (forget (p .at))) ∙ ap (behindAll rest) (sym (serveTask-forgets c run task (p .at))) in
         in-then (rw (← there) (forget-alike (served-alike c run task before-alike))) (rw same at (k .did .like not-full v))
 
-    over-here : n′ .full ≡ true → above (limitsOf l) (runOnce c level s₀) ≡ true
+    over-here : isFull n′ ≡ true → above (limitsOf l) (runOnce c level s₀) ≡ true
     unfolding beyond roomOf from above
     over-here full =
         let run = runFrom level s₀ in
@@ -110,7 +110,7 @@ module _ {c : Catalogue} {l : Limits} {level : ℕ} {s₀ : State} {v : Reading}
         (only-first (above (limitsOf l) served) _ _ b (le-ltb (3649 + l .waiting - (head + 1)) (length (rest ++ served .opening .line)) few)
         (le-ltb 64 (length (served .opening .several)) (rules.point-fits (p .given) (p .reached) run (serves a) .several)))
 
-    module _ (f′ : n′ .full ≡ false) (size′ : length (st′ 20) ≡ 3649 + l .waiting) where
+    module _ (f′ : isFull n′ ≡ false) (size′ : length (st′ 20) ≡ 3649 + l .waiting) where
       state-alike : AlikeIn c (behindAll rest (forget served)) (stateOf c l v n′ st′ cl′ wt′)
       state-alike = rw (k .did .did .done (good-from h g) not-full f′ v) served-behind
 
@@ -141,11 +141,11 @@ module _ {c : Catalogue} {l : Limits} {level : ℕ} {s₀ : State} {v : Reading}
 
 module _ {c : Catalogue} {l : Limits} {level : ℕ} {r : Run} {s₀ : State} {v : Reading} {head : ℕ} {n : Counters} {st : ℕ → List ℕ} {cl wt : List ℕ}
     (p : Point c l level r s₀ v head n st cl wt) {drawn : ℕ} {n′ : Counters} {st′ : ℕ → List ℕ} {cl′ wt′ : List ℕ} (e : drawn ≡ length (v .drawn))
-    (g : Good c l n st cl wt) (f : n .full ≡ false) (h : head < n .tail) (k : Serves c l r drawn head n st cl wt n′ st′ cl′ wt′) where
+    (g : Good c l n st cl wt) (f : isFull n ≡ false) (h : head < n .tail) (k : Serves c l r drawn head n st cl wt n′ st′ cl′ wt′) where
   -- a task served leads to the next point
-  pub pass-step : n′ .full ≡ false → length (st′ 20) ≡ 3649 + l .waiting → Point c l level r s₀ v (head + 1) n′ st′ cl′ wt′
+  pub pass-step : isFull n′ ≡ false → length (st′ 20) ≡ 3649 + l .waiting → Point c l level r s₀ v (head + 1) n′ st′ cl′ wt′
   pass-step f′ size′ = rw (p .run) (next-here (rw (p .run) at p) h g e f (rw (p .run) at k) f′ size′)
 
   -- or the run would end above a limit
-  pub pass-over : n′ .full ≡ true → above (limitsOf l) (runOnce c level s₀) ≡ true
+  pub pass-over : isFull n′ ≡ true → above (limitsOf l) (runOnce c level s₀) ≡ true
   pass-over f′ = over-here (rw (p .run) at p) h g e f (rw (p .run) at k) f′

@@ -18,7 +18,7 @@ use Rattle.line.specs.Tasks.{taskOf}
 use Rattle.entries.specs.Entries.{drawnIn}
 use Rattle.encoder.specs.declared.Counters.{Counters}
 use Rattle.encoder.specs.Held.{Reading, taskIn, stateOf, Good}
-use Rattle.encoder.specs.Did.{limitsOf}
+use Rattle.encoder.specs.Did.{limitsOf, isFull}
 use Rattle.naming.specs.Alike.{AlikeIn, AlikeDid}
 use Rattle.beginning.specs.Beginning.{readingOf}
 use Rattle.serving.specs.Serving.{servedAs}
@@ -75,7 +75,7 @@ pub record Begun (c : Catalogue) (l : Limits) (r : Run) (drawn : ℕ) (n : Count
   pub few : drawn ≤ l .waiting
   pub first : n .first ≡ 0
   pub none : n .drawn ≡ 0
-  pub point : n .full ≡ false → Point c l level r state (readingOf state) 0 n st cl wt
+  pub point : isFull n ≡ false → Point c l level r state (readingOf state) 0 n st cl wt
 
 -- the line was served to its end, or the run would end above a limit
 pub record LineServed (c : Catalogue) (l : Limits) (r : Run) (drawn : ℕ) (n : Counters) (st : ℕ → List ℕ) (cl wt : List ℕ)
@@ -83,9 +83,9 @@ pub record LineServed (c : Catalogue) (l : Limits) (r : Run) (drawn : ℕ) (n : 
   pub good : Good c l n′ st′ cl′ wt′
   pub hand : Marked 14 15 0 st′
   pub none : n′ .drawn ≡ 0
-  pub ended : n′ .full ≡ false → n′ .first ≡ n′ .tail
-  pub stays : n .full ≡ true → n′ .full ≡ true
+  pub ended : isFull n′ ≡ false → n′ .first ≡ n′ .tail
+  pub stays : isFull n ≡ true → isFull n′ ≡ true
   pub done : (level : ℕ) (s₀ : State) → drawn ≡ length (s₀ .opening .drawn) → Point c l level r s₀ (readingOf s₀) 0 n st cl wt
-      → n .full ≡ false → n′ .full ≡ false → Point c l level r s₀ (readingOf s₀) (n′ .tail) n′ st′ cl′ wt′
+      → isFull n ≡ false → isFull n′ ≡ false → Point c l level r s₀ (readingOf s₀) (n′ .tail) n′ st′ cl′ wt′
   pub over : (level : ℕ) (s₀ : State) → drawn ≡ length (s₀ .opening .drawn) → Point c l level r s₀ (readingOf s₀) 0 n st cl wt
-      → n .full ≡ false → n′ .full ≡ true → above (limitsOf l) (runOnce c level s₀) ≡ true
+      → isFull n ≡ false → isFull n′ ≡ true → above (limitsOf l) (runOnce c level s₀) ≡ true

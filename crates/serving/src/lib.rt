@@ -318,7 +318,7 @@ pub fn serve_line(
     let mut m = n;
     let mut head = 0;
     while head < m.tail {
-        if m.full {
+        if m.full != 0 {
             return m;
         }
         m = serve_next(

@@ -23,7 +23,7 @@ use Rattle.state.specs.declared.Limits.{Limits}
 use Rattle.marked.specs.Marked.{Marked}
 use Rattle.encoder.specs.declared.Counters.{Counters}
 use Rattle.encoder.specs.Held.{Reading, stateOf, Good}
-use Rattle.encoder.specs.Did.{limitsOf}
+use Rattle.encoder.specs.Did.{limitsOf, isFull}
 use Rattle.reader.specs.declared.Command as code
 use Rattle.reader.specs.declared.Command.the-variants as C
 use Rattle.reader.specs.Reading.{commandOf}
@@ -67,7 +67,7 @@ module _ {c : Catalogue} {l : Limits} {s : State} {n : Counters} {st : ℕ → L
   held-refused f e = refuse-forgotten (carryOut (limitsOf l) c o s) f (as-held anyReading (refuse f) (e anyReading) ∙ unfold forgetResult in refl)
 
   module _ {m : Counters} {st′ : ℕ → List ℕ} {cl′ wt′ : List ℕ} where
-    pub held-carried : Good c l m st′ cl′ wt′ → Marked 14 15 0 st′ → m .full ≡ n .full → m .runs ≡ n .runs
+    pub held-carried : Good c l m st′ cl′ wt′ → Marked 14 15 0 st′ → isFull m ≡ isFull n → m .runs ≡ n .runs
         → ((v : Reading) → carryOut (limitsOf l) c o (stateOf c l v n st cl wt) ≡ ok (stateOf c l v m st′ cl′ wt′)) → Gives c l o s n m st′ cl′ wt′
     held-carried good hand full runs e =
         let f = ok-forgotten (carryOut (limitsOf l) c o s) (stateOf c l anyReading m st′ cl′ wt′) (result anyReading) in

@@ -22,7 +22,7 @@ use Rattle.refusal.specs.Refusing.{refusalOf}
 use Rattle.state.specs.declared.Limits.{Limits}
 use Rattle.decision_tracker.specs.Tracking.{decisions}
 use Rattle.encoder.specs.declared.Counters.{Counters}
-use Rattle.encoder.specs.Did.{limitsOf}
+use Rattle.encoder.specs.Did.{limitsOf, isFull}
 use Rattle.encoder.proofs.Frames.{good-within}
 use Rattle.encoding.specs.Running.{Holds, RunDid}
 use Rattle.commands.specs.declared.Outcome.the-variants.{Carried, Refused}
@@ -70,10 +70,10 @@ module _ {c : Catalogue} {l : Limits} {n : Counters} {st : ℕ → List ℕ} {cl
   run-low t = did-refused (λ s _ _ h. low-run l c level s (low-as h ∙ t))
 
   module _ {m : Counters} {st′ : ℕ → List ℕ} {cl′ wt′ : List ℕ} (f : b ≡ false) (d : RunDid c l level n st cl wt m st′ cl′ wt′) where
-    pub run-full : m .full ≡ true → CommandDid c l (Command.run level) n st cl wt (Refused RunFull) st′ cl′ wt′
+    pub run-full : isFull m ≡ true → CommandDid c l (Command.run level) n st cl wt (Refused RunFull) st′ cl′ wt′
     run-full t = did-refused (λ s g r h. full-run l c level s (low-as h ∙ f) (d .over s g r h t))
 
-    pub run-done : m .full ≡ false → CommandDid c l (Command.run level) n st cl wt (Carried m) st′ cl′ wt′
+    pub run-done : isFull m ≡ false → CommandDid c l (Command.run level) n st cl wt (Carried m) st′ cl′ wt′
     run-done t = did-carried gives
       where
         held-within : {s : State} → Holds c l s m st′ cl′ wt′ → above (limitsOf l) s ≡ false

@@ -67,7 +67,7 @@ fn run(
         return Outcome::Refused(Refusal::LevelLow);
     }
     let m = encoding::run_once(marks, unions, t, k, s, clauses, w, l, n, level, settled);
-    if m.full {
+    if m.full != 0 {
         return Outcome::Refused(Refusal::RunFull);
     }
     Outcome::Carried(m)

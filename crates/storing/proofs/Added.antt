@@ -29,7 +29,7 @@ use Rattle.solver.specs.Rows.{rowOf}
 use Rattle.encoder.specs.declared.Counters.{Counters}
 use Rattle.encoder.specs.declared.Run as encoder
 use Rattle.encoder.specs.Held.{runOf, Reading, literalIn, literalsIn, goalVariables, clauseIn, stateOf, Good}
-use Rattle.encoder.specs.Did.{limitsOf, roomOf, beyond, filled}
+use Rattle.encoder.specs.Did.{limitsOf, roomOf, beyond, filled, isFull}
 use Rattle.encoder.proofs.Frames.{good-within}
 use Rattle.encoder.proofs.Did.{did-full, did-filled}
 use Rattle.encoder.proofs.Widening.{addClause-widens}
@@ -229,7 +229,7 @@ longer : (l : Limits) (n : Counters) (k : Clause) {count : ℕ} → conditionLit
 longer l n k e h = rw e h
 
 pub requires-full : {l : Limits} {r : encoder.Run} {n : Counters} {st : ℕ → List ℕ} {cl : List ℕ} {owner count form number : ℕ} {all : Bool}
-    → n .full ≡ true → AddsRequires l r owner count form number all n st cl n cl
+    → isFull n ≡ true → AddsRequires l r owner count form number all n st cl n cl
 requires-full f = record { is = λ c wt ks q a e d. did-full f (λ v s. addClause-widens _ _ s) }
 
 pub requires-over : {l : Limits} {r : encoder.Run} {n m : Counters} {st : ℕ → List ℕ} {cl : List ℕ} {owner count form number : ℕ} {all : Bool}

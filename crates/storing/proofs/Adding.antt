@@ -24,7 +24,7 @@ use Rattle.solver.specs.Rows.{rowOf}
 use Rattle.encoder.specs.declared.Counters.{Counters}
 use Rattle.encoder.specs.declared.Run as encoder
 use Rattle.encoder.specs.Held.{runOf, Reading, conflictIf, clauseIn, stateOf, Good, LongEnough}
-use Rattle.encoder.specs.Did.{roomOf, Widens, Did}
+use Rattle.encoder.specs.Did.{roomOf, Widens, Did, isFull}
 use Rattle.encoder.proofs.Frames.{clauses-counted}
 use Rattle.encoder.proofs.Did.{widens-then, stays-beyond, did-as, did-then}
 use Rattle.encoder.proofs.Widening.{addClause-widens}
@@ -43,7 +43,7 @@ good-can-add g h =
 
 -- the part of a step that was done passes a limit already
 did-part : {c : Catalogue} {l : Limits} {F G : Reading → State → State} {n : Counters} {st : ℕ → List ℕ} {cl wt : List ℕ}
-    {n′ : Counters} {st′ : ℕ → List ℕ} {cl′ wt′ : List ℕ} → Did c l F n st cl wt n′ st′ cl′ wt′ → n′ .full ≡ true
+    {n′ : Counters} {st′ : ℕ → List ℕ} {cl′ wt′ : List ℕ} → Did c l F n st cl wt n′ st′ cl′ wt′ → isFull n′ ≡ true
     → ((v : Reading) (s : State) → Widens (F v s) (G v s)) → Did c l G n st cl wt n′ st′ cl′ wt′
 did-part {l = l} {n = n} d f w =
     record {
@@ -63,10 +63,10 @@ unfolding stateOf
 count-before c l v n st cl wt = clauses-counted c (variables (n .variables) st) (st 19) (n .clauses) cl
 
 module _ {l : Limits} {r : encoder.Run} {row : Stored} {x : code.Literal} {n m : Counters} {st : ℕ → List ℕ} {cl cl′ : List ℕ} where
-  pub setting-full : Stores l row n cl m cl′ → m .full ≡ true → Sets l r row x n st cl m st cl′
+  pub setting-full : Stores l row n cl m cl′ → isFull m ≡ true → Sets l r row x n st cl m st cl′
   setting-full g f = record { is = λ c wt p. did-part (g .is c st wt p) f (λ v s. force-widens _ _ _ _) }
 
-  pub setting-more : {m′ : Counters} {st′ : ℕ → List ℕ} → Stores l row n cl m cl′ → m .full ≡ false → Forces l r x m st m′ st′ → Sets l r row x n st cl m′ st′ cl′
+  pub setting-more : {m′ : Counters} {st′ : ℕ → List ℕ} → Stores l row n cl m cl′ → isFull m ≡ false → Forces l r x m st m′ st′ → Sets l r row x n st cl m′ st′ cl′
   setting-more g f h =
       record {
         is = λ c wt p. did-as (did-then (g .is c st wt p) (h .is c cl′ wt)) (λ v s. widens-then (withClause-widens _ _ s) (force-widens _ _ _ _))
@@ -74,7 +74,7 @@ module _ {l : Limits} {r : encoder.Run} {row : Stored} {x : code.Literal} {n m :
       }
 
 pub setting-can : {l : Limits} {row : Stored} {x : code.Literal} {n m : Counters} {st : ℕ → List ℕ} {cl cl′ : List ℕ} {k : ℕ}
-    → CanAdd l n st k → Stores l row n cl m cl′ → m .full ≡ false → (literalOf x) .variable < l .variables → CanForce l m st x
+    → CanAdd l n st k → Stores l row n cl m cl′ → isFull m ≡ false → (literalOf x) .variable < l .variables → CanForce l m st x
 setting-can h g f v =
     record { kept = rw (g .decisions) (h .kept); some = omega (arith, g .count f); few = omega (arith, g .room, h .most); exists = v }
 

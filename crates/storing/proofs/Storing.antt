@@ -25,7 +25,7 @@ use Rattle.solver.specs.declared.Stored.{Stored}
 use Rattle.solver.specs.Rows.{Row, rows, rowOf}
 use Rattle.encoder.specs.declared.Counters.{Counters}
 use Rattle.encoder.specs.Held.{Reading, conflictIf, conflictsFrom, clauseIn, clausesIn, openingOf, stateOf, Sound, Good}
-use Rattle.encoder.specs.Did.{limitsOf, roomOf, beyond, Widens, filled}
+use Rattle.encoder.specs.Did.{limitsOf, roomOf, beyond, Widens, filled, isFull}
 use Rattle.encoder.proofs.Frames.{state-kept, clauses-counted}
 use Rattle.encoder.proofs.Did.{did-full, did-filled, did-made, beside-same}
 use Rattle.storing.specs.Adding.{withClause, Fitting, Stores}
@@ -115,7 +115,7 @@ module _ (l : Limits) (n : Counters) (row : Stored) (cl : List ℕ) where
         }
 
 module _ {l : Limits} {n : Counters} {row : Stored} {cl : List ℕ} where
-  pub store-full : n .clauses ≤ l .clauses → n .full ≡ true → Stores l row n cl n cl
+  pub store-full : n .clauses ≤ l .clauses → isFull n ≡ true → Stores l row n cl n cl
   store-full h f =
       record {
         decisions = refl;

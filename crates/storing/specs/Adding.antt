@@ -27,7 +27,7 @@ use Rattle.solver.specs.Rows.{rowOf}
 use Rattle.encoder.specs.declared.Counters.{Counters}
 use Rattle.encoder.specs.declared.Run.{Run}
 use Rattle.encoder.specs.Held.{runOf, clauseIn, literalsIn, goalVariables, conflictIf, Sound}
-use Rattle.encoder.specs.Did.{Did}
+use Rattle.encoder.specs.Did.{Did, isFull}
 use Rattle.storing.specs.declared.Outcome.{Outcome}
 use Rattle.storing.specs.declared.Outcome.the-variants as outcomes
 
@@ -57,7 +57,7 @@ pub record Fitting (c : Catalogue) (l : Limits) (n : Counters) (st : ℕ → Lis
 pub record Stores (l : Limits) (row : Stored) (n : Counters) (cl : List ℕ) (n′ : Counters) (cl′ : List ℕ) : Type 0 where
   pub decisions : n′ .decisions ≡ n .decisions
   pub room : n′ .clauses ≤ l .clauses
-  pub count : n′ .full ≡ false → n′ .clauses ≡ n .clauses + 1
+  pub count : isFull n′ ≡ false → n′ .clauses ≡ n .clauses + 1
   pub is : (c : Catalogue) (st : ℕ → List ℕ) (wt : List ℕ) → Fitting c l n st row
       → Did c l (λ v s. withClause (clauseIn c (s .variables) (st 19) (rowOf row)) (row .conflict) s) n st cl wt n′ st cl′ wt
 

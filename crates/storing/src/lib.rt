@@ -70,7 +70,7 @@ pub fn store(clauses: &mut [u8], l: Limits, n: Counters, row: Stored) -> Counter
     requires { ⌜ (n .clauses ≤ l .clauses) × (l .clauses ≤ 16384) × (l .clauses * 20 ≤ length (now clauses)) × (n .literals ≤ 8192) ⌝ }
     ensures { λ m. ⌜ Stores l row n (now (clauses .entry)) m (now (clauses .exit)) ⌝ }
 {
-    if n.full {
+    if n.full != 0 {
         return n;
     }
     if n.clauses < l.clauses {
@@ -127,7 +127,7 @@ pub fn store_setting(
     ensures { λ m. ⌜ Sets l r row literal n (held l (now (s .entry))) (now (clauses .entry)) m (held l (now (s .exit))) (now (clauses .exit)) ⌝ }
 {
     let m = store(clauses, l, n, row);
-    if m.full {
+    if m.full != 0 {
         return m;
     }
     force(s, l, m, r, literal)

@@ -29,7 +29,7 @@ use Rattle.encoder.specs.declared.Counters.{Counters}
 use Rattle.encoder.specs.declared.Run.{Run}
 use Rattle.marked.specs.Marked.{listed}
 use Rattle.encoder.specs.Held.{LongEnough}
-use Rattle.encoder.specs.Did.{Looked}
+use Rattle.encoder.specs.Did.{Looked, isFull}
 use Rattle.storing.specs.Adding.{Adds}
 use Rattle.tracking.specs.declared.Tracker.{Tracker}
 use Rattle.tracking.specs.Joining.{AddsAll, GoodSome, helpersIn, Holds, firstHelpers, helperVariables, HelpersBelow, ofName, variablesOf, newHelperClauses, oneClauses, trackedClauses, joinedClauses, CanAddPart}
@@ -155,21 +155,21 @@ module _ (l : Limits) (r : Run) (n : Counters) (st : ℕ → List ℕ) (cl : Lis
 
 module _ {l : Limits} {r : Run} {n : Counters} {st : ℕ → List ℕ} {cl : List ℕ} (name x i : ℕ) (ys xs : List ℕ) {a : Counters} {st₁ : ℕ → List ℕ} {cl₁ : List ℕ}
     (d : AddsAll l r (newHelperClauses i ys xs) n st cl a st₁ cl₁) where
-  pub tracked-first : a .full ≡ true → AddsAll l r (trackedClauses (r .before) (variables (n .variables) st) name x i ys xs) n st cl a st₁ cl₁
+  pub tracked-first : isFull a ≡ true → AddsAll l r (trackedClauses (r .before) (variables (n .variables) st) name x i ys xs) n st cl a st₁ cl₁
   unfolding trackedClauses
   tracked-first f = adds-stop (oneClauses (r .before) (variables (n .variables) st) name x) (adds-stop (partClauses x i 0 ys) d f) f
 
   module _ {b : Counters} {st₂ : ℕ → List ℕ} {cl₂ : List ℕ} (e : AddsAll l r (partClauses x i 0 ys) a st₁ cl₁ b st₂ cl₂) where
-    pub tracked-second : b .full ≡ true → AddsAll l r (trackedClauses (r .before) (variables (n .variables) st) name x i ys xs) n st cl b st₂ cl₂
+    pub tracked-second : isFull b ≡ true → AddsAll l r (trackedClauses (r .before) (variables (n .variables) st) name x i ys xs) n st cl b st₂ cl₂
     unfolding trackedClauses
     tracked-second f = adds-stop (oneClauses (r .before) (variables (n .variables) st) name x) (adds-then d e) f
 
-    pub tracked-older : GoodSome l n st cl → a .full ≡ false → b .full ≡ false → r .before ≤ n .variables → r .before ≤ b .variables
+    pub tracked-older : GoodSome l n st cl → isFull a ≡ false → isFull b ≡ false → r .before ≤ n .variables → r .before ≤ b .variables
     tracked-older g f f′ h =
         let q = same-then (clauses-same d (some-good g) f) (clauses-same e (some-good (some-all g d)) f′) in
         omega (arith, same-count q)
 
-    pub tracked-all : {m : Counters} {st₃ : ℕ → List ℕ} {cl₃ : List ℕ} → GoodSome l n st cl → a .full ≡ false → b .full ≡ false
+    pub tracked-all : {m : Counters} {st₃ : ℕ → List ℕ} {cl₃ : List ℕ} → GoodSome l n st cl → isFull a ≡ false → isFull b ≡ false
         → AddsAll l r (oneClauses (r .before) (variables (b .variables) st₂) name x) b st₂ cl₂ m st₃ cl₃
         → AddsAll l r (trackedClauses (r .before) (variables (n .variables) st) name x i ys xs) n st cl m st₃ cl₃
     unfolding trackedClauses

@@ -28,7 +28,7 @@ use Rattle.marked.proofs.Laws.{length-listed, at-low}
 use Rattle.encoder.specs.declared.Counters.{Counters}
 use Rattle.encoder.specs.declared.Run.{Run}
 use Rattle.encoder.specs.Held.{LongEnough}
-use Rattle.encoder.specs.Did.{Looked}
+use Rattle.encoder.specs.Did.{Looked, isFull}
 use Rattle.storing.specs.Adding.{Adds}
 use Rattle.tracking.specs.Joining.{AddsAll, GoodSome, partName, ofName, variablesOf, variableAt, IsAt, NextOf, anyClauses}
 use Rattle.tracking.proofs.Steps.{Adding, adding-start, adding-step, adding-stop, adding-end, some-good, some-tracked, some-after, Areas, areas-start, areas-then, Same, same-tracked, clause-same, known-same}
@@ -161,10 +161,10 @@ module _ {k : Counts} {t : List ℕ} {l : Limits} {r : Run} {name : ℕ} {all : 
         n₀ (held l b₀) cl₀ n′ (held l b′) cl′
     stepped = adding-step (rw (left-is, q) at (x .did)) a
 
-    walking-stop : n′ .full ≡ true → AddsAll l r all n₀ (held l b₀) cl₀ n′ (held l b′) cl′
+    walking-stop : isFull n′ ≡ true → AddsAll l r all n₀ (held l b₀) cl₀ n′ (held l b′) cl′
     walking-stop f = adding-stop stepped f
 
-    walking-step : {at′ : ℕ} → n′ .full ≡ false → length b′ ≡ length b → length cl′ ≡ length cl → NextOf k t name (listed (n′ .tracked) 10 (held l b′)) (at + 1) at′
+    walking-step : {at′ : ℕ} → isFull n′ ≡ false → length b′ ≡ length b → length cl′ ≡ length cl → NextOf k t name (listed (n′ .tracked) 10 (held l b′)) (at + 1) at′
         → Walking k t l r name all rest′ n₀ b₀ cl₀ b′ cl′ n′ at′
     walking-step {at′} f s s′ y =
         let z : Same n (held l b) n′ (held l b′) = clause-same a (some-good (x .good)) f in
@@ -201,10 +201,10 @@ module _ {k : Counts} {t : List ℕ} {l : Limits} {r : Run} {name y j : ℕ} {n�
   helping-end h = walking-end (x .walk) h (unfold helperClauses in refl)
 
   module _ {n′ : Counters} (b′ : List ℕ) {cl′ : List ℕ} (h : at < n .tracked) (a : Adds l r (agrees (variableAt n (held l b) at) y (bit j i)) n (held l b) cl n′ (held l b′) cl′) where
-    pub helping-stop : n′ .full ≡ true → AddsAll l r (helperClauses y j 0 (variablesOf k t n₀ (held l b₀) name)) n₀ (held l b₀) cl₀ n′ (held l b′) cl′
+    pub helping-stop : isFull n′ ≡ true → AddsAll l r (helperClauses y j 0 (variablesOf k t n₀ (held l b₀) name)) n₀ (held l b₀) cl₀ n′ (held l b′) cl′
     helping-stop f = walking-stop (x .walk) (helperClauses y j (i + 1)) b′ h a (next-helper y j i (variableAt n (held l b) at)) f
 
-    pub helping-step : {at′ : ℕ} → n′ .full ≡ false → length b′ ≡ length b → length cl′ ≡ length cl → NextOf k t name (listed (n′ .tracked) 10 (held l b′)) (at + 1) at′
+    pub helping-step : {at′ : ℕ} → isFull n′ ≡ false → length b′ ≡ length b → length cl′ ≡ length cl → NextOf k t name (listed (n′ .tracked) 10 (held l b′)) (at + 1) at′
         → Helping k t l r name y j n₀ b₀ cl₀ b′ cl′ n′ (i + 1) at′
     helping-step f s s′ u =
         record {
@@ -233,9 +233,9 @@ module _ {k : Counts} {t : List ℕ} {l : Limits} {r : Run} {name y : ℕ} {n₀
   linking-end h = walking-end (x .walk) h (unfold anyClauses in refl)
 
   module _ {n′ : Counters} (b′ : List ℕ) {cl′ : List ℕ} (h : at < n .tracked) (a : Adds l r (anyOne y (variableAt n (held l b) at)) n (held l b) cl n′ (held l b′) cl′) where
-    pub linking-stop : n′ .full ≡ true → AddsAll l r (anyClauses y (variablesOf k t n₀ (held l b₀) name)) n₀ (held l b₀) cl₀ n′ (held l b′) cl′
+    pub linking-stop : isFull n′ ≡ true → AddsAll l r (anyClauses y (variablesOf k t n₀ (held l b₀) name)) n₀ (held l b₀) cl₀ n′ (held l b′) cl′
     linking-stop f = walking-stop (x .walk) (anyClauses y) b′ h a (next-any y (variableAt n (held l b) at)) f
 
-    pub linking-step : {at′ : ℕ} → n′ .full ≡ false → length b′ ≡ length b → length cl′ ≡ length cl → NextOf k t name (listed (n′ .tracked) 10 (held l b′)) (at + 1) at′
+    pub linking-step : {at′ : ℕ} → isFull n′ ≡ false → length b′ ≡ length b → length cl′ ≡ length cl → NextOf k t name (listed (n′ .tracked) 10 (held l b′)) (at + 1) at′
         → Linking k t l r name y n₀ b₀ cl₀ b′ cl′ n′ at′
     linking-step f s s′ u = record { walk = walking-step (x .walk) (anyClauses y) b′ h a (next-any y (variableAt n (held l b) at)) f s s′ u }

@@ -25,7 +25,7 @@ use Rattle.marked.proofs.Laws.{length-listed}
 use Rattle.encoder.specs.declared.Counters.{Counters}
 use Rattle.encoder.specs.declared.Run as code
 use Rattle.encoder.specs.Held.{runOf, Reading, openingOf, stateOf, Good, LongEnough}
-use Rattle.encoder.specs.Did.{Widens, PlainDid}
+use Rattle.encoder.specs.Did.{Widens, PlainDid, isFull}
 use Rattle.encoder.proofs.Did.{widens-same, widens-fold, did-nothing, did-as, did-then, did-stop}
 use Rattle.encoder.proofs.Widening.{addVariable-widens, addClause-widens, addClause-variables, addClause-opening}
 use Rattle.encoder.proofs.Steps.{good-waiting}
@@ -110,15 +110,15 @@ module _ {c : Catalogue} {l : Limits} {F : State → State} {n : Counters} {st :
   makes-widens s = m .is .is [] .wide blind s
 
   -- it was not full before
-  pub makes-going : n′ .full ≡ false → n .full ≡ false
-  makes-going e = by-cases (n .full) (λ t. absurd (true≢false (sym (m .is .is [] .stays t) ∙ e))) (λ t. t)
+  pub makes-going : isFull n′ ≡ false → isFull n ≡ false
+  makes-going e = by-cases (isFull n) (λ t. absurd (true≢false (sym (m .is .is [] .stays t) ∙ e))) (λ t. t)
 
-  pub makes-state : Good c l n st cl [] → n′ .full ≡ false → stateNow c l n′ st′ cl′ ≡ F (stateNow c l n st cl)
+  pub makes-state : Good c l n st cl [] → isFull n′ ≡ false → stateNow c l n′ st′ cl′ ≡ F (stateNow c l n st cl)
   makes-state g e = m .is .is [] .done g (makes-going e) e blind
 
   -- by another name
   pub makes-as : {G : State → State} → ((s : State) → Widens s (G s))
-      → (Good c l n st cl [] → n .full ≡ false → (v : Reading) (wt : List ℕ) → F (stateOf c l v n st cl wt) ≡ G (stateOf c l v n st cl wt))
+      → (Good c l n st cl [] → isFull n ≡ false → (v : Reading) (wt : List ℕ) → F (stateOf c l v n st cl wt) ≡ G (stateOf c l v n st cl wt))
       → Makes c l G n st cl n′ st′ cl′
   makes-as w h = record { is = record { is = λ wt. did-as (m .is .is wt) (λ v. w) (λ g e v. h (good-waiting [] g) e v wt) } }
 
@@ -126,7 +126,7 @@ module _ {c : Catalogue} {l : Limits} {F : State → State} {n : Counters} {st :
   makes-same e = makes-as (λ s. rw (← e s) (makes-widens s)) (λ g f v wt. e _)
 
   -- the next step is not taken where it is full
-  pub makes-stop : {G : State → State} → n′ .full ≡ true → ((s : State) → Widens s (G s)) → Makes c l (λ s. G (F s)) n st cl n′ st′ cl′
+  pub makes-stop : {G : State → State} → isFull n′ ≡ true → ((s : State) → Widens s (G s)) → Makes c l (λ s. G (F s)) n st cl n′ st′ cl′
   makes-stop f w = record { is = record { is = λ wt. did-stop (m .is .is wt) f (λ v. w) } }
 
 pub makes-then : {c : Catalogue} {l : Limits} {F G : State → State} {n n′ n″ : Counters} {st st′ st″ : ℕ → List ℕ} {cl cl′ cl″ : List ℕ}
@@ -138,7 +138,7 @@ makes-nothing = record { is = record { is = λ wt. did-nothing } }
 
 -- nothing, where F would change nothing
 pub makes-idle : {c : Catalogue} {l : Limits} {F : State → State} {n : Counters} {st : ℕ → List ℕ} {cl : List ℕ} → ((s : State) → Widens s (F s))
-    → (Good c l n st cl [] → n .full ≡ false → (v : Reading) (wt : List ℕ) → F (stateOf c l v n st cl wt) ≡ stateOf c l v n st cl wt) → Makes c l F n st cl n st cl
+    → (Good c l n st cl [] → isFull n ≡ false → (v : Reading) (wt : List ℕ) → F (stateOf c l v n st cl wt) ≡ stateOf c l v n st cl wt) → Makes c l F n st cl n st cl
 makes-idle w h = makes-as makes-nothing w (λ g e v wt. sym (h g e v wt))
 
 pub adds-makes : {l : Limits} {r : code.Run} {k : Clause} {n n′ : Counters} {st st′ : ℕ → List ℕ} {cl cl′ : List ℕ} (c : Catalogue)
@@ -170,7 +170,7 @@ module _ {A : Type 0} {c : Catalogue} {l : Limits} {f : A → State → State} {
           did = makes-same (makes-then (a .did) b) (λ s. sym (fold-append f (a .seen) (x ∷ []) s ∙ unfold fold in refl));
         }
 
-    pub folded-stop : Folded c l f all rest n₀ st₀ cl₀ n st cl → n .full ≡ true → ((x : A) (s : State) → Widens s (f x s))
+    pub folded-stop : Folded c l f all rest n₀ st₀ cl₀ n st cl → isFull n ≡ true → ((x : A) (s : State) → Widens s (f x s))
         → Makes c l (fold f all) n₀ st₀ cl₀ n st cl
     folded-stop a e w = makes-same (makes-stop (a .did) {G = fold f rest} e (widens-fold f w rest)) (λ s. sym (fold-append f (a .seen) rest s) ∙ ap (λ xs. fold f xs s) (a .split))
 
@@ -192,7 +192,7 @@ module _ {l : Limits} {r : code.Run} {all : List Clause} where
         → Adds l r k n st cl n′ st′ cl′ → Adding l r all rest n₀ st₀ cl₀ n′ st′ cl′
     adding-step a b = record { is = λ c. folded-step (a .is c) (adds-makes c b) }
 
-    pub adding-stop : {rest : List Clause} → Adding l r all rest n₀ st₀ cl₀ n st cl → n .full ≡ true → AddsAll l r all n₀ st₀ cl₀ n st cl
+    pub adding-stop : {rest : List Clause} → Adding l r all rest n₀ st₀ cl₀ n st cl → isFull n ≡ true → AddsAll l r all n₀ st₀ cl₀ n st cl
     adding-stop a e = record { is = λ c. folded-stop (a .is c) e (addClause-widens (runOf r)) }
 
     pub adding-end : Adding l r all [] n₀ st₀ cl₀ n st cl → AddsAll l r all n₀ st₀ cl₀ n st cl
@@ -210,7 +210,7 @@ module _ {l : Limits} {r : code.Run} where
         → AddsAll l r (ks ++ is) n st cl n″ st″ cl″
     adds-then {is} a b = record { is = λ c. makes-same (makes-then (a .is c) (b .is c)) (λ s. sym (fold-append (addClause (runOf r)) ks is s)) }
 
-    pub adds-stop : (is : List Clause) → AddsAll l r ks n st cl n′ st′ cl′ → n′ .full ≡ true → AddsAll l r (ks ++ is) n st cl n′ st′ cl′
+    pub adds-stop : (is : List Clause) → AddsAll l r ks n st cl n′ st′ cl′ → isFull n′ ≡ true → AddsAll l r (ks ++ is) n st cl n′ st′ cl′
     adds-stop is a e =
         record {
           is = λ c. makes-same (makes-stop (a .is c) {G = fold (addClause (runOf r)) is} e (clauses-widen (runOf r) is))
@@ -269,7 +269,7 @@ module _ (r : Run) where
 module _ {c : Catalogue} {l : Limits} {n n′ : Counters} {st st′ : ℕ → List ℕ} {cl cl′ : List ℕ} where
   -- what the areas show of the state after F
   pub same-after : {F : State → State} → ((s : State) → (F s) .opening ≡ s .opening) → ((s : State) → (F s) .variables ≡ s .variables)
-      → Makes c l F n st cl n′ st′ cl′ → Good c l n st cl [] → n′ .full ≡ false → Same n st n′ st′
+      → Makes c l F n st cl n′ st′ cl′ → Good c l n st cl [] → isFull n′ ≡ false → Same n st n′ st′
   unfolding stateOf openingOf
   same-after o w m g e =
       let d = makes-state m g e in
@@ -280,10 +280,10 @@ module _ {c : Catalogue} {l : Limits} {n n′ : Counters} {st st′ : ℕ → Li
         named = ap (λ (p : Opening). p .named) opening;
       }
 
-  pub clauses-same : {r : code.Run} {ks : List Clause} → AddsAll l r ks n st cl n′ st′ cl′ → Good c l n st cl [] → n′ .full ≡ false → Same n st n′ st′
+  pub clauses-same : {r : code.Run} {ks : List Clause} → AddsAll l r ks n st cl n′ st′ cl′ → Good c l n st cl [] → isFull n′ ≡ false → Same n st n′ st′
   clauses-same {r} {ks} m g e = same-after (clauses-opening (runOf r) ks) (clauses-variables (runOf r) ks) (m .is c) g e
 
-  pub clause-same : {r : code.Run} {k : Clause} → Adds l r k n st cl n′ st′ cl′ → Good c l n st cl [] → n′ .full ≡ false → Same n st n′ st′
+  pub clause-same : {r : code.Run} {k : Clause} → Adds l r k n st cl n′ st′ cl′ → Good c l n st cl [] → isFull n′ ≡ false → Same n st n′ st′
   clause-same {r} {k} a g e = same-after (addClause-opening (runOf r) k) (addClause-variables (runOf r) k) (adds-makes c a) g e
 
 module _ {l : Limits} {n n′ : Counters} {st st′ : ℕ → List ℕ} {cl cl′ : List ℕ} where

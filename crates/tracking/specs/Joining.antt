@@ -27,7 +27,7 @@ use Rattle.variable_map.specs.Mapping.{variables, AllKnown}
 use Rattle.encoder.specs.declared.Counters.{Counters}
 use Rattle.encoder.specs.declared.Run as code
 use Rattle.encoder.specs.Held.{runOf, Good}
-use Rattle.encoder.specs.Did.{onOpening, StateDid, ClausesDid}
+use Rattle.encoder.specs.Did.{onOpening, StateDid, ClausesDid, isFull}
 use Rattle.tracking.specs.declared.Tracker.{Tracker}
 
 -- ---- steps by what they do
@@ -188,7 +188,7 @@ pub record Forgets (l : Limits) (n : Counters) (st : ℕ → List ℕ) (n′ : C
 
 -- it is not full, the run has a number and began with no more variables, and tracked parts have variables
 pub record CanJoin (n : Counters) (st : ℕ → List ℕ) (r : code.Run) : Type 0 where
-  pub going : n .full ≡ false
+  pub going : isFull n ≡ false
   pub number : 0 < r .number
   pub older : r .before ≤ n .variables
   pub known : AllKnown (variables (n .variables) st) (listed (n .tracked) 10 st)
@@ -206,6 +206,6 @@ pub record CanAddPart (k : Counts) (t : List ℕ) (n : Counters) (st : ℕ → L
 
 -- tracked parts have variables, and no origin has two
 pub record CanLink (n : Counters) (st : ℕ → List ℕ) : Type 0 where
-  pub going : n .full ≡ false
+  pub going : isFull n ≡ false
   pub known : AllKnown (variables (n .variables) st) (listed (n .tracked) 10 st)
   pub apart : Distinct (variables (n .variables) st)

@@ -220,7 +220,7 @@ fn helper_clauses(
     let mut at = next_of(t, k, s, l, n.tracked, name, 0);
     while at < m.tracked {
         m = helper_clause(s, clauses, l, m, r, y, j, i, at);
-        if m.full {
+        if m.full != 0 {
             return m;
         }
         at = next_of(t, k, s, l, m.tracked, name, at + 1);
@@ -337,11 +337,11 @@ fn add_tracked(
     ensures { λ m. ⌜ AddsAll l r (trackedClauses (r .before) (variables (n .variables) (held l (now (s .entry)))) name x i (helpersIn tracker) (variablesOf k (now (t .entry)) n (held l (now (s .entry))) name)) n (held l (now (s .entry))) (now (clauses .entry)) m (held l (now (s .exit))) (now (clauses .exit)) ⌝ }
 {
     let a = new_helper(t, k, s, clauses, l, n, r, name, i, tracker);
-    if a.full {
+    if a.full != 0 {
         return a;
     }
     let b = part_clauses(s, clauses, l, a, r, x, i, tracker);
-    if b.full {
+    if b.full != 0 {
         return b;
     }
     one_clause(s, clauses, l, b, r, name, x)
@@ -434,7 +434,7 @@ pub fn any_clauses(
     let mut at = next_of(t, k, s, l, n.tracked, name, 0);
     while at < m.tracked {
         m = any_clause(s, clauses, l, m, r, y, at);
-        if m.full {
+        if m.full != 0 {
             return m;
         }
         at = next_of(t, k, s, l, m.tracked, name, at + 1);

@@ -2,6 +2,7 @@
 use borrow.Author.Needs.{needs}
 use Prim.Native.Nat.{_-_}
 use native.Mathlib.Omega.{arith}
+use Rattle.encoder.proofs.Did.{told-full, told-going}
 use Rattle.beginning.proofs.Added.{Opened, opened-start, opened-owners, opened-few, opened-low, opened-step, opened-end, opened-full}
 use Rattle.beginning.proofs.open_added.Statement.{statement}
 use Rattle.beginning.proofs.open_added.Tie as tie
@@ -19,22 +20,22 @@ same-length : tie.Need-same-length Inv-loop μ-loop
 same-length c = search needs
 
 returns : tie.Need-returns Inv-loop μ-loop
-returns c = opened-full (c .before .before .before .loop .inv) (c .if2 .taken)
+returns c = opened-full (c .before .before .before .before .loop .inv) (told-full (c .if2 .taken))
 
 at-requires : tie.Need-at-requires Inv-loop μ-loop
 at-requires c κs = search needs
 
 open-owner-requires : tie.Need-open-owner-requires Inv-loop μ-loop
-open-owner-requires c κs = ((c .before .before .before .before .before .before .loop .inv .fits), (opened-owners (c .before .before .before .before .before .before .loop .inv), opened-low (c .before .before .before .before .before .before .loop .inv) (c .before .before .before .if2 .left) (c .before .before .before .before .if1 .taken) (c .before .at .ensures)))
+open-owner-requires c κs = ((c .before .before .before .before .before .before .before .loop .inv .fits), (opened-owners (c .before .before .before .before .before .before .before .loop .inv), opened-low (c .before .before .before .before .before .before .before .loop .inv) (told-going (c .before .before .before .if2 .left)) (c .before .before .before .before .before .if1 .taken) (c .before .at .ensures)))
 
 add-i : tie.Need-add-i Inv-loop μ-loop
-add-i c = omega (arith, opened-few (c .before .before .before .before .before .before .before .before .before .loop .inv), (c .before .before .before .before .before .before .before .if1 .taken))
+add-i c = omega (arith, opened-few (c .before .before .before .before .before .before .before .before .before .before .loop .inv), (c .before .before .before .before .before .before .before .before .if1 .taken))
 
 loop-less : tie.Need-loop-less Inv-loop μ-loop
 loop-less c = search needs
 
 loop-again : tie.Need-loop-again Inv-loop μ-loop
-loop-again c = opened-step (c .before .before .before .before .before .before .before .before .before .loop .inv) (c .before .before .before .before .before .before .if2 .left) (c .before .before .before .before .before .before .before .if1 .taken) (c .before .before .before .before .at .ensures) (search needs) (c .before .before .open-owner .ensures)
+loop-again c = opened-step (c .before .before .before .before .before .before .before .before .before .before .loop .inv) (told-going (c .before .before .before .before .before .before .if2 .left)) (c .before .before .before .before .before .before .before .before .if1 .taken) (c .before .before .before .before .at .ensures) (search needs) (c .before .before .open-owner .ensures)
 
 same-length-2 : tie.Need-same-length-2 Inv-loop μ-loop
 same-length-2 c = search needs

@@ -1,6 +1,7 @@
 -- `binary_encoding::join_names` lets the named parts of the names at hand join. The invariant: those of the first i names did.
 use borrow.Author.Needs.{needs}
 use Prim.Native.Nat.{_-_}
+use Rattle.encoder.proofs.Did.{told-full, told-going}
 use Rattle.binary_encoding.proofs.Names.{Naming, naming-start, naming-stop, naming-step, naming-end}
 use Rattle.binary_encoding.proofs.join_names.Statement.{statement}
 use Rattle.binary_encoding.proofs.join_names.Tie as tie
@@ -27,7 +28,7 @@ same-length-2 : tie.Need-same-length-2 Inv-loop μ-loop
 same-length-2 c = search needs
 
 returns : tie.Need-returns Inv-loop μ-loop
-returns c = search (needs, naming-stop)
+returns c = search (needs, naming-stop, told-full (c .if1 .taken))
 
 add-i : tie.Need-add-i Inv-loop μ-loop
 add-i c = search needs
@@ -36,7 +37,7 @@ loop-less : tie.Need-loop-less Inv-loop μ-loop
 loop-less c = search needs
 
 loop-again : tie.Need-loop-again Inv-loop μ-loop
-loop-again c = search (needs, naming-step)
+loop-again c = search (needs, naming-step, told-going (c .if1 .left))
 
 same-length-3 : tie.Need-same-length-3 Inv-loop μ-loop
 same-length-3 c = search needs

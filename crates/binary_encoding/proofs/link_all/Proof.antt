@@ -2,6 +2,7 @@
 use borrow.Author.Needs.{needs}
 use native.Mathlib.Omega.{arith}
 use Prim.Native.Nat.{_-_}
+use Rattle.encoder.proofs.Did.{told-full, told-going}
 use Rattle.binary_encoding.proofs.Links.{Linked, linked-start, linked-stop, linked-step, linked-end}
 use Rattle.binary_encoding.proofs.link_all.Statement.{statement}
 use Rattle.binary_encoding.proofs.link_all.Tie as tie
@@ -25,7 +26,7 @@ same-length-2 : tie.Need-same-length-2 Inv-loop μ-loop
 same-length-2 c = search needs
 
 returns : tie.Need-returns Inv-loop μ-loop
-returns c = linked-stop ((c .before .before .before .before .before .before .before .before .before .before .loop .inv)) _ ((c .before .before .before .before .before .before .before .before .if1 .taken)) ((c .before .before .before .before .before .link-if .ensures)) ((c .if2 .taken))
+returns c = linked-stop ((c .before .before .before .before .before .before .before .before .before .before .before .loop .inv)) _ ((c .before .before .before .before .before .before .before .before .before .if1 .taken)) ((c .before .before .before .before .before .before .link-if .ensures)) ((told-full (c .if2 .taken)))
 
 add-y : tie.Need-add-y Inv-loop μ-loop
 add-y c = search needs
@@ -34,7 +35,7 @@ loop-less : tie.Need-loop-less Inv-loop μ-loop
 loop-less c = search needs
 
 loop-again : tie.Need-loop-again Inv-loop μ-loop
-loop-again c = search (needs, linked-step)
+loop-again c = linked-step (c .before .before .before .before .before .before .before .before .before .before .before .loop .inv) _ (c .before .before .before .before .before .before .before .before .before .if1 .taken) (c .before .before .before .before .before .before .link-if .ensures) (told-going (c .if2 .left)) (c .before .before .before .before .before .before .link-if .kept .1 .1 .0) (c .before .before .before .before .before .before .link-if .kept .1 .1 .1 .0)
 
 same-length-3 : tie.Need-same-length-3 Inv-loop μ-loop
 same-length-3 c = search needs

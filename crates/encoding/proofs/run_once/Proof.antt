@@ -4,6 +4,7 @@ use mathlib.Core.Path.{refl, _∙_}
 use native.Mathlib.Omega.{arith}
 use Rattle.state.proofs.Sizes.{length-line, fits-same}
 use Rattle.encoder.proofs.Steps.{good-waiting}
+use Rattle.encoder.proofs.Did.{told-full, told-going}
 use Rattle.encoding.proofs.Ran.{long-alone, line-begun, line-over, can-join, joined-good, join-over, can-link, ran}
 use Rattle.encoding.proofs.Flags.{begun-flagged, joined-flagged, linked-flagged}
 use Rattle.encoding.proofs.run_once.Statement.{statement}
@@ -40,27 +41,27 @@ serve-line-requires c κs =
     )
 
 same-length : tie.Need-same-length
-same-length c = (c .before .before .before .before .before .before .before .serve-line .kept .1 .1 .1 .1 .0) ∙ (c .before .before .before .before .before .before .before .before .before .before .before .before .before .before .begin-run .kept .1 .1 .1 .1 .0)
+same-length c = (c .before .before .before .before .before .before .before .before .serve-line .kept .1 .1 .1 .1 .0) ∙ (c .before .before .before .before .before .before .before .before .before .before .before .before .before .before .before .begin-run .kept .1 .1 .1 .1 .0)
 
 same-length-2 : tie.Need-same-length-2
-same-length-2 c = (c .before .before .before .before .before .before .before .serve-line .kept .1 .1 .1 .1 .1 .0)
+same-length-2 c = (c .before .before .before .before .before .before .before .before .serve-line .kept .1 .1 .1 .1 .1 .0)
 
 same-length-3 : tie.Need-same-length-3
-same-length-3 c = (c .before .before .before .before .before .before .before .serve-line .kept .1 .1 .1 .1 .1 .1 .0)
+same-length-3 c = (c .before .before .before .before .before .before .before .before .serve-line .kept .1 .1 .1 .1 .1 .1 .0)
 
 returns : tie.Need-returns
 returns c =
-    let p = (c .before .before .before .before .before .before .before .before .before .before .before .before .before .before .before .before .before .before .before .before .before .before .before .before .before .pre) in
-    let begun = (c .before .before .before .before .before .before .before .before .before .before .before .before .before .before .begin-run) in
-    let served = (c .before .before .before .before .before .before .before .serve-line) in
+    let p = (c .before .before .before .before .before .before .before .before .before .before .before .before .before .before .before .before .before .before .before .before .before .before .before .before .before .before .pre) in
+    let begun = (c .before .before .before .before .before .before .before .before .before .before .before .before .before .before .before .begin-run) in
+    let served = (c .before .before .before .before .before .before .before .before .serve-line) in
     let fits = fits-same (begun .kept .1 .1 .1 .1 .0) (p .1 .0) in
-    (line-over (record { number = refl; before = refl }) (length-line _ _ fits) (begun .ensures) (served .ensures .0) (c .if1 .taken), served .ensures .1)
+    (line-over (record { number = refl; before = refl }) (length-line _ _ fits) (begun .ensures) (served .ensures .0) (told-full (c .if1 .taken)), served .ensures .1)
 
 join-all-requires : tie.Need-join-all-requires
 join-all-requires c κs =
-    let p = (c .before .before .before .before .before .before .before .before .before .before .before .before .before .before .before .before .before .before .before .before .before .before .before .before .before .before .before .pre) in
-    let begun = (c .before .before .before .before .before .before .before .before .before .before .before .before .before .before .before .before .begin-run) in
-    let served = (c .before .before .before .before .before .before .before .before .before .serve-line) in
+    let p = (c .before .before .before .before .before .before .before .before .before .before .before .before .before .before .before .before .before .before .before .before .before .before .before .before .before .before .before .before .pre) in
+    let begun = (c .before .before .before .before .before .before .before .before .before .before .before .before .before .before .before .before .before .begin-run) in
+    let served = (c .before .before .before .before .before .before .before .before .before .before .serve-line) in
     let fits = fits-same (begun .kept .1 .1 .1 .1 .0) (p .1 .0) in (
       p .0 .kept,
       (
@@ -72,7 +73,7 @@ join-all-requires c κs =
             (
               long-alone (served .kept .1 .1 .1 .1 .1 .0) (p .1 .1 .1 .0 .0),
               (
-                can-join (record { number = refl; before = refl }) (length-line _ _ fits) (begun .ensures) (served .ensures .0) (c .before .before .if1 .left) (p .1 .1 .0),
+                can-join (record { number = refl; before = refl }) (length-line _ _ fits) (begun .ensures) (served .ensures .0) (told-going (c .before .before .if1 .left)) (p .1 .1 .0),
                 served .ensures .0 .hand,
               ),
             ),
@@ -82,64 +83,64 @@ join-all-requires c κs =
     )
 
 same-length-4 : tie.Need-same-length-4
-same-length-4 c = (c .before .before .before .before .before .join-all .kept .1 .1 .1 .1 .0) ∙ ((c .before .before .before .before .before .before .before .before .before .before .before .before .before .before .before .serve-line .kept .1 .1 .1 .1 .0) ∙ (c .before .before .before .before .before .before .before .before .before .before .before .before .before .before .before .before .before .before .before .before .before .before .begin-run .kept .1 .1 .1 .1 .0))
+same-length-4 c = (c .before .before .before .before .before .before .join-all .kept .1 .1 .1 .1 .0) ∙ ((c .before .before .before .before .before .before .before .before .before .before .before .before .before .before .before .before .before .serve-line .kept .1 .1 .1 .1 .0) ∙ (c .before .before .before .before .before .before .before .before .before .before .before .before .before .before .before .before .before .before .before .before .before .before .before .before .begin-run .kept .1 .1 .1 .1 .0))
 
 same-length-5 : tie.Need-same-length-5
-same-length-5 c = (c .before .before .before .before .before .join-all .kept .1 .1 .1 .1 .1 .0) ∙ (c .before .before .before .before .before .before .before .before .before .before .before .before .before .before .before .serve-line .kept .1 .1 .1 .1 .1 .0)
+same-length-5 c = (c .before .before .before .before .before .before .join-all .kept .1 .1 .1 .1 .1 .0) ∙ (c .before .before .before .before .before .before .before .before .before .before .before .before .before .before .before .before .before .serve-line .kept .1 .1 .1 .1 .1 .0)
 
 same-length-6 : tie.Need-same-length-6
-same-length-6 c = (c .before .before .before .before .before .before .before .before .before .before .before .before .before .before .before .serve-line .kept .1 .1 .1 .1 .1 .1 .0)
+same-length-6 c = (c .before .before .before .before .before .before .before .before .before .before .before .before .before .before .before .before .before .serve-line .kept .1 .1 .1 .1 .1 .1 .0)
 
 returns-2 : tie.Need-returns-2
 returns-2 c =
-    let p = (c .before .before .before .before .before .before .before .before .before .before .before .before .before .before .before .before .before .before .before .before .before .before .before .before .before .before .before .before .before .before .before .before .before .pre) in
-    let begun = (c .before .before .before .before .before .before .before .before .before .before .before .before .before .before .before .before .before .before .before .before .before .before .begin-run) in
-    let served = (c .before .before .before .before .before .before .before .before .before .before .before .before .before .before .before .serve-line) in
-    let joined = (c .before .before .before .before .before .join-all .ensures) in
+    let p = (c .before .before .before .before .before .before .before .before .before .before .before .before .before .before .before .before .before .before .before .before .before .before .before .before .before .before .before .before .before .before .before .before .before .before .before .pre) in
+    let begun = (c .before .before .before .before .before .before .before .before .before .before .before .before .before .before .before .before .before .before .before .before .before .before .before .before .begin-run) in
+    let served = (c .before .before .before .before .before .before .before .before .before .before .before .before .before .before .before .before .before .serve-line) in
+    let joined = (c .before .before .before .before .before .before .join-all .ensures) in
     let fits = fits-same (begun .kept .1 .1 .1 .1 .0) (p .1 .0) in (
-      join-over (record { number = refl; before = refl }) (length-line _ _ fits) (begun .ensures) (served .ensures .0) (c .before .before .before .before .before .before .before .before .if1 .left) joined (c .if2 .taken),
+      join-over (record { number = refl; before = refl }) (length-line _ _ fits) (begun .ensures) (served .ensures .0) (told-going (c .before .before .before .before .before .before .before .before .before .if1 .left)) joined (told-full (c .if2 .taken)),
       joined-flagged _ (good-waiting _ (served .ensures .0 .good)) joined (served .ensures .1),
     )
 
 link-all-requires : tie.Need-link-all-requires
 link-all-requires c κs =
-    let p = (c .before .before .before .before .before .before .before .before .before .before .before .before .before .before .before .before .before .before .before .before .before .before .before .before .before .before .before .before .before .before .before .before .before .before .before .pre) in
-    let begun = (c .before .before .before .before .before .before .before .before .before .before .before .before .before .before .before .before .before .before .before .before .before .before .before .before .begin-run) in
-    let served = (c .before .before .before .before .before .before .before .before .before .before .before .before .before .before .before .before .before .serve-line) in
-    let joined = (c .before .before .before .before .before .before .before .join-all) in
+    let p = (c .before .before .before .before .before .before .before .before .before .before .before .before .before .before .before .before .before .before .before .before .before .before .before .before .before .before .before .before .before .before .before .before .before .before .before .before .before .pre) in
+    let begun = (c .before .before .before .before .before .before .before .before .before .before .before .before .before .before .before .before .before .before .before .before .before .before .before .before .before .before .begin-run) in
+    let served = (c .before .before .before .before .before .before .before .before .before .before .before .before .before .before .before .before .before .before .before .serve-line) in
+    let joined = (c .before .before .before .before .before .before .before .before .join-all) in
     let fits = fits-same (begun .kept .1 .1 .1 .1 .0) (p .1 .0) in (
       p .0 .kept,
       (
         fits-same (joined .kept .1 .1 .1 .1 .0 ∙ served .kept .1 .1 .1 .1 .0) fits,
         (
-          good-waiting _ (joined-good (record { number = refl; before = refl }) (length-line _ _ fits) (begun .ensures) (served .ensures .0) (c .before .before .before .before .before .before .before .before .before .before .if1 .left) (joined .ensures)),
+          good-waiting _ (joined-good (record { number = refl; before = refl }) (length-line _ _ fits) (begun .ensures) (served .ensures .0) (told-going (c .before .before .before .before .before .before .before .before .before .before .before .if1 .left)) (joined .ensures)),
           (
             long-alone (joined .kept .1 .1 .1 .1 .1 .0 ∙ served .kept .1 .1 .1 .1 .1 .0) (p .1 .1 .1 .0 .0),
-            can-link (record { number = refl; before = refl }) (length-line _ _ fits) (begun .ensures) (served .ensures .0) (c .before .before .before .before .before .before .before .before .before .before .if1 .left) (joined .ensures) (c .before .before .if2 .left) (p .1 .1 .0),
+            can-link (record { number = refl; before = refl }) (length-line _ _ fits) (begun .ensures) (served .ensures .0) (told-going (c .before .before .before .before .before .before .before .before .before .before .before .if1 .left)) (joined .ensures) (told-going (c .before .before .if2 .left)) (p .1 .1 .0),
           ),
         ),
       ),
     )
 
 same-length-7 : tie.Need-same-length-7
-same-length-7 c = (c .before .before .before .before .link-all .kept .1 .1 .1 .1 .0) ∙ ((c .before .before .before .before .before .before .before .before .before .before .before .before .join-all .kept .1 .1 .1 .1 .0) ∙ ((c .before .before .before .before .before .before .before .before .before .before .before .before .before .before .before .before .before .before .before .before .before .before .serve-line .kept .1 .1 .1 .1 .0) ∙ (c .before .before .before .before .before .before .before .before .before .before .before .before .before .before .before .before .before .before .before .before .before .before .before .before .before .before .before .before .before .begin-run .kept .1 .1 .1 .1 .0)))
+same-length-7 c = (c .before .before .before .before .link-all .kept .1 .1 .1 .1 .0) ∙ ((c .before .before .before .before .before .before .before .before .before .before .before .before .before .join-all .kept .1 .1 .1 .1 .0) ∙ ((c .before .before .before .before .before .before .before .before .before .before .before .before .before .before .before .before .before .before .before .before .before .before .before .before .serve-line .kept .1 .1 .1 .1 .0) ∙ (c .before .before .before .before .before .before .before .before .before .before .before .before .before .before .before .before .before .before .before .before .before .before .before .before .before .before .before .before .before .before .before .begin-run .kept .1 .1 .1 .1 .0)))
 
 same-length-8 : tie.Need-same-length-8
-same-length-8 c = (c .before .before .before .before .link-all .kept .1 .1 .1 .1 .1 .0) ∙ ((c .before .before .before .before .before .before .before .before .before .before .before .before .join-all .kept .1 .1 .1 .1 .1 .0) ∙ (c .before .before .before .before .before .before .before .before .before .before .before .before .before .before .before .before .before .before .before .before .before .before .serve-line .kept .1 .1 .1 .1 .1 .0))
+same-length-8 c = (c .before .before .before .before .link-all .kept .1 .1 .1 .1 .1 .0) ∙ ((c .before .before .before .before .before .before .before .before .before .before .before .before .before .join-all .kept .1 .1 .1 .1 .1 .0) ∙ (c .before .before .before .before .before .before .before .before .before .before .before .before .before .before .before .before .before .before .before .before .before .before .before .before .serve-line .kept .1 .1 .1 .1 .1 .0))
 
 same-length-9 : tie.Need-same-length-9
-same-length-9 c = (c .before .before .before .before .before .before .before .before .before .before .before .before .before .before .before .before .before .before .before .before .before .before .serve-line .kept .1 .1 .1 .1 .1 .1 .0)
+same-length-9 c = (c .before .before .before .before .before .before .before .before .before .before .before .before .before .before .before .before .before .before .before .before .before .before .before .before .serve-line .kept .1 .1 .1 .1 .1 .1 .0)
 
 returns-3 : tie.Need-returns-3
 returns-3 c =
-    let p = (c .before .before .before .before .before .before .before .before .before .before .before .before .before .before .before .before .before .before .before .before .before .before .before .before .before .before .before .before .before .before .before .before .before .before .before .before .before .before .before .before .pre) in
-    let begun = (c .before .before .before .before .before .before .before .before .before .before .before .before .before .before .before .before .before .before .before .before .before .before .before .before .before .before .before .before .before .begin-run) in
-    let served = (c .before .before .before .before .before .before .before .before .before .before .before .before .before .before .before .before .before .before .before .before .before .before .serve-line) in
-    let joined = (c .before .before .before .before .before .before .before .before .before .before .before .before .join-all .ensures) in
+    let p = (c .before .before .before .before .before .before .before .before .before .before .before .before .before .before .before .before .before .before .before .before .before .before .before .before .before .before .before .before .before .before .before .before .before .before .before .before .before .before .before .before .before .before .pre) in
+    let begun = (c .before .before .before .before .before .before .before .before .before .before .before .before .before .before .before .before .before .before .before .before .before .before .before .before .before .before .before .before .before .before .before .begin-run) in
+    let served = (c .before .before .before .before .before .before .before .before .before .before .before .before .before .before .before .before .before .before .before .before .before .before .before .before .serve-line) in
+    let joined = (c .before .before .before .before .before .before .before .before .before .before .before .before .before .join-all .ensures) in
     let linked = (c .before .before .before .before .link-all .ensures) in
     let fits = fits-same (begun .kept .1 .1 .1 .1 .0) (p .1 .0) in
     let good = good-waiting _ (served .ensures .0 .good) in (
-      ran (record { number = refl; before = refl }) (length-line _ _ fits) (begun .ensures) (served .ensures .0) (c .before .before .before .before .before .before .before .before .before .before .before .before .before .before .before .if1 .left) joined (c .before .before .before .before .before .before .before .if2 .left) linked,
+      ran (record { number = refl; before = refl }) (length-line _ _ fits) (begun .ensures) (served .ensures .0) (told-going (c .before .before .before .before .before .before .before .before .before .before .before .before .before .before .before .before .if1 .left)) joined (told-going (c .before .before .before .before .before .before .before .if2 .left)) linked,
       linked-flagged _ (joined .is _ .good good) linked (joined-flagged _ good joined (served .ensures .1)),
     )
 

@@ -2,12 +2,13 @@
 use mathlib.Core.Path.{sym, _∙_}
 use borrow.Author.Needs.{needs}
 use Rattle.cache.proofs.Laws.{part-name-held}
+use Rattle.encoder.proofs.Did.{told-full}
 use Rattle.opening.proofs.Tracking.{part-free, tracking-full, tracking-again, tracking-several, tracking-new}
 use Rattle.opening.proofs.name_for_tracking.Statement.{statement}
 use Rattle.opening.proofs.name_for_tracking.Tie as tie
 
 returns : tie.Need-returns
-returns c = tracking-full _ _ _ _ (c .if1 .taken)
+returns c = tracking-full _ _ _ _ (told-full (c .if1 .taken))
 
 contains-requires : tie.Need-contains-requires
 contains-requires c κs = search needs
@@ -16,7 +17,7 @@ same-length : tie.Need-same-length
 same-length c = search needs
 
 returns-2 : tie.Need-returns-2
-returns-2 c = tracking-again _ _ _ _ (c .before .before .before .before .before .before .before .before .pre .1 .1 .1) (c .before .contains .ensures) (c .if2 .taken)
+returns-2 c = tracking-again _ _ _ _ (c .before .before .before .before .before .before .before .before .before .pre .1 .1 .1) (c .before .contains .ensures) (c .if2 .taken)
 
 part-name-requires : tie.Need-part-name-requires
 part-name-requires c κs = search needs
@@ -29,18 +30,18 @@ same-length-2 c = search needs
 
 returns-3 : tie.Need-returns-3
 returns-3 c =
-    tracking-several _ _ _ _ (c .before .before .before .before .before .before .before .before .before .before .before .before .pre .1 .1 .1) (c .before .before .before .before .before .contains .ensures) (c .before .is-several .ensures)
+    tracking-several _ _ _ _ (c .before .before .before .before .before .before .before .before .before .before .before .before .before .pre .1 .1 .1) (c .before .before .before .before .before .contains .ensures) (c .before .is-several .ensures)
     (c .before .before .before .part-name .ensures ∙ sym (part-name-held _ _ _ _ _)) (c .if3 .taken)
 
 push-requires : tie.Need-push-requires
-push-requires c κs = search (needs, part-free)
+push-requires c κs = (c .before .before .before .before .before .before .before .before .before .before .before .before .before .before .pre .1 .0, part-free _ _ _ _ _ (c .before .before .before .before .before .before .before .before .before .before .before .before .before .before .pre .1 .0) (c .before .before .before .before .before .before .before .before .before .before .before .before .before .before .pre .1 .1 .1) (c .before .before .before .before .before .before .before .before .before .before .before .before .before .before .pre .1 .1 .2) (c .before .before .before .before .before .before .contains .ensures) (c .before .before .before .before .before .if2 .left))
 
 same-length-3 : tie.Need-same-length-3
 same-length-3 c = search needs
 
 returns-4 : tie.Need-returns-4
 returns-4 c =
-    tracking-new _ _ _ _ (c .before .before .before .before .before .before .before .before .before .before .before .before .before .before .before .before .pre .1 .1 .1) (c .before .before .before .before .before .before .before .before .before .contains .ensures) (c .before .before .before .before .before .is-several .ensures)
+    tracking-new _ _ _ _ (c .before .before .before .before .before .before .before .before .before .before .before .before .before .before .before .before .before .pre .1 .1 .1) (c .before .before .before .before .before .before .before .before .before .contains .ensures) (c .before .before .before .before .before .is-several .ensures)
     (c .before .before .before .before .before .before .before .part-name .ensures ∙ sym (part-name-held _ _ _ _ _)) (c .before .before .before .before .before .before .before .before .if2 .left) (c .before .before .before .before .if3 .left) (c .before .before .push .ensures)
 
 pub name-for-tracking-spec : {M : Type 1} → statement M

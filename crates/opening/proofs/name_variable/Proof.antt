@@ -1,12 +1,13 @@
 -- `opening::name_variable` gives an origin a variable that has none, or says that the limit is reached.
 use borrow.Author.Needs.{needs}
 use Rattle.variable_map.proofs.Laws.{named-made}
+use Rattle.encoder.proofs.Did.{told-full}
 use Rattle.opening.proofs.Variables.{variable-full, variable-named, variable-lacking}
 use Rattle.opening.proofs.name_variable.Statement.{statement}
 use Rattle.opening.proofs.name_variable.Tie as tie
 
 returns : tie.Need-returns
-returns c = variable-full _ _ _ (c .if1 .taken)
+returns c = variable-full _ _ _ (told-full (c .if1 .taken))
 
 name-requires : tie.Need-name-requires
 name-requires c κs = search needs

@@ -1,11 +1,12 @@
 -- `opening::queue` puts one task more behind the others, or says that there is no place.
 use borrow.Author.Needs.{needs}
+use Rattle.encoder.proofs.Did.{told-full}
 use Rattle.opening.proofs.Line.{queue-full, queue-more, queue-over}
 use Rattle.opening.proofs.queue.Statement.{statement}
 use Rattle.opening.proofs.queue.Tie as tie
 
 returns : tie.Need-returns
-returns c = queue-full _ (c .if1 .taken)
+returns c = queue-full _ (told-full (c .if1 .taken))
 
 add-if2 : tie.Need-add-if2
 add-if2 c = search needs
@@ -23,7 +24,7 @@ filled-requires : tie.Need-filled-requires
 filled-requires c κs = search needs
 
 returns-3 : tie.Need-returns-3
-returns-3 c = queue-over _ _ (c .before .before .before .before .before .before .pre) (c .before .if2 .left) (c .filled .ensures)
+returns-3 c = queue-over _ _ (c .before .before .before .before .before .before .before .pre) (c .before .if2 .left) (c .filled .ensures)
 
 pub queue-spec : {M : Type 1} → statement M
 queue-spec =

@@ -1,10 +1,11 @@
 use borrow.Author.Needs.{needs}
+use Rattle.encoder.proofs.Did.{told-full}
 use Rattle.storing.proofs.Added.{requires-full, requires-over}
 use Rattle.reporting.proofs.add_requires.Statement.{statement}
 use Rattle.reporting.proofs.add_requires.Tie as tie
 
 returns : tie.Need-returns
-returns c = search (needs, requires-full)
+returns c = search (needs, requires-full, told-full (c .if1 .taken))
 
 add-if2 : tie.Need-add-if2
 add-if2 c = search needs

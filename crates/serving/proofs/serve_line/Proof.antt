@@ -5,6 +5,7 @@ use native.Mathlib.Omega.{arith}
 use Rattle.cache.specs.Areas.{catalogue}
 use Rattle.state.specs.Layout.{held}
 use Rattle.encoder.specs.Held.{runOf}
+use Rattle.encoder.proofs.Did.{told-full, told-going}
 use Rattle.serving.specs.Flags.{Flagged}
 use Rattle.serving.proofs.Line.{Passed, passed-start, passed-given, passed-next, passed-stop, passed-end}
 use Rattle.serving.proofs.serve_line.Statement.{statement}
@@ -20,31 +21,31 @@ loop-holds : tie.Need-loop-holds Inv-loop μ-loop
 loop-holds c = let p = (c .before .before .before .before .before .before .pre) in (passed-start (p .1 .0) (p .1 .1 .0) (p .1 .1 .1 .0) (p .1 .1 .1 .1 .0 .0) (p .1 .1 .1 .1 .1 .0), p .1 .1 .1 .1 .1 .1)
 
 same-length : tie.Need-same-length Inv-loop μ-loop
-same-length c = (c .before .before .before .loop .inv .0 .same)
+same-length c = (c .before .before .before .before .loop .inv .0 .same)
 
 same-length-2 : tie.Need-same-length-2 Inv-loop μ-loop
-same-length-2 c = (c .before .before .before .loop .inv .0 .same-clauses)
+same-length-2 c = (c .before .before .before .before .loop .inv .0 .same-clauses)
 
 same-length-3 : tie.Need-same-length-3 Inv-loop μ-loop
-same-length-3 c = (c .before .before .before .loop .inv .0 .same-waiting)
+same-length-3 c = (c .before .before .before .before .loop .inv .0 .same-waiting)
 
 returns : tie.Need-returns Inv-loop μ-loop
-returns c = (passed-stop (c .before .before .before .loop .inv .0) (c .if2 .taken), c .before .before .before .loop .inv .1)
+returns c = (passed-stop (c .before .before .before .before .loop .inv .0) (told-full (c .if2 .taken)), c .before .before .before .before .loop .inv .1)
 
 serve-next-requires : tie.Need-serve-next-requires Inv-loop μ-loop
-serve-next-requires c κs = let p = (c .before .before .before .before .before .before .before .before .before .before .before .before .before .before .pre) in
-    let x = (c .before .before .before .before .before .before .before .loop .inv .0) in
-    let h = (c .before .before .before .before .before .if1 .taken) in
-    (p .0, (x .fits, (x .good, (x .long, (x .hand, (passed-given x (c .before .before .before .before .if2 .left) h, ((p .1 .1 .1 .1 .0 .1, x .begun .few, x .none, h), (c .before .before .before .before .before .before .before .loop .inv .1))))))))
+serve-next-requires c κs = let p = (c .before .before .before .before .before .before .before .before .before .before .before .before .before .before .before .pre) in
+    let x = (c .before .before .before .before .before .before .before .before .loop .inv .0) in
+    let h = (c .before .before .before .before .before .before .if1 .taken) in
+    (p .0, (x .fits, (x .good, (x .long, (x .hand, (passed-given x (told-going (c .before .before .before .before .if2 .left)) h, ((p .1 .1 .1 .1 .0 .1, x .begun .few, x .none, h), (c .before .before .before .before .before .before .before .before .loop .inv .1))))))))
 
 add-head : tie.Need-add-head Inv-loop μ-loop
-add-head c = omega (arith, (c .before .before .before .before .before .before .before .before .before .before .before .before .if1 .taken), (c .before .before .before .before .before .before .before .before .before .before .before .before .before .before .loop .inv .0 .good .state .room), (c .before .before .before .before .before .before .before .before .before .before .before .before .before .before .loop .inv .0 .fits .waiting))
+add-head c = omega (arith, (c .before .before .before .before .before .before .before .before .before .before .before .before .before .if1 .taken), (c .before .before .before .before .before .before .before .before .before .before .before .before .before .before .before .loop .inv .0 .good .state .room), (c .before .before .before .before .before .before .before .before .before .before .before .before .before .before .before .loop .inv .0 .fits .waiting))
 
 loop-less : tie.Need-loop-less Inv-loop μ-loop
-loop-less c = omega (arith, (c .before .before .before .before .before .before .before .before .before .before .before .before .if1 .taken), (c .before .before .before .before .before .before .before .before .before .before .before .before .before .before .loop .inv .0 .good .state .room))
+loop-less c = omega (arith, (c .before .before .before .before .before .before .before .before .before .before .before .before .before .if1 .taken), (c .before .before .before .before .before .before .before .before .before .before .before .before .before .before .before .loop .inv .0 .good .state .room))
 
 loop-again : tie.Need-loop-again Inv-loop μ-loop
-loop-again c = (passed-next (c .before .before .before .before .before .before .before .before .before .before .before .before .before .before .loop .inv .0) (c .before .before .before .before .before .before .before .before .before .before .before .if2 .left) (c .before .before .before .before .before .before .before .before .before .before .before .before .if1 .taken) (c .before .before .before .before .before .before .serve-next .ensures .0) (search needs) (search needs) (search needs), (c .before .before .before .before .before .before .serve-next .ensures .1))
+loop-again c = (passed-next (c .before .before .before .before .before .before .before .before .before .before .before .before .before .before .before .loop .inv .0) (told-going (c .before .before .before .before .before .before .before .before .before .before .before .if2 .left)) (c .before .before .before .before .before .before .before .before .before .before .before .before .before .if1 .taken) (c .before .before .before .before .before .before .serve-next .ensures .0) (search needs) (search needs) (search needs), (c .before .before .before .before .before .before .serve-next .ensures .1))
 
 same-length-4 : tie.Need-same-length-4 Inv-loop μ-loop
 same-length-4 c = (c .before .before .loop .inv .0 .same)

@@ -1,5 +1,6 @@
 -- `sheet::run` carries a run out, or refuses a level that is too low or a run that would end above a limit.
 use borrow.Author.Needs.{needs}
+use Rattle.encoder.proofs.Did.{told-full, told-going}
 use Rattle.sheet.proofs.Running.{run-low, run-full, run-done}
 use Rattle.sheet.proofs.Flags.{after-refused, after-carried}
 use Rattle.sheet.proofs.run.Statement.{statement}
@@ -27,7 +28,7 @@ same-length-4 : tie.Need-same-length-4
 same-length-4 c = search needs
 
 returns-2 : tie.Need-returns-2
-returns-2 c = (run-full _ (c .before .before .before .before .before .before .before .before .before .before .before .before .before .too-low .ensures) (c .before .before .before .before .before .before .before .before .before .before .before .before .if1 .left) (c .before .before .before .before .before .before .before .run-once .ensures .0) (c .if2 .taken), after-refused)
+returns-2 c = (run-full _ (c .before .before .before .before .before .before .before .before .before .before .before .before .before .before .too-low .ensures) (c .before .before .before .before .before .before .before .before .before .before .before .before .before .if1 .left) (c .before .before .before .before .before .before .before .before .run-once .ensures .0) (told-full (c .if2 .taken)), after-refused)
 
 same-length-5 : tie.Need-same-length-5
 same-length-5 c = search needs
@@ -39,7 +40,7 @@ same-length-7 : tie.Need-same-length-7
 same-length-7 c = search needs
 
 returns-3 : tie.Need-returns-3
-returns-3 c = (run-done _ (c .before .before .before .before .before .before .before .before .before .before .before .before .before .too-low .ensures) (c .before .before .before .before .before .before .before .before .before .before .before .before .if1 .left) (c .before .before .before .before .before .before .before .run-once .ensures .0) (c .if2 .left), after-carried (c .before .before .before .before .before .before .before .run-once .ensures .1))
+returns-3 c = (run-done _ (c .before .before .before .before .before .before .before .before .before .before .before .before .before .before .too-low .ensures) (c .before .before .before .before .before .before .before .before .before .before .before .before .before .if1 .left) (c .before .before .before .before .before .before .before .before .run-once .ensures .0) (told-going (c .if2 .left)), after-carried (c .before .before .before .before .before .before .before .before .run-once .ensures .1))
 
 pub run-spec : {M : Type 1} → statement M
 run-spec =

@@ -1,10 +1,11 @@
 use borrow.Author.Needs.{needs}
+use Rattle.encoder.proofs.Did.{told-full}
 use Rattle.storing.proofs.Storing.{store-full, store-more, store-over}
 use Rattle.storing.proofs.store.Statement.{statement}
 use Rattle.storing.proofs.store.Tie as tie
 
 returns : tie.Need-returns
-returns c = search (needs, store-full)
+returns c = search (needs, store-full, told-full (c .if1 .taken))
 
 append-requires : tie.Need-append-requires
 append-requires c κs = search needs

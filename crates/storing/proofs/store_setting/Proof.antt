@@ -1,4 +1,5 @@
 use borrow.Author.Needs.{needs}
+use Rattle.encoder.proofs.Did.{told-full, told-going}
 use Rattle.storing.proofs.Adding.{setting-full, setting-more, setting-can}
 use Rattle.storing.proofs.store_setting.Statement.{statement}
 use Rattle.storing.proofs.store_setting.Tie as tie
@@ -10,10 +11,10 @@ same-length : tie.Need-same-length
 same-length c = search needs
 
 returns : tie.Need-returns
-returns c = search (needs, setting-full)
+returns c = setting-full (c .before .before .before .before .store .ensures) (told-full (c .if1 .taken))
 
 force-requires : tie.Need-force-requires
-force-requires c κs = search (needs, setting-can)
+force-requires c κs = (c .before .before .before .before .before .before .before .before .before .pre .0, setting-can (c .before .before .before .before .before .before .before .before .before .pre .1 .0) (c .before .before .before .before .before .store .ensures) (told-going (c .before .if1 .left)) (c .before .before .before .before .before .before .before .before .before .pre .1 .1))
 
 same-length-2 : tie.Need-same-length-2
 same-length-2 c = search needs
@@ -22,7 +23,7 @@ same-length-3 : tie.Need-same-length-3
 same-length-3 c = search needs
 
 returns-2 : tie.Need-returns-2
-returns-2 c = search (needs, setting-more)
+returns-2 c = setting-more (c .before .before .before .before .before .before .before .before .store .ensures) (told-going (c .before .before .before .before .if1 .left)) (c .before .before .force .ensures)
 
 pub store-setting-spec : {M : Type 1} → statement M
 store-setting-spec =
