@@ -53,7 +53,7 @@ counters v k =
       first = 0;
       tail = 0;
       runs = 0;
-      full = false;
+      full = 0;
     }
 
 module _ (l : Limits) (size v : ℕ) {st : ℕ → List ℕ} (f : Fits l size) (g : Grown l v (start .variables) (held l (replicate size 0)) st) where
