@@ -336,7 +336,7 @@ fn find_non_matching(marks: &[u8], t: &[u8], k: Counts, r: usize) -> usize
     k.parts
 }
 
-// Those of all ranges.
+// Those of all ranges, kept in their rows.
 fn note_non_matching(marks: &[u8], t: &mut [u8], k: Counts)
     requires { ⌜ Laid k (length (now t)) × (65536 ≤ length (now marks)) ⌝ }
     requires { ⌜ Linked partsByName (k .parts) (k .names) 0 (words (now t)) ⌝ }
@@ -781,7 +781,7 @@ pub fn non_matching_count(marks: &[u8], unions: &[u8], t: &[u8], k: Counts, r: u
     count(marks, unions, t, k, r, Choice::NonMatching, first, 1024)
 }
 
-// Is there one?
+// Has range r a non-matching part? Its row tells.
 pub fn has_non_matching(marks: &[u8], unions: &[u8], t: &[u8], k: Counts, r: usize) -> bool
     requires { ⌜ Held k (length (now marks)) (length (now unions)) (length (now t)) × Chains k (now marks) (now t) × (r < k .ranges) ⌝ }
     ensures { λ b. ⌜ b ≡ ltb 0 (length (nonMatching (catalogue k (now (marks .entry)) (now (unions .entry)) (now (t .entry))) r)) ⌝ }
