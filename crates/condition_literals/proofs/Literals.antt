@@ -4,15 +4,14 @@ use mathlib.Core.Bool.{Bool, true, false, not, _&&_}
 use mathlib.Core.List.{List, [], _∷_, _++_, map-append, append-nil, append-assoc}
 use Prim.Native.Nat.{ℕ, suc, _+_, _-_, _*_, _<_, _≤_}
 use native.Mathlib.Numerals.{add-one}
-use native.Mathlib.Decide.{decLt}
 use native.Mathlib.Omega.{arith}
-use lib.Dec.{eqb}
+use lib.Dec.{eqb, ltb}
 use lib.ListN.{length, getD, take, length-map}
 use lib.Seq.{take-suc, take-all, getD-take}
-use borrow.Author.Tests.{lt-ltb}
+use borrow.Author.Tests.{ltb-true, ltb-false}
 use Rattle.rules.specs.Lists.{filter, listIf, concatMap, upTo}
 use Rattle.rules.specs.Literal.{Literal, pos}
-use Rattle.rules.specs.Catalogue.{Range, Catalogue, noRequirement, nameOf, rangeName}
+use Rattle.rules.specs.Catalogue.{Catalogue, noRequirement, nameOf, rangeName}
 use Rattle.rules.specs.Candidates.{member, partsOf, nonMatching}
 use Rattle.rules.specs.Conditions.{Disjunct, disjuncts, disjunctsOf, disjunctAt, unconditional}
 use Rattle.rules.specs.Items.{ceiling}
@@ -32,21 +31,22 @@ use Rattle.conditions.specs.declared.Disjunct as D
 use Rattle.conditions.specs.Sizes.{rangesOf, Carries}
 use Rattle.cache.specs.declared.Choice.the-variants.{NonMatching}
 use Rattle.cache.specs.Areas.{catalogue}
-use Rattle.cache.specs.Lists.{asked, chosen, Counted}
-use Rattle.cache.proofs.Laws.{parts-held, ranges-held, range-missing, range-name-held}
+use Rattle.cache.specs.Lists.{asked, chosen}
+use Rattle.cache.proofs.Laws.{parts-held, ranges-held, range-name-held}
 use Rattle.index.specs.Chains.{Skips}
 use Rattle.index.proofs.Walking.{walk}
 use Rattle.state.specs.declared.Limits.{Limits}
 use Rattle.state.specs.Layout.{held, Fits}
 use Rattle.variable_map.specs.declared.Origin as Origins
-use Rattle.variable_map.specs.Mapping.{originOf, inTables, variables, Mapped, AllKnown}
+use Rattle.variable_map.specs.Mapping.{originOf, variables, Mapped, AllKnown}
 use Rattle.variable_map.proofs.Laws as variables
 use Rattle.encoder.specs.declared.Counters.{Counters}
 use Rattle.encoder.specs.Held.{GoodState}
 use Rattle.encoder.specs.Did.{Looked}
 use Rattle.goals.specs.Goals.{Catalogued}
 use Rattle.goals.proofs.Parts.{both-here, both-past}
-use Rattle.firing.proofs.Required.{its-disjuncts}
+use Rattle.firing.proofs.Required.{condition-given, its-disjuncts}
+use Rattle.firing.proofs.Given.{range-given}
 use Rattle.condition_literals.specs.Literals.{Pushes, partLiterals, RangeKnown, DisjunctKnown}
 use Rattle.condition_literals.proofs.Pushing.{push-none, push-then, push-good, push-variables}
 use Rattle.condition_literals.proofs.Known.{range-in, range-one}
@@ -205,30 +205,15 @@ module _ (k : Counts) (m u t : List ℕ) (r : ℕ) {l : Limits} {n : Counters} {
 -- ---- a range
 
 module _ (k : Counts) (m u t : List ℕ) (r : ℕ) where
-  name-low : Catalogued k m u t → rangeName (catalogue k m u t) r < 64
-  unfolding ceiling
-  name-low w = elim (decLt r (k .ranges)) [
-    | yes h ↦
-        let given : r < length (catalogue k m u t .ranges) = rw ranges-held h in
-        omega (arith, w .formed .ranges r given .name, w .formed .ceilings .names)
-    | no h ↦
-        let e : rangeName (catalogue k m u t) r ≡ 0 = ap (λ (x : Range). x .name) (range-missing k m u t r (omega arith)) in
-        omega (arith, e)
-  ]
-
   module _ (x : ℕ) (o : Origins.Origin) (i : originOf o ≡ one x) (e : x ≡ getD (tables k t .ranges) r 0) where
     named : originOf o ≡ one (rangeName (catalogue k m u t) r)
     named = i ∙ ap one (e ∙ sym (range-name-held k m u t r))
 
-    pub one-in-tables : Catalogued k m u t → inTables (originOf o) ≡ true
-    unfolding inTables
-    one-in-tables w = rw named (lt-ltb (rangeName (catalogue k m u t) r) 64 (name-low w))
-
-    module _ {n : ℕ} (d : Counted n (nonMatching (catalogue k m u t) r)) (z : n ≡ 0) where
+    module _ (b : Bool) (d : b ≡ ltb 0 (length (nonMatching (catalogue k m u t) r))) (z : b ≡ false) where
       no-parts : nonMatching (catalogue k m u t) r ≡ []
-      no-parts = nothing (nonMatching (catalogue k m u t) r) (sym (d .is) ∙ z)
+      no-parts = nothing (nonMatching (catalogue k m u t) r) (ltb-false 0 (length (nonMatching (catalogue k m u t) r)) (sym d ∙ z))
         where
-          nothing : (ps : List ℕ) → length ps ≡ 0 → ps ≡ []
+          nothing : (ps : List ℕ) → length ps ≤ 0 → ps ≡ []
           nothing [] q = refl
           nothing (p ∷ ps) q = let no : ⊥ = omega arith in absurd no
 
@@ -241,13 +226,13 @@ module _ (k : Counts) (m u t : List ℕ) (r : ℕ) where
       unfolding rangeLiterals signed
       one-pushed vs y g h = rw (no-parts, ← named, ← g) h
 
-  pub parts-pushed : {n : ℕ} → Counted n (nonMatching (catalogue k m u t) r) → (n ≡ 0 → ⊥) → (vs : List Origin) {l : Limits} {c : Counters} {st st′ : ℕ → List ℕ} {a b : ℕ}
+  pub parts-pushed : (b : Bool) → b ≡ ltb 0 (length (nonMatching (catalogue k m u t) r)) → b ≡ true → (vs : List Origin) {l : Limits} {c : Counters} {st st′ : ℕ → List ℕ} {a b : ℕ}
       → Pushes l c st a (partLiterals vs (nonMatching (catalogue k m u t) r)) b st′
       → Pushes l c st a (rangeLiterals vs (rangeName (catalogue k m u t) r) (nonMatching (catalogue k m u t) r)) b st′
-  parts-pushed d z vs h = rw (same (nonMatching (catalogue k m u t) r) (λ e. z (d .is ∙ e))) h
+  parts-pushed b d z vs h = rw (same (nonMatching (catalogue k m u t) r) (ltb-true 0 (length (nonMatching (catalogue k m u t) r)) (sym d ∙ z))) h
     where
-      same : (ps : List ℕ) → (length ps ≡ 0 → ⊥) → rangeLiterals vs (rangeName (catalogue k m u t) r) ps ≡ partLiterals vs ps
-      same [] q = absurd (q refl)
+      same : (ps : List ℕ) → 0 < length ps → rangeLiterals vs (rangeName (catalogue k m u t) r) ps ≡ partLiterals vs ps
+      same [] q = let no : ⊥ = omega arith in absurd no
       same (p ∷ ps) q = unfold rangeLiterals partLiterals in refl
 
 -- ---- a disjunct
@@ -279,6 +264,7 @@ literals-more c vs (y ∷ ys) x =
 -- the loop at range j
 pub record Collecting (c : Catalogue) (d : D.Disjunct) (xs : Disjunct) (l : Limits) (n : Counters) (b₀ b : List ℕ) (m j : ℕ) : Type 0 where
   pub carries : Carries d xs
+  pub given : (i : ℕ) → i < d .len → getD (d .ranges) i 0 < length (c .ranges)
   pub parts : length (c .parts) ≤ 1024
   pub fits : Fits l (length b)
   pub same : length b ≡ length b₀
@@ -293,12 +279,13 @@ module _ (k : Counts) (m u t : List ℕ) (q i : ℕ) (it : ConditionalRequiremen
   disjunct-there g = rw (its-disjuncts k m u t q it e w h f) at g
 
   pub collect-start : {d : D.Disjunct} {l : Limits} {n : Counters} (b : List ℕ) → Carries d (getD (disjuncts (tables k t .conditions) (it .condition)) i [])
-      → Fits l (length b) → GoodState (catalogue k m u t) l n (held l b)
+      → i < length (disjunctsOf (catalogue k m u t) q) → Fits l (length b) → GoodState (catalogue k m u t) l n (held l b)
       → DisjunctKnown (catalogue k m u t) (variables (n .variables) (held l b)) (disjunctAt (catalogue k m u t) q i)
       → Collecting (catalogue k m u t) d (disjunctAt (catalogue k m u t) q i) l n b b 0 0
-  collect-start b c g s a =
+  collect-start b c o g s a =
       record {
         carries = unfold disjunctAt in rw (its-disjuncts k m u t q it e w h f) c;
+        given = λ j z. rw ranges-held (range-given k m u t (it .condition) i w (condition-given k m u t q it e w h f) (disjunct-there o) c j z);
         parts = unfold ceiling in (w .formed .ceilings .parts);
         fits = g;
         same = refl;
@@ -328,6 +315,7 @@ module _ {c : Catalogue} {d : D.Disjunct} {xs : Disjunct} {l : Limits} {n : Coun
       let q′ : Pushes l n (held l b) m (rangeLiterals vs (rangeName c r) (nonMatching c r)) m′ (held l b′) = rw (push-variables (x .pushed), ← at-range h) at q in
       record {
         carries = x .carries;
+        given = x .given;
         parts = x .parts;
         fits = rw s (x .fits);
         same = s ∙ x .same;
@@ -339,3 +327,7 @@ module _ {c : Catalogue} {d : D.Disjunct} {xs : Disjunct} {l : Limits} {n : Coun
 
   pub collect-end : d .len ≤ j → Pushes l n (held l b₀) 0 (disjunctLiterals c (variables (n .variables) (held l b₀)) xs) m (held l b)
   collect-end h = rw (take-all j xs (omega (arith, x .carries .len))) at (x .pushed)
+
+pub collect-given : (k : Counts) (m u t : List ℕ) {d : D.Disjunct} {xs : Disjunct} {l : Limits} {n : Counters} {b₀ b : List ℕ} {a j : ℕ}
+    → Collecting (catalogue k m u t) d xs l n b₀ b a j → j < d .len → getD (d .ranges) j 0 < k .ranges
+collect-given k m u t {j = j} x h = rw ranges-held at (x .given j h)

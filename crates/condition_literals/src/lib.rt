@@ -121,22 +121,22 @@ fn range_literals(
 ) -> usize
     requires { ⌜ Catalogued k (now marks) (now unions) (now t) ⌝ }
     requires { ⌜ Fits l (length (now s)) ⌝ }
+    requires { ⌜ (count < 32768) × (r < k .ranges) ⌝ }
     requires { ⌜ GoodState (catalogue k (now marks) (now unions) (now t)) l n (held l (now s)) ⌝ }
-    requires { ⌜ count < 32768 ⌝ }
     requires { ⌜ RangeKnown (catalogue k (now marks) (now unions) (now t)) (variables (n .variables) (held l (now s))) r ⌝ }
     ensures { λ m. ⌜ Pushes l n (held l (now (s .entry))) count (rangeLiterals (variables (n .variables) (held l (now (s .entry)))) (rangeName (catalogue k (now (marks .entry)) (now (unions .entry)) (now (t .entry))) r) (nonMatching (catalogue k (now (marks .entry)) (now (unions .entry)) (now (t .entry))) r)) m (held l (now (s .exit))) ⌝ }
 {
-    if index::non_matching_count(marks, unions, t, k, r) == 0 {
-        let literal = literal_of(
-            s,
-            l,
-            n,
-            variable_map::one(tables::range_name(t, k, r)),
-            false,
-        );
-        return push_literal(s, l, n, count, literal);
+    if index::has_non_matching(marks, unions, t, k, r) {
+        return part_literals(marks, unions, t, k, s, l, n, count, r);
     }
-    part_literals(marks, unions, t, k, s, l, n, count, r)
+    let literal = literal_of(
+        s,
+        l,
+        n,
+        variable_map::one(tables::range_name(t, k, r)),
+        false,
+    );
+    push_literal(s, l, n, count, literal)
 }
 
 pub fn disjunct_literals(

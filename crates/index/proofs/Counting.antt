@@ -6,19 +6,24 @@ use Prim.Native.Nat.{ℕ, suc, _+_, _-_, _<_, _≤_}
 use native.Mathlib.Nat.{min-eq-left, min-eq-right}
 use native.Mathlib.Numerals.{add-one}
 use native.Mathlib.Omega.{arith}
+use native.Mathlib.Decide.{decLt}
+use lib.Dec.{ltb}
 use lib.ListN.{length, length-append}
+use borrow.Author.Tests.{lt-ltb, le-ltb}
 use Rattle.rules.specs.Lists.{filter, listIf, upTo}
 use Rattle.rules.specs.Catalogue.{Catalogue}
 use Rattle.rules.specs.Candidates.{matching, nonMatching}
 use Rattle.rules.proofs.ListLaws.{length-filters, length-upTo}
 use Rattle.tables.specs.declared.Counts.{Counts}
+use Rattle.tables.specs.Tables.{tables}
 use Rattle.cache.specs.declared.Choice.{Choice}
 use Rattle.cache.specs.declared.Choice.the-variants.{Matching, NonMatching}
 use Rattle.cache.specs.Areas.{catalogue, Held}
 use Rattle.cache.specs.Lists.{chosen, choice, Counted, CountedTo}
 use Rattle.cache.proofs.Laws.{parts-held}
 use Rattle.cache.proofs.Lists.{matching-is, non-matching-is}
-use Rattle.index.specs.Chains.{Skips}
+use Rattle.index.specs.Chains.{FirstNonMatching, Skips}
+use Rattle.index.proofs.Selecting.{non-matching-is-chosen, skips-first}
 use Rattle.index.proofs.Walking.{walk}
 
 module _ {A : Type 0} (f : A → Bool) where
@@ -138,3 +143,22 @@ module _ (k : Counts) (m u t : List ℕ) (r : ℕ) where
       let e = x .is in
       let l = held-most k m u t r NonMatching h in
       rw (← non-matching-is (catalogue k m u t) r) (record { is = omega arith; most = omega arith })
+
+  -- there are some exactly where the first of them is a part
+  pub non-matching-some : {x : ℕ} → Held k (length m) (length u) (length t) → r < k .ranges → FirstNonMatching (k .parts) (tables k t) m r x
+      → ltb x (k .parts) ≡ ltb 0 (length (nonMatching (catalogue k m u t) r))
+  non-matching-some {x} h g f = rw (← non-matching-is (catalogue k m u t) r) (elim (decLt x (k .parts)) [ yes l ↦ some l | no l ↦ none (omega arith) ])
+    where
+      counted : Counting (catalogue k m u t) r NonMatching 1024 0 x
+      counted = count-first k m u t r NonMatching h (skips-first k m u t r NonMatching refl g f)
+
+      some : x < k .parts → ltb x (k .parts) ≡ ltb 0 (length (choice (catalogue k m u t) r NonMatching))
+      some l =
+          let one = count-one 0 x refl (non-matching-is-chosen k m u t r x g ∙ f .here l) in
+          let more = left-length k m u t r NonMatching x l in
+          lt-ltb x (k .parts) l ∙ sym (lt-ltb 0 (length (choice (catalogue k m u t) r NonMatching)) (let z = counted .is in omega arith))
+
+      none : k .parts ≤ x → ltb x (k .parts) ≡ ltb 0 (length (choice (catalogue k m u t) r NonMatching))
+      none l =
+          let nothing = ap length (left-end k m u t r NonMatching x l) in
+          le-ltb x (k .parts) l ∙ sym (le-ltb 0 (length (choice (catalogue k m u t) r NonMatching)) (let z = counted .is in omega arith))

@@ -15,9 +15,8 @@ use Rattle.rules.proofs.Bools.{by-cases, and-left, and-right}
 use Rattle.words.specs.Words.{words}
 use Rattle.tables.specs.declared.Counts.{Counts}
 use Rattle.tables.specs.Tables.{Tables, tablesIn, tables, Laid}
-use Rattle.index.specs.Chains.{partsByName, keyOf, Keyed, Key, Only, favouredBounds, isFavoured, Favoured, FavouredBounded, favouredOf, Chains, Favouring, Skips}
-use Rattle.index.specs.Members.{unionHeads}
-use Rattle.index.proofs.Chaining.{only-none, only-then, only-head, only-link, key-beside, keyed-beside}
+use Rattle.index.specs.Chains.{Chain, partsByName, keyOf, Keyed, Key, Only, favouredBounds, isFavoured, Favoured, FavouredBounded, favouredOf, Chains, Favouring, Skips}
+use Rattle.index.proofs.Chaining.{Beside, only-none, only-then, only-head, only-link, key-beside, keyed-beside}
 use Rattle.index.proofs.Places as places
 
 favoured-same : (k : Counts) (t u : List ℕ) (p : ℕ) → tables k u ≡ tables k t → isFavoured k u p ≡ isFavoured k t p
@@ -150,25 +149,20 @@ favoured-ready {i = i} h a = let e : i - 1 + 1 ≡ i = omega arith in rw e (a .f
 pub favoured-end : {k : Counts} {i j : ℕ} {s t u : List ℕ} → Favouring k j s t → Favouring k i t u → i ≤ 0 → Favouring k 0 s u
 favoured-end {i = i} a b h = let e : i ≡ 0 = omega arith in rw e at (favoured-then a b)
 
--- the names' bounds lie beside the heads of unions
-pub favoured-beside : {k : Counts} {t u : List ℕ} → Laid k (length t) → tables k u ≡ tables k t → Only unionHeads 0 (k .unions) (words t) (words u) → FavouredBounded k t → FavouredBounded k u
-favoured-beside {k} {t} {u} l same o (FavouredBounded.bounded g) =
+-- a store beside the names' bounds and beside the parts' keys keeps them
+pub favoured-beside : {k : Counts} {g : Chain} {n top : ℕ} {t u : List ℕ} → Beside partsByName (k .parts) (k .names) g n top → Beside favouredBounds (k .names) (k .names) g n top
+    → tables k u ≡ tables k t → Only g n top (words t) (words u) → FavouredBounded k t → FavouredBounded k u
+favoured-beside {k} {t = t} {u = u} b d same o (FavouredBounded.bounded g) =
     FavouredBounded.bounded (record {
-      above = λ x p h a c e r. rw (first x h) (g .above x p h a c (sym (keys p c) ∙ e) (before p r));
-      below = λ x p h a c e r. rw (end x h) (g .below x p h a c (sym (keys p c) ∙ e) (before p r));
+      above = λ x p h a c e r. rw (o .others _ (d .heads x h .0) (d .heads x h .1)) (g .above x p h a c (sym (keys p c) ∙ e) (before p r));
+      below = λ x p h a c e r. rw (o .others _ (d .links x h .0) (d .links x h .1)) (g .below x p h a c (sym (keys p c) ∙ e) (before p r));
     })
   where
     keys : (p : ℕ) → p < k .parts → keyOf partsByName (words u) p ≡ keyOf partsByName (words t) p
-    keys = key-beside (places.parts-beside-unions k t l) o
+    keys = key-beside b o
 
     before : (p : ℕ) → isFavoured k u p ≡ true → isFavoured k t p ≡ true
     before p r = sym (favoured-same k t u p same) ∙ r
-
-    first : (x : ℕ) → x < k .names → getD (words u) (6 * x + 4) 0 ≡ getD (words t) (6 * x + 4) 0
-    first x h = o .others _ (places.favoured-beside-unions k t l .heads x h .0) (places.favoured-beside-unions k t l .heads x h .1)
-
-    end : (x : ℕ) → x < k .names → getD (words u) (6 * x + 5) 0 ≡ getD (words t) (6 * x + 5) 0
-    end x h = o .others _ (places.favoured-beside-unions k t l .links x h .0) (places.favoured-beside-unions k t l .links x h .1)
 
 -- ---- walking
 

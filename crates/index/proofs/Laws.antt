@@ -13,9 +13,10 @@ use Rattle.words.specs.Words.{words}
 use Rattle.marks.specs.Marks.{NextMember, EndOfMembers}
 use Rattle.tables.specs.declared.Counts.{Counts}
 use Rattle.tables.specs.Tables.{tablesIn, tables, Laid}
-use Rattle.index.specs.Chains.{First, Chain, ownerRow, partsByName, requirementsByOwner, constraintsByOwner, keyOf, Linked, Key, Keyed, Only, rangeBounds, favouredBounds, FavouredBounded, Bounded, Chains, Keys, Linking, Heading, BoundSet, boundSet, Bounding, Favouring, Chained, Skips}
+use Rattle.index.specs.Chains.{First, Chain, ownerRow, partsByName, requirementsByOwner, constraintsByOwner, keyOf, Linked, Key, Keyed, Only, rangeBounds, FavouredBounded, Bounded, Chains, Keys, Linking, Heading, BoundSet, boundSet, Bounding, Favouring, NonMatchingNoted, Noting, Chained}
 use Rattle.index.proofs.Chaining.{Apart, Beside, only-none, only-then, only-head, only-link, linked-only, linked-more, linked-none, keyed-kept, keyed-beside, linked-beside}
 use Rattle.index.proofs.Places as places
+use Rattle.index.proofs.Favoured.{favoured-beside}
 
 -- ---- owners' rows
 
@@ -167,8 +168,8 @@ constraints-more-linked a b = record { same = b .same ∙ a .same; only = only-t
 
 -- ---- all
 
-bounded-beside : {k : Counts} {m : List ℕ} {w w′ : List ℕ} → Beside rangeBounds (k .ranges) (k .ranges) favouredBounds (k .names) (k .names)
-    → Only favouredBounds (k .names) (k .names) w w′ → Bounded k m (k .ranges) w → Bounded k m (k .ranges) w′
+pub bounded-beside : {k : Counts} {m : List ℕ} {g : Chain} {n top : ℕ} {w w′ : List ℕ} → Beside rangeBounds (k .ranges) (k .ranges) g n top
+    → Only g n top w w′ → Bounded k m (k .ranges) w → Bounded k m (k .ranges) w′
 bounded-beside b o g =
     record {
       firsts = λ r h. rw (o .others _ (b .heads r h .0) (b .heads r h .1)) (g .firsts r h);
@@ -176,22 +177,29 @@ bounded-beside b o g =
     }
 
 -- what each stage leaves of the others
-pub all-built : {k : Counts} {m t u v w x y : List ℕ} → Laid k (length t) → Linking partsByName k (k .parts) (k .names) 0 t u
-    → Linking requirementsByOwner k (k .requirements) (k .parts + 1) 0 u v → Linking constraintsByOwner k (k .constraints) (k .parts + 1) 0 v w
-    → Bounding k m (k .ranges) w x → Favouring k 0 x y → Chained k m t y
-all-built {k} {m} {t} l a b c d f =
-    record {
-      same = f .same ∙ (d .same ∙ (c .same ∙ (b .same ∙ a .same)));
-      chains = record {
-        parts = linked-beside (places.parts-beside-favoured k t l) (f .only) (linked-beside (places.parts-beside-ranges k t l) (d .only)
-            (linked-beside (places.parts-beside-constraints k t l) (c .only) (linked-beside (places.parts-beside-requirements k t l) (b .only) (a .linked))));
-        requirements = linked-beside (places.requirements-beside-favoured k t l) (f .only)
-            (linked-beside (places.requirements-beside-ranges k t l) (d .only) (linked-beside (places.requirements-beside-constraints k t l) (c .only) (b .linked)));
-        constraints = linked-beside (places.constraints-beside-favoured k t l) (f .only) (linked-beside (places.constraints-beside-ranges k t l) (d .only) (c .linked));
-        ranges = bounded-beside (places.ranges-beside-favoured k t l) (f .only) (d .bounded);
-        favoured = FavouredBounded.bounded (f .favoured);
-      };
-    }
+module _ {k : Counts} {m t u v w x y : List ℕ} (l : Laid k (length t)) (a : Linking partsByName k (k .parts) (k .names) 0 t u)
+    (b : Linking requirementsByOwner k (k .requirements) (k .parts + 1) 0 u v) (c : Linking constraintsByOwner k (k .constraints) (k .parts + 1) 0 v w)
+    (d : Bounding k m (k .ranges) w x) (f : Favouring k 0 x y) where
+  pub parts-linked-last : Linked partsByName (k .parts) (k .names) 0 (words y)
+  parts-linked-last =
+      linked-beside (places.parts-beside-favoured k t l) (f .only) (linked-beside (places.parts-beside-ranges k t l) (d .only)
+      (linked-beside (places.parts-beside-constraints k t l) (c .only) (linked-beside (places.parts-beside-requirements k t l) (b .only) (a .linked))))
+
+  pub all-built : {z : List ℕ} → Noting k m (k .ranges) y z → Chained k m t z
+  all-built g =
+      record {
+        same = g .same ∙ (f .same ∙ (d .same ∙ (c .same ∙ (b .same ∙ a .same))));
+        chains = record {
+          parts = linked-beside (places.parts-beside-non-matching k t l) (g .only) parts-linked-last;
+          requirements = linked-beside (places.requirements-beside-non-matching k t l) (g .only) (linked-beside (places.requirements-beside-favoured k t l) (f .only)
+              (linked-beside (places.requirements-beside-ranges k t l) (d .only) (linked-beside (places.requirements-beside-constraints k t l) (c .only) (b .linked))));
+          constraints = linked-beside (places.constraints-beside-non-matching k t l) (g .only)
+              (linked-beside (places.constraints-beside-favoured k t l) (f .only) (linked-beside (places.constraints-beside-ranges k t l) (d .only) (c .linked)));
+          ranges = bounded-beside (places.ranges-beside-non-matching k t l) (g .only) (bounded-beside (places.ranges-beside-favoured k t l) (f .only) (d .bounded));
+          favoured = favoured-beside (places.parts-beside-non-matching k t l) (places.favoured-beside-non-matching k t l) (g .same) (g .only) (FavouredBounded.bounded (f .favoured));
+          non-matching = NonMatchingNoted.noted (g .noted);
+        };
+      }
 
 -- the parts' keys are where they were
 pub parts-keyed-last : {k : Counts} {m t u v w x : List ℕ} → Laid k (length t) → Keys k t → Linking partsByName k (k .parts) (k .names) 0 t u
@@ -217,15 +225,15 @@ pub parts-key : (k : Counts) (t : List ℕ) (y i : ℕ) → Keyed partsByName (k
 unfolding keyOf
 parts-key k t y i d h e = record { is = e; low = rw e (d .low i h) }
 
-pub parts-first : {k : Counts} {m t : List ℕ} (x r : ℕ) → Chains k m t → x < k .names → r ≡ getD (words t) (6 * x + 3) 0
+pub parts-first : (k : Counts) (t : List ℕ) (x r : ℕ) → Linked partsByName (k .parts) (k .names) 0 (words t) → x < k .names → r ≡ getD (words t) (6 * x + 3) 0
     → First (k .parts) (keyOf partsByName (words t)) x 0 r
-parts-first x r d h e = rw e (d .parts .heads x h)
+parts-first k t x r d h e = rw e (d .heads x h)
 
-pub parts-next : {k : Counts} {m t : List ℕ} (x y i r : ℕ) → Chains k m t → i < k .parts → y ≡ getD (words t) (384 + 5 * i) 0 → y ≡ x → r ≡ getD (words t) (384 + 5 * i + 4) 0
+pub parts-next : (k : Counts) (t : List ℕ) (x y i r : ℕ) → Linked partsByName (k .parts) (k .names) 0 (words t) → i < k .parts → y ≡ getD (words t) (384 + 5 * i) 0 → y ≡ x → r ≡ getD (words t) (384 + 5 * i + 4) 0
     → First (k .parts) (keyOf partsByName (words t)) x (i + 1) r
-parts-next {k} {m} {t} x y i r d h e f g =
+parts-next k t x y i r d h e f g =
     let q : keyOf partsByName (words t) i ≡ x = unfold keyOf in sym e ∙ f in
-    rw g (rw q at (d .parts .links i (omega arith) h))
+    rw g (rw q at (d .links i (omega arith) h))
 
 pub requirements-key : (k : Counts) (t : List ℕ) (v y i : ℕ) → Keyed requirementsByOwner (k .requirements) (k .parts + 1) (words t) → i < k .requirements → v ≡ getD (words t) (13572 + 6 * i) 0 → y ≡ ownerRow v
     → Key requirementsByOwner (k .parts + 1) (words t) i y

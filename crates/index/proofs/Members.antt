@@ -20,6 +20,8 @@ use Rattle.index.specs.Indexed.{Indexed}
 use Rattle.index.proofs.Chaining.{only-none, only-then, only-head, linked-beside}
 use Rattle.index.proofs.Places as places
 use Rattle.index.proofs.Favoured.{favoured-beside}
+use Rattle.index.proofs.NonMatching.{noted-beside}
+use Rattle.index.proofs.Laws.{bounded-beside}
 use Rattle.index.proofs.Times.{times-append, times-snoc}
 
 -- ---- from a row to another
@@ -122,15 +124,10 @@ chains-beside {k} {m} {t} {u} l h c =
       parts = linked-beside (places.parts-beside-unions k t l) o (c .parts);
       requirements = linked-beside (places.requirements-beside-unions k t l) o (c .requirements);
       constraints = linked-beside (places.constraints-beside-unions k t l) o (c .constraints);
-      ranges = record { firsts = λ r q. rw (first r q) (c .ranges .firsts r q); ends = λ r q. rw (end r q) (c .ranges .ends r q) };
-      favoured = favoured-beside l (h .same) o (c .favoured);
+      ranges = bounded-beside (places.ranges-beside-unions k t l) o (c .ranges);
+      favoured = favoured-beside (places.parts-beside-unions k t l) (places.favoured-beside-unions k t l) (h .same) o (c .favoured);
+      non-matching = noted-beside (places.non-matching-beside-unions k t l) (h .same) o (c .non-matching);
     }
-  where
-    first : (r : ℕ) → r < k .ranges → getD (words u) (9604 + 4 * r + 2) 0 ≡ getD (words t) (9604 + 4 * r + 2) 0
-    first r q = h .only .others _ (λ x a e. (let y = l .ranges in omega arith)) (λ i a e. omega arith)
-
-    end : (r : ℕ) → r < k .ranges → getD (words u) (9604 + 4 * r + 3) 0 ≡ getD (words t) (9604 + 4 * r + 3) 0
-    end r q = h .only .others _ (λ x a e. (let y = l .ranges in omega arith)) (λ i a e. omega arith)
 
 -- ---- one row more
 

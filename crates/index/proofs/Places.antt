@@ -10,7 +10,7 @@ use Rattle.tables.specs.Tables.{tablesIn, Laid}
 use Rattle.tables.proofs.Rows.{Free}
 use Rattle.tables.proofs.Stores.{first}
 use Rattle.tables.proofs.Rows.{free-kept}
-use Rattle.index.specs.Chains.{partsByName, requirementsByOwner, constraintsByOwner, keyOf, Only, rangeBounds, favouredBounds}
+use Rattle.index.specs.Chains.{partsByName, requirementsByOwner, constraintsByOwner, keyOf, Only, rangeBounds, favouredBounds, nonMatchingHeads}
 use Rattle.index.specs.Members.{unionHeads}
 use Rattle.index.proofs.Chaining.{Apart, Beside, key-beside}
 
@@ -158,6 +158,12 @@ module _ (k : Counts) (t : List ℕ) (l : Laid k (length t)) where
       let p = l .parts in
       let n = l .names in
       free (6 * x + 5) (record { names = λ a b c d e g. omega arith; parts = λ a b c d e g. omega arith; ranges = λ a b c d e g. omega arith; conditions = λ a b c d e g. omega arith; requirements = λ a b c d e g. omega arith; constraints = λ a b c d e g. omega arith }) w v
+
+  pub non-matching-free : (x v : ℕ) (w : List ℕ) → x < k .ranges → tablesIn k (set w (9604 + 4 * x + 1) v) ≡ tablesIn k w
+  non-matching-free x v w h =
+      let p = l .parts in
+      let n = l .ranges in
+      free (9604 + 4 * x + 1) (record { names = λ a b c d e g. omega arith; parts = λ a b c d e g. omega arith; ranges = λ a b c d e g. omega arith; conditions = λ a b c d e g. omega arith; requirements = λ a b c d e g. omega arith; constraints = λ a b c d e g. omega arith }) w v
 
   pub unions-head-free : (x v : ℕ) (w : List ℕ) → x < k .unions → tablesIn k (set w (11652 + 3 * x) v) ≡ tablesIn k w
   unions-head-free x v w h =
@@ -319,6 +325,84 @@ module _ (k : Counts) (t : List ℕ) (l : Laid k (length t)) where
   ranges-beside-favoured =
       let n = l .names in
       let r = l .ranges in
+      record {
+        heads = λ x h. ((λ y g e. omega arith), (λ j g e. omega arith));
+        links = λ i h. ((λ y g e. omega arith), (λ j g e. omega arith));
+        keys = λ i h. ((λ y g e. omega arith), (λ j g e. omega arith));
+      }
+
+  pub parts-beside-non-matching : Beside partsByName (k .parts) (k .names) nonMatchingHeads 0 (k .ranges)
+  parts-beside-non-matching =
+      let p = l .parts in
+      let n = l .names in
+      let q = l .requirements in
+      let c = l .constraints in
+      let r = l .ranges in
+      record {
+        heads = λ x h. ((λ y g e. omega arith), (λ j g e. omega arith));
+        links = λ i h. ((λ y g e. omega arith), (λ j g e. omega arith));
+        keys = λ i h. ((λ y g e. omega arith), (λ j g e. omega arith));
+      }
+
+  pub requirements-beside-non-matching : Beside requirementsByOwner (k .requirements) (k .parts + 1) nonMatchingHeads 0 (k .ranges)
+  requirements-beside-non-matching =
+      let p = l .parts in
+      let n = l .names in
+      let q = l .requirements in
+      let c = l .constraints in
+      let r = l .ranges in
+      record {
+        heads = λ x h. ((λ y g e. omega arith), (λ j g e. omega arith));
+        links = λ i h. ((λ y g e. omega arith), (λ j g e. omega arith));
+        keys = λ i h. ((λ y g e. omega arith), (λ j g e. omega arith));
+      }
+
+  pub constraints-beside-non-matching : Beside constraintsByOwner (k .constraints) (k .parts + 1) nonMatchingHeads 0 (k .ranges)
+  constraints-beside-non-matching =
+      let p = l .parts in
+      let n = l .names in
+      let q = l .requirements in
+      let c = l .constraints in
+      let r = l .ranges in
+      record {
+        heads = λ x h. ((λ y g e. omega arith), (λ j g e. omega arith));
+        links = λ i h. ((λ y g e. omega arith), (λ j g e. omega arith));
+        keys = λ i h. ((λ y g e. omega arith), (λ j g e. omega arith));
+      }
+
+  pub ranges-beside-non-matching : Beside rangeBounds (k .ranges) (k .ranges) nonMatchingHeads 0 (k .ranges)
+  ranges-beside-non-matching =
+      let r = l .ranges in
+      record {
+        heads = λ x h. ((λ y g e. omega arith), (λ j g e. omega arith));
+        links = λ i h. ((λ y g e. omega arith), (λ j g e. omega arith));
+        keys = λ i h. ((λ y g e. omega arith), (λ j g e. omega arith));
+      }
+
+  pub favoured-beside-non-matching : Beside favouredBounds (k .names) (k .names) nonMatchingHeads 0 (k .ranges)
+  favoured-beside-non-matching =
+      let n = l .names in
+      let r = l .ranges in
+      record {
+        heads = λ x h. ((λ y g e. omega arith), (λ j g e. omega arith));
+        links = λ i h. ((λ y g e. omega arith), (λ j g e. omega arith));
+        keys = λ i h. ((λ y g e. omega arith), (λ j g e. omega arith));
+      }
+
+  pub non-matching-beside-unions : Beside nonMatchingHeads 0 (k .ranges) unionHeads 0 (k .unions)
+  non-matching-beside-unions =
+      let r = l .ranges in
+      let u = l .unions in
+      record {
+        heads = λ x h. ((λ y g e. omega arith), (λ j g e. omega arith));
+        links = λ i h. ((λ y g e. omega arith), (λ j g e. omega arith));
+        keys = λ i h. ((λ y g e. omega arith), (λ j g e. omega arith));
+      }
+
+  pub ranges-beside-unions : Beside rangeBounds (k .ranges) (k .ranges) unionHeads 0 (k .unions)
+  ranges-beside-unions =
+      let r = l .ranges in
+      let u = l .unions in
       record {
         heads = λ x h. ((λ y g e. omega arith), (λ j g e. omega arith));
         links = λ i h. ((λ y g e. omega arith), (λ j g e. omega arith));

@@ -20,7 +20,7 @@ use Rattle.cache.specs.Lists.{asked, chosen}
 use Rattle.cache.specs.declared.Choice.{Choice}
 use Rattle.cache.specs.declared.Choice.the-variants.{Matching, NonMatching, Favoured, Others}
 use Rattle.cache.proofs.Laws.{part-held, part-name-held, range-name-held, members-held}
-use Rattle.index.specs.Chains.{First, partsByName, keyOf, isFavoured, favouredOf, Skips}
+use Rattle.index.specs.Chains.{First, partsByName, keyOf, isFavoured, favouredOf, isNonMatching, FirstNonMatching, Skips}
 
 -- nothing lies between
 pub skips-none : (n : ℕ) (selected : ℕ → Bool) (from : ℕ) → from ≤ n → Skips n selected from from
@@ -132,6 +132,16 @@ module _ (k : Counts) (m u t : List ℕ) where
     skips-rest {name} w e q f =
         let is : name ≡ rangeName (catalogue k m u t) r = q ∙ sym (range-name-held k m u t r) in
         rw is at (skips-name (λ i. asked w (member (catalogue k m u t) r i) ((partAt (catalogue k m u t) i) .favoured)) f)
+
+    pub non-matching-is-chosen : (i : ℕ) → r < k .ranges → chosen (catalogue k m u t) r NonMatching i ≡ isNonMatching (tables k t) m r i
+    unfolding chosen asked isNonMatching
+    non-matching-is-chosen i h = rw (part-name-held k m u t i, range-name-held k m u t r, members-held k m u t r h)
+
+    -- the first non-matching part, as the index keeps it
+    pub skips-first : {x : ℕ} (w : Choice) → w ≡ NonMatching → r < k .ranges → FirstNonMatching (k .parts) (tables k t) m r x
+        → Skips (k .parts) (chosen (catalogue k m u t) r w) 0 x
+    skips-first w e h f =
+        record { onward = f .skips .onward; inside = f .skips .inside; none = λ i a b. rw e (non-matching-is-chosen i h ∙ f .skips .none i a b) }
 
 -- ---- from a part on
 

@@ -1,21 +1,27 @@
 -- Chains through the rows of the catalogue's tables: for each key the first row that has it, and for each row the next one with the same key.
 use mathlib.Core.Path.{_≡_}
-use mathlib.Core.Bool.{Bool, true, false, cond, _&&_}
+use mathlib.Core.Bool.{Bool, true, false, not, cond, _&&_}
 use mathlib.Core.List.{List}
 use Prim.Native.Nat.{ℕ, _+_, _*_, _<_, _≤_}
 use lib.Dec.{eqb}
 use lib.ListN.{getD, set}
 use Rattle.rules.specs.Catalogue.{Owner, root, part, noPart}
 use Rattle.words.specs.Words.{words}
-use Rattle.marks.specs.Marks.{NextMember, EndOfMembers}
+use Rattle.marks.specs.Marks.{isMarked, NextMember, EndOfMembers}
 use Rattle.tables.specs.declared.Counts.{Counts}
-use Rattle.tables.specs.Tables.{tables}
+use Rattle.tables.specs.Tables.{Tables, tables}
 
 -- r is the first number from `from` on whose key is x, of those below n; or n
 pub record First (n : ℕ) (key : ℕ → ℕ) (x from r : ℕ) : Type 0 where
   pub onward : from ≤ r
   pub inside : r ≤ n
   pub none : (i : ℕ) → from ≤ i → i < r → key i ≡ x → ⊥
+
+-- from `from` on nothing is selected before r; r is at most n
+pub record Skips (n : ℕ) (selected : ℕ → Bool) (from r : ℕ) : Type 0 where
+  pub onward : from ≤ r
+  pub inside : r ≤ n
+  pub none : (i : ℕ) → from ≤ i → i < r → selected i ≡ false
 
 -- where the key of a row stands, the first row of a key, and the row behind a row; `row` makes a key of the number that stands there
 pub record Chain : Type 0 where
@@ -88,13 +94,36 @@ pub record Favoured (k : Counts) (from : ℕ) (t : List ℕ) : Type 0 where
 pub data FavouredBounded (k : Counts) (t : List ℕ) : Type 0 where
   bounded : Favoured k 0 t → FavouredBounded k t
 
--- the chains by name and by owner lead through all rows, and the members of every range and the favoured parts of every name are bounded
+-- part p is one of the name of range r, and no member
+unfoldable pub isNonMatching : Tables → (marks : List ℕ) → ℕ → ℕ → Bool
+isNonMatching t m r p = eqb ((getD (t .parts) p noPart) .name) (getD (t .ranges) r 0) && not (isMarked m r p)
+
+-- x is the first of them, of n parts; or n
+pub record FirstNonMatching (n : ℕ) (t : Tables) (m : List ℕ) (r x : ℕ) : Type 0 where
+  pub skips : Skips n (isNonMatching t m r) 0 x
+  pub here : x < n → isNonMatching t m r x ≡ true
+
+-- its place in the range's row: a head without links
+abbrev pub nonMatchingHeads : Chain
+nonMatchingHeads = record { keyAt = λ r. 9604 + 4 * r; headAt = λ r. 9604 + 4 * r + 1; linkAt = λ r. 9604 + 4 * r + 1; row = λ x. x }
+
+-- it stands there for the ranges below x
+pub record Noted (k : Counts) (m : List ℕ) (x : ℕ) (t : List ℕ) : Type 0 where
+  pub firsts : (r : ℕ) → r < x → FirstNonMatching (k .parts) (tables k t) m r (getD (words t) (9604 + 4 * r + 1) 0)
+
+-- for all of them: closed too
+pub data NonMatchingNoted (k : Counts) (m t : List ℕ) : Type 0 where
+  noted : Noted k m (k .ranges) t → NonMatchingNoted k m t
+
+-- the chains by name and by owner lead through all rows, the members of every range and the favoured parts of every name are bounded,
+-- and the first non-matching part of every range is known
 pub record Chains (k : Counts) (m t : List ℕ) : Type 0 where
   pub parts : Linked partsByName (k .parts) (k .names) 0 (words t)
   pub requirements : Linked requirementsByOwner (k .requirements) (k .parts + 1) 0 (words t)
   pub constraints : Linked constraintsByOwner (k .constraints) (k .parts + 1) 0 (words t)
   pub ranges : Bounded k m (k .ranges) (words t)
   pub favoured : FavouredBounded k t
+  pub non-matching : NonMatchingNoted k m t
 
 -- names of parts and owners are given
 pub record Keys (k : Counts) (t : List ℕ) : Type 0 where
@@ -131,18 +160,18 @@ pub record Favouring (k : Counts) (from : ℕ) (t t′ : List ℕ) : Type 0 wher
   pub only : Only favouredBounds (k .names) (k .names) (words t) (words t′)
   pub favoured : Favoured k from t′
 
+-- the same of the first non-matching parts of the ranges below x
+pub record Noting (k : Counts) (m : List ℕ) (x : ℕ) (t t′ : List ℕ) : Type 0 where
+  pub same : tables k t′ ≡ tables k t
+  pub only : Only nonMatchingHeads 0 (k .ranges) (words t) (words t′)
+  pub noted : Noted k m x t′
+
 -- the tables with their chains
 pub record Chained (k : Counts) (m t t′ : List ℕ) : Type 0 where
   pub same : tables k t′ ≡ tables k t
   pub chains : Chains k m t′
 
 -- ---- a walk along a selection
-
--- from `from` on nothing is selected before r; r is at most n
-pub record Skips (n : ℕ) (selected : ℕ → Bool) (from r : ℕ) : Type 0 where
-  pub onward : from ≤ r
-  pub inside : r ≤ n
-  pub none : (i : ℕ) → from ≤ i → i < r → selected i ≡ false
 
 -- part p is a favoured one of this name
 unfoldable pub favouredOf : Counts → (t : List ℕ) (name : ℕ) → ℕ → Bool

@@ -1,10 +1,12 @@
 // Chains through the catalogue's areas, made once when the catalogue is read: the parts of a name, the requirements and the constraints of an owner,
 // the members of a union. A walk along a chain meets the rows of one key, in file order, and no others; idle rows of a union it passes over.
+// Beside them: bounds of a range's members and of a name's favoured parts, and a range's first non-matching part.
 use cache::Choice;
 use tables::Counts;
 ghost use mathlib.Core.Path.{_≡_};
 ghost use mathlib.Core.List.{[], _∷_};
 ghost use Prim.Native.Nat.{_+_, _*_, _<_, _≤_};
+ghost use lib.Dec.{ltb};
 ghost use lib.ListN.{length, getD, set};
 ghost use Rattle.rules.specs.Lists.{listIf};
 ghost use Rattle.rules.specs.Candidates.{matching, nonMatching};
@@ -15,7 +17,7 @@ ghost use Rattle.marks.specs.Marks.{NextMember, EndOfMembers};
 ghost use Rattle.cache.specs.Areas.{catalogue, Held};
 ghost use Rattle.cache.specs.Lists.{chosen, choice, Counted, CountedTo};
 ghost use Rattle.cache.specs.declared.Choice.the-variants.{Matching};
-ghost use Rattle.tables.specs.Tables.{Laid};
+ghost use Rattle.tables.specs.Tables.{tables, Laid};
 ghost use Rattle.index.specs.Chains.{
   First,
   ownerRow,
@@ -34,6 +36,9 @@ ghost use Rattle.index.specs.Chains.{
   Favoured,
   Favouring,
   favouredOf,
+  isNonMatching,
+  FirstNonMatching,
+  Noting,
   Chains,
   Chained,
   Skips,
@@ -280,6 +285,71 @@ fn bound_parts(t: &mut [u8], k: Counts)
     }
 }
 
+// The first part of a name, the parts being linked; or how many parts there are.
+fn first_linked(t: &[u8], k: Counts, name: u16) -> usize
+    requires { ⌜ Laid k (length (now t)) × Linked partsByName (k .parts) (k .names) 0 (words (now t)) ⌝ }
+    ensures { λ r. ⌜ First (k .parts) (keyOf partsByName (words (now (t .entry)))) name 0 r ⌝ }
+{
+    if (name as usize) < k.names {
+        words::get(t, 6 * name as usize + 3) as usize
+    } else {
+        0
+    }
+}
+
+// The next one behind part i, which need not be of the name.
+fn next_linked(t: &[u8], k: Counts, name: u16, i: usize) -> usize
+    requires { ⌜ Laid k (length (now t)) × Linked partsByName (k .parts) (k .names) 0 (words (now t)) × (i < k .parts) ⌝ }
+    ensures { λ r. ⌜ First (k .parts) (keyOf partsByName (words (now (t .entry)))) name (i + 1) r ⌝ }
+{
+    if words::get(t, 384 + 5 * i) == name {
+        words::get(t, 384 + 5 * i + 4) as usize
+    } else {
+        i + 1
+    }
+}
+
+// Is part p one of the name of range r, and no member?
+fn is_non_matching(marks: &[u8], t: &[u8], k: Counts, r: usize, p: usize) -> bool
+    requires { ⌜ Laid k (length (now t)) × (65536 ≤ length (now marks)) × (r < k .ranges) ⌝ }
+    ensures { λ b. ⌜ b ≡ isNonMatching (tables k (now (t .entry))) (now (marks .entry)) r p ⌝ }
+{
+    if tables::part_name(t, k, p) != tables::range_name(t, k, r) {
+        return false;
+    }
+    !marks::marked(marks, r, p)
+}
+
+// The first non-matching part of range r, or how many parts there are: along the parts of its name while they are members.
+fn find_non_matching(marks: &[u8], t: &[u8], k: Counts, r: usize) -> usize
+    requires { ⌜ Laid k (length (now t)) × Linked partsByName (k .parts) (k .names) 0 (words (now t)) × (65536 ≤ length (now marks)) × (r < k .ranges) ⌝ }
+    ensures { λ x. ⌜ FirstNonMatching (k .parts) (tables k (now (t .entry))) (now (marks .entry)) r x ⌝ }
+{
+    let name = tables::range_name(t, k, r);
+    let mut p = first_linked(t, k, name);
+    while p < k.parts {
+        if is_non_matching(marks, t, k, r, p) {
+            return p;
+        }
+        p = next_linked(t, k, name, p);
+    }
+    k.parts
+}
+
+// Those of all ranges, kept in their rows.
+fn note_non_matching(marks: &[u8], t: &mut [u8], k: Counts)
+    requires { ⌜ Laid k (length (now t)) × (65536 ≤ length (now marks)) ⌝ }
+    requires { ⌜ Linked partsByName (k .parts) (k .names) 0 (words (now t)) ⌝ }
+    ensures { λ _. ⌜ Noting k (now (marks .entry)) (k .ranges) (now (t .entry)) (now (t .exit)) ⌝ }
+{
+    let mut r = 0;
+    while r < k.ranges {
+        let first = find_non_matching(marks, t, k, r);
+        words::put(t, 9604 + 4 * r + 1, first as u16);
+        r += 1;
+    }
+}
+
 // The chains through the tables.
 fn chain_tables(marks: &[u8], t: &mut [u8], k: Counts)
     requires { ⌜ Laid k (length (now t)) × (65536 ≤ length (now marks)) ⌝ }
@@ -291,6 +361,7 @@ fn chain_tables(marks: &[u8], t: &mut [u8], k: Counts)
     link_constraints(t, k);
     bound_ranges(marks, t, k);
     bound_parts(t, k);
+    note_non_matching(marks, t, k);
 }
 
 // ---- the members of unions
@@ -429,23 +500,15 @@ pub fn first_part(marks: &[u8], t: &[u8], k: Counts, name: u16) -> usize
     requires { ⌜ Laid k (length (now t)) × Chains k (now marks) (now t) ⌝ }
     ensures { λ r. ⌜ First (k .parts) (keyOf partsByName (words (now (t .entry)))) name 0 r ⌝ }
 {
-    if (name as usize) < k.names {
-        words::get(t, 6 * name as usize + 3) as usize
-    } else {
-        0
-    }
+    first_linked(t, k, name)
 }
 
-// The next one behind part i, which need not be of a name.
+// The next one behind part i, which need not be of the name.
 pub fn next_part(marks: &[u8], t: &[u8], k: Counts, name: u16, i: usize) -> usize
     requires { ⌜ Laid k (length (now t)) × Chains k (now marks) (now t) × (i < k .parts) ⌝ }
     ensures { λ r. ⌜ First (k .parts) (keyOf partsByName (words (now (t .entry)))) name (i + 1) r ⌝ }
 {
-    if words::get(t, 384 + 5 * i) == name {
-        words::get(t, 384 + 5 * i + 4) as usize
-    } else {
-        i + 1
-    }
+    next_linked(t, k, name, i)
 }
 
 // The first requirement of an owner, or how many requirements there are.
@@ -525,6 +588,14 @@ fn next_member(marks: &[u8], t: &[u8], k: Counts, r: usize, i: usize) -> usize
     if x < end { x } else { k.parts }
 }
 
+// The first non-matching part of range r, or the number of parts.
+fn first_non_matching(marks: &[u8], t: &[u8], k: Counts, r: usize) -> usize
+    requires { ⌜ Laid k (length (now t)) × Chains k (now marks) (now t) × (r < k .ranges) ⌝ }
+    ensures { λ x. ⌜ FirstNonMatching (k .parts) (tables k (now (t .entry))) (now (marks .entry)) r x ⌝ }
+{
+    words::get(t, 9604 + 4 * r + 1) as usize
+}
+
 // The first row of a union, or one behind it if that is idle; or how many rows there are.
 pub fn first_of_union(marks: &[u8], unions: &[u8], t: &[u8], k: Counts, u: u16) -> usize
     requires { ⌜ Indexed k (now marks) (now unions) (now t) ⌝ }
@@ -588,7 +659,7 @@ pub fn first_chosen(marks: &[u8], unions: &[u8], t: &[u8], k: Counts, r: usize, 
 {
     if r < k.ranges {
         match w {
-            Choice::NonMatching => first_part(marks, t, k, tables::range_name(t, k, r)),
+            Choice::NonMatching => first_non_matching(marks, t, k, r),
             Choice::Matching => first_member(marks, t, k, r),
             Choice::Favoured => favoured_from(marks, t, k, tables::range_name(t, k, r), 0),
             Choice::Others => first_member(marks, t, k, r),
@@ -708,4 +779,12 @@ pub fn non_matching_count(marks: &[u8], unions: &[u8], t: &[u8], k: Counts, r: u
 {
     let first = first_chosen(marks, unions, t, k, r, Choice::NonMatching);
     count(marks, unions, t, k, r, Choice::NonMatching, first, 1024)
+}
+
+// Has range r a non-matching part? Its row tells.
+pub fn has_non_matching(marks: &[u8], unions: &[u8], t: &[u8], k: Counts, r: usize) -> bool
+    requires { ⌜ Held k (length (now marks)) (length (now unions)) (length (now t)) × Chains k (now marks) (now t) × (r < k .ranges) ⌝ }
+    ensures { λ b. ⌜ b ≡ ltb 0 (length (nonMatching (catalogue k (now (marks .entry)) (now (unions .entry)) (now (t .entry))) r)) ⌝ }
+{
+    first_non_matching(marks, t, k, r) < k.parts
 }

@@ -27,8 +27,8 @@ use Rattle.goals.specs.Goals.{Catalogued}
 use Rattle.firing.specs.declared.Indices.{Indices}
 use Rattle.firing.specs.Firing.{indicesIn}
 use Rattle.firing.proofs.Required.{condition-given, its-disjuncts}
+use Rattle.firing.proofs.Given.{range-given}
 use Rattle.naming.specs.Naming.{nameRange, nameDisjuncts, GivenIndices}
-use Rattle.naming.proofs.Given.{range-given}
 use Rattle.naming.proofs.Loops.{Passed, pass-step, pass-end}
 
 -- ---- the ranges of a disjunct

@@ -1,6 +1,5 @@
 pub mod Alike
 pub mod AlikeDid
-pub mod Given
 pub mod Loops
 pub mod Ranges
 pub mod Disjuncts

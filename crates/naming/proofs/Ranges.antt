@@ -1,11 +1,12 @@
 -- The candidates of a range, and the variables of a fired one.
 use mathlib.Core.Path.{_≡_, refl, sym, _∙_}
-use mathlib.Core.Bool.{true, not, _&&_}
+use mathlib.Core.Bool.{Bool, true, false, not, _&&_}
 use mathlib.Core.List.{List, [], _∷_, _++_}
-use Prim.Native.Nat.{ℕ, _+_, _<_}
+use Prim.Native.Nat.{ℕ, _+_}
 use native.Mathlib.Omega.{arith}
+use lib.Dec.{ltb}
 use lib.ListN.{length, getD}
-use borrow.Author.Tests.{lt-ltb}
+use borrow.Author.Tests.{ltb-true, ltb-false}
 use Rattle.rules.specs.Lists.{filter, fold}
 use Rattle.rules.specs.Catalogue.{Catalogue, partAt, rangeName}
 use Rattle.rules.specs.Candidates.{member, partsOf, matching, nonMatching, favouredFirst, sorted}
@@ -18,17 +19,15 @@ use Rattle.tables.specs.declared.Counts.{Counts}
 use Rattle.tables.specs.Tables.{tables}
 use Rattle.cache.specs.declared.Choice.the-variants.{NonMatching, Favoured, Others}
 use Rattle.cache.specs.Areas.{catalogue}
-use Rattle.cache.specs.Lists.{asked, chosen, Counted}
+use Rattle.cache.specs.Lists.{asked, chosen}
 use Rattle.cache.proofs.Laws.{range-name-held}
 use Rattle.cache.proofs.Lists.{of-name}
 use Rattle.state.specs.declared.Limits.{Limits}
 use Rattle.variable_map.specs.declared.Origin as code
-use Rattle.variable_map.specs.Mapping.{originOf, inTables}
+use Rattle.variable_map.specs.Mapping.{originOf}
 use Rattle.encoder.specs.declared.Counters.{Counters}
 use Rattle.encoder.specs.Did.{StateDid, PlainDid}
 use Rattle.encoder.proofs.Steps.{state-same, state-then}
-use Rattle.goals.specs.Goals.{Catalogued}
-use Rattle.owners.proofs.Names.{range-low}
 use Rattle.parts.specs.declared.Parts.the-variants.{Chosen}
 use Rattle.parts.specs.declared.Naming.the-variants.{Tracked, Candidate}
 use Rattle.parts.specs.Parts.{selectedOf, partsFor, namingOf}
@@ -71,21 +70,17 @@ parts-some c x [] s h = absurd (h refl)
 parts-some c x (p ∷ ps) s h = refl
 
 module _ (k : Counts) (m u t : List ℕ) (r : ℕ) where
-  pub one-fits : {x : ℕ} (o : code.Origin) → Catalogued k m u t → r < k .ranges → x ≡ getD (tables k t .ranges) r 0 → originOf o ≡ one x → inTables (originOf o) ≡ true
-  unfolding inTables
-  one-fits {x} o w h e i = rw i (lt-ltb x 64 (range-low k m u t (w .formed) (w .kept) h e))
-
-  module _ {l : Limits} {n n′ : Counters} {st st′ : ℕ → List ℕ} {count : ℕ} (e : Counted count (nonMatching (catalogue k m u t) r)) where
-    pub one-named : count ≡ 0 → {x : ℕ} (o : code.Origin) → x ≡ getD (tables k t .ranges) r 0 → originOf o ≡ one x → PlainDid l (λ c v. addVariable (originOf o)) n st n′ st′
+  module _ {l : Limits} {n n′ : Counters} {st st′ : ℕ → List ℕ} {b : Bool} (e : b ≡ ltb 0 (length (nonMatching (catalogue k m u t) r))) where
+    pub one-named : b ≡ false → {x : ℕ} (o : code.Origin) → x ≡ getD (tables k t .ranges) r 0 → originOf o ≡ one x → PlainDid l (λ c v. addVariable (originOf o)) n st n′ st′
         → StateDid (catalogue k m u t) l (λ v. nameRange (catalogue k m u t) r) n st n′ st′
     unfolding nameRange
     one-named z {x} o i j d =
         let q : rangeName (catalogue k m u t) r ≡ x = range-name-held k m u t r ∙ sym i in
-        state-same (d .is (catalogue k m u t)) (λ v s. rw (j, q) (parts-none (catalogue k m u t) x (nonMatching (catalogue k m u t) r) s (omega (arith, e .is))))
+        state-same (d .is (catalogue k m u t)) (λ v s. rw (j, q) (parts-none (catalogue k m u t) x (nonMatching (catalogue k m u t) r) s (omega (arith, ltb-false 0 (length (nonMatching (catalogue k m u t) r)) (sym e ∙ z)))))
 
-    pub rest-named : (count ≡ 0 → ⊥) → StateDid (catalogue k m u t) l (λ v. fold (namingOf (catalogue k m u t) Tracked) (partsFor (catalogue k m u t) (Chosen r NonMatching))) n st n′ st′
+    pub rest-named : b ≡ true → StateDid (catalogue k m u t) l (λ v. fold (namingOf (catalogue k m u t) Tracked) (partsFor (catalogue k m u t) (Chosen r NonMatching))) n st n′ st′
         → StateDid (catalogue k m u t) l (λ v. nameRange (catalogue k m u t) r) n st n′ st′
     unfolding nameRange
     rest-named z d =
         let c = catalogue k m u t in
-        state-same d (λ v s. rw (non-matching-parts c r) (parts-some c (rangeName c r) (nonMatching c r) s (λ y. z (e .is ∙ y))))
+        state-same d (λ v s. rw (non-matching-parts c r) (parts-some c (rangeName c r) (nonMatching c r) s (λ y. omega (arith, ltb-true 0 (length (nonMatching c r)) (sym e ∙ z)))))

@@ -241,23 +241,23 @@ fn name_range(
     requires { ⌜ r < k .ranges ⌝ }
     ensures { λ m. ⌜ StateDid (catalogue k (now (marks .entry)) (now (unions .entry)) (now (t .entry))) l (λ v. nameRange (catalogue k (now (marks .entry)) (now (unions .entry)) (now (t .entry))) r) n (held l (now (s .entry))) m (held l (now (s .exit))) ⌝ }
 {
-    if index::non_matching_count(marks, unions, t, k, r) == 0 {
-        return opening::name_variable(s, l, n, variable_map::one(tables::range_name(t, k, r)));
+    if index::has_non_matching(marks, unions, t, k, r) {
+        return parts::name_each(
+            marks,
+            unions,
+            t,
+            k,
+            s,
+            l,
+            n,
+            Parts::Chosen {
+                range: r,
+                choice: Choice::NonMatching,
+            },
+            Naming::Tracked,
+        );
     }
-    parts::name_each(
-        marks,
-        unions,
-        t,
-        k,
-        s,
-        l,
-        n,
-        Parts::Chosen {
-            range: r,
-            choice: Choice::NonMatching,
-        },
-        Naming::Tracked,
-    )
+    opening::name_variable(s, l, n, variable_map::one(tables::range_name(t, k, r)))
 }
 
 fn name_disjunct(

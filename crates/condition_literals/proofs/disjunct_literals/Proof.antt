@@ -4,7 +4,7 @@ use Prim.Native.Nat.{_-_}
 use Rattle.rules.specs.Conditions.{disjunctAt}
 use Rattle.cache.specs.Areas.{catalogue}
 use Rattle.firing.proofs.Required.{condition-given}
-use Rattle.condition_literals.proofs.Literals.{Collecting, disjunct-there, collect-start, collect-known, collect-step, collect-end}
+use Rattle.condition_literals.proofs.Literals.{Collecting, disjunct-there, collect-start, collect-given, collect-known, collect-step, collect-end}
 use Rattle.condition_literals.proofs.disjunct_literals.Statement.{statement}
 use Rattle.condition_literals.proofs.disjunct_literals.Tie as tie
 
@@ -36,7 +36,7 @@ cast-range-literals : tie.Need-cast-range-literals Inv-loop μ-loop
 cast-range-literals c = search needs
 
 range-literals-requires : tie.Need-range-literals-requires Inv-loop μ-loop
-range-literals-requires c κs = (search needs, (search needs, (search needs, (search needs, search (needs, collect-known)))))
+range-literals-requires c κs = (search needs, (search needs, ((search needs, search (needs, collect-given)), (search needs, search (needs, collect-known)))))
 
 add-j : tie.Need-add-j Inv-loop μ-loop
 add-j c = search needs

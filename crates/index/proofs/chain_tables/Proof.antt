@@ -1,6 +1,6 @@
 -- `index::chain_tables` makes the chains one after another; each leaves the others.
 use borrow.Author.Needs.{needs}
-use Rattle.index.proofs.Laws.{requirements-keyed, constraints-keyed, parts-keyed-last, all-built}
+use Rattle.index.proofs.Laws.{requirements-keyed, constraints-keyed, parts-keyed-last, parts-linked-last, all-built}
 use Rattle.index.proofs.chain_tables.Statement.{statement}
 use Rattle.index.proofs.chain_tables.Tie as tie
 
@@ -19,6 +19,9 @@ bound-ranges-requires c κs = search needs
 bound-parts-requires : tie.Need-bound-parts-requires
 bound-parts-requires c κs = (search needs, parts-keyed-last (c .before .before .before .before .before .before .before .before .before .before .before .before .before .before .before .before .before .before .before .pre .0 .0) (c .before .before .before .before .before .before .before .before .before .before .before .before .before .before .before .before .before .before .before .pre .1) (c .before .before .before .before .before .before .before .before .before .before .before .before .before .before .before .link-parts .ensures) (c .before .before .before .before .before .before .before .before .before .before .before .link-requirements .ensures) (c .before .before .before .before .before .before .before .link-constraints .ensures) (c .before .before .before .bound-ranges .ensures))
 
+note-non-matching-requires : tie.Need-note-non-matching-requires
+note-non-matching-requires c κs = (search needs, search (needs, parts-linked-last))
+
 same-length : tie.Need-same-length
 same-length c = search needs
 
@@ -34,5 +37,6 @@ chain-tables-spec =
     link-constraints-requires
     bound-ranges-requires
     bound-parts-requires
+    note-non-matching-requires
     same-length
     returns)

@@ -1,17 +1,14 @@
 -- `index::first_chosen` passes none of the chosen parts.
 use borrow.Author.Needs.{needs}
-use Rattle.index.proofs.Selecting.{skips-rest, skips-matching, skips-favoured, skips-others, skips-start}
+use Rattle.index.proofs.Selecting.{skips-first, skips-matching, skips-favoured, skips-others, skips-start}
 use Rattle.index.proofs.first_chosen.Statement.{statement}
 use Rattle.index.proofs.first_chosen.Tie as tie
 
 enum-told : tie.Need-enum-told
 enum-told c = search needs
 
-range-name-requires : tie.Need-range-name-requires
-range-name-requires c κs = search needs
-
-first-part-requires : tie.Need-first-part-requires
-first-part-requires c κs = search needs
+first-non-matching-requires : tie.Need-first-non-matching-requires
+first-non-matching-requires c κs = search needs
 
 enum-told-2 : tie.Need-enum-told-2
 enum-told-2 c = search needs
@@ -22,8 +19,8 @@ first-member-requires c κs = search needs
 enum-told-3 : tie.Need-enum-told-3
 enum-told-3 c = search needs
 
-range-name-requires-2 : tie.Need-range-name-requires-2
-range-name-requires-2 c κs = search needs
+range-name-requires : tie.Need-range-name-requires
+range-name-requires c κs = search needs
 
 favoured-from-requires : tie.Need-favoured-from-requires
 favoured-from-requires c κs = search needs
@@ -35,7 +32,7 @@ first-member-requires-2 : tie.Need-first-member-requires-2
 first-member-requires-2 c κs = search needs
 
 returns : tie.Need-returns
-returns c = search (needs, skips-rest)
+returns c = search (needs, skips-first)
 
 returns-2 : tie.Need-returns-2
 returns-2 c = search (needs, skips-matching)
@@ -54,12 +51,11 @@ first-chosen-spec =
     tie.close
     (tie.spec
     enum-told
-    range-name-requires
-    first-part-requires
+    first-non-matching-requires
     enum-told-2
     first-member-requires
     enum-told-3
-    range-name-requires-2
+    range-name-requires
     favoured-from-requires
     enum-told-4
     first-member-requires-2

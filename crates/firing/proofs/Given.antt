@@ -1,13 +1,16 @@
--- Every range of a disjunct is given.
+-- Every range of a disjunct is given, and so is its name.
+use mathlib.Core.Path.{_≡_}
 use mathlib.Core.Bool.{Bool, true, false}
 use mathlib.Core.List.{List, [], _∷_, _++_, map}
 use Prim.Native.Nat.{ℕ, zero, suc, _<_, _≤_}
 use native.Mathlib.Omega.{arith}
 use lib.Dec.{eqb}
 use lib.ListN.{length, getD}
+use borrow.Author.Tests.{lt-ltb}
 use Rattle.rules.specs.Lists.{concatMap}
 use Rattle.rules.specs.Catalogue.{Operator, and, or, Condition, leaf, joined, Catalogue, noCondition}
 use Rattle.rules.specs.Conditions.{Disjunct, combined, fromHalves, disjunctsBelow, disjuncts}
+use Rattle.rules.specs.Variables.{one}
 use Rattle.rules.proofs.Each.{Each, each-append, each-imp, each-map, each-at}
 use Rattle.rules.proofs.WellFormed.{ConditionFits, WellFormed}
 use Rattle.tables.specs.declared.Counts.{Counts}
@@ -17,7 +20,10 @@ use Rattle.conditions.specs.Sizes.{Carries}
 use Rattle.conditions.proofs.Laws.{range-at}
 use Rattle.cache.specs.Areas.{catalogue}
 use Rattle.cache.proofs.Laws.{ranges-held, conditions-held, conditions-same}
+use Rattle.variable_map.specs.declared.Origin as code
+use Rattle.variable_map.specs.Mapping.{originOf, inTables}
 use Rattle.goals.specs.Goals.{Catalogued}
+use Rattle.owners.proofs.Names.{range-low}
 
 module _ (c : Catalogue) where
   abbrev AllGiven : Disjunct → Type 0
@@ -62,3 +68,9 @@ range-given k m u t x i {d} w h g e j b =
     let ds = rw (conditions-same k m u t) at (disjuncts-given c (w .formed) x (rw conditions-held h)) in
     let low : getD (getD (disjuncts (tables k t .conditions) x) i []) j 0 < length (c .ranges) = each-at (each-at ds i [] g) j 0 (omega (arith, e .len)) in
     omega (arith, range-at e j b, ranges-held k m u t)
+
+-- one-of-name of a given range has its place among the variables
+pub one-fits : (k : Counts) (m u t : List ℕ) (r : ℕ) {x : ℕ} (o : code.Origin) → Catalogued k m u t → r < k .ranges → x ≡ getD (tables k t .ranges) r 0 → originOf o ≡ one x
+    → inTables (originOf o) ≡ true
+unfolding inTables
+one-fits k m u t r {x} o w h e i = rw i (lt-ltb x 64 (range-low k m u t (w .formed) (w .kept) h e))

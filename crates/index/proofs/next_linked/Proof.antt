@@ -1,8 +1,8 @@
--- `index::next_part` leads to the next part of the key.
+-- `index::next_linked` leads to the next part of the key.
 use borrow.Author.Needs.{needs}
 use Rattle.index.proofs.Laws.{parts-next, first-behind}
-use Rattle.index.proofs.next_part.Statement.{statement}
-use Rattle.index.proofs.next_part.Tie as tie
+use Rattle.index.proofs.next_linked.Statement.{statement}
+use Rattle.index.proofs.next_linked.Tie as tie
 
 mul-get : tie.Need-mul-get
 mul-get c = search needs
@@ -37,8 +37,8 @@ returns c = search (needs, parts-next)
 returns-2 : tie.Need-returns-2
 returns-2 c = search (needs, first-behind)
 
-pub next-part-spec : {M : Type 1} → statement M
-next-part-spec =
+pub next-linked-spec : {M : Type 1} → statement M
+next-linked-spec =
     tie.close
     (tie.spec
     mul-get
