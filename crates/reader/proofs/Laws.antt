@@ -9,7 +9,7 @@ use native.Mathlib.Numerals.{add-one}
 use lib.Dec.{eqb, ltb, leb}
 use lib.ListN.{length, getD, take, drop, length-drop, List·getD-eq-default}
 use native.Mathlib.Decide.{decLt}
-use borrow.Author.Tests.{lt-ltb, le-ltb, lt-leb, le-leb, ne-eqb, eqb-true}
+use borrow.Author.Tests.{lt-ltb, le-ltb, lt-leb, le-leb, leb-true, ne-eqb, eqb-true}
 use Rattle.rules.specs.Lists.{all, upTo}
 use Rattle.rules.specs.Compute.{computing}
 use Rattle.rules.proofs.Bools.{and-left, and-right}
@@ -26,7 +26,7 @@ use Rattle.reader.specs.declared.Command.the-variants.{Add, Draw, Run, D
 use Rattle.reader.specs.declared.Record.the-variants.{Item, Sheet, Refused}
 use Rattle.refusal.specs.declared.Refusal.the-variants.{UnknownKind, OutOfPlace, CutShort}
 use Rattle.refusal.specs.Refusing.{refusalOf}
-use Rattle.reader.specs.Reading.{commandOf, resultOf, lengths, lengthAt, bodyLength, nextOf, itemRead, commandRead}
+use Rattle.reader.specs.Reading.{commandOf, resultOf, lengths, lengthAt, bodyLength, nextOf, itemRead, commandRead, Plain}
 
 -- ---- lengths, bytes and parts
 
@@ -240,6 +240,25 @@ module _ (begun : Bool) (job : List ℕ) (at n : ℕ) (e : n ≡ bodyLength (get
         pub at-command : 32 ≤ getD job at 0 → resultOf (getD job at 0) (drop (at + 1) job) Sheet ≡ read begun (getD job at 0) (drop (at + 1) job)
         unfolding resultOf
         at-command k = rw (whole, le-ltb _ _ k)
+
+-- ---- a record that is whole whatever its length is
+
+pub not-plain : (job : List ℕ) (at : ℕ) (begun : Bool) (kind : ℕ) → Plain false job at begun kind
+not-plain job at begun kind =
+    record { first = λ e. absurd (false≢true e); from = λ e. absurd (false≢true e); to = λ e. absurd (false≢true e); room = λ e. absurd (false≢true e) }
+
+pub plain-if : (b : Bool) (job : List ℕ) (at : ℕ) (begun : Bool) (kind : ℕ) → at < length job → begun ≡ false → (kind ≡ 0 → ⊥) → kind ≤ 10 → b ≡ leb 8 (length job - at) → Plain b job at begun kind
+plain-if b job at begun kind h n z t e =
+    record { first = λ y. n; from = λ y. omega arith; to = λ y. t; room = λ y. let g : 8 ≤ length job - at = leb-true 8 (length job - at) (sym e ∙ y) in omega arith }
+
+pub item-length : (k : ℕ) → 0 < k → k ≤ 10 → bodyLength k ≤ 7
+item-length k h g = leb-true (bodyLength k) 7 (all-out (λ k. leb (bodyLength k) 7) (upTo 1 10) (unfold computing bodyLength in refl) k (upTo-in 1 10 k (omega arith) (omega arith)))
+
+pub at-plain : (begun b : Bool) (job : List ℕ) (at : ℕ) → Plain b job at begun (getD job at 0) → b ≡ true
+    → resultOf (getD job at 0) (drop (at + 1) job) Item ≡ read begun (getD job at 0) (drop (at + 1) job)
+at-plain begun b job at p y =
+    let few = item-length (getD job at 0) (p .from y) (p .to y) in
+    at-item begun job at (bodyLength (getD job at 0)) refl false (rw (p .first y)) (λ e. omega (arith, few)) refl (omega (arith, few, p .room y)) (omega (arith, p .to y))
 
 -- ---- for callers: the position behind a record that was read
 

@@ -1,9 +1,10 @@
 -- What the reader's enums stand for in the definitions, and what is read by a kind's number.
+use mathlib.Core.Path.{_≡_}
 use mathlib.Core.Bool.{Bool, true, false, cond}
 use mathlib.Core.List.{List, [], _∷_, _++_}
-use Prim.Native.Nat.{ℕ, _+_, _*_, _/_, _%_, _^_}
+use Prim.Native.Nat.{ℕ, _+_, _*_, _/_, _%_, _^_, _<_, _≤_}
 use lib.Dec.{eqb}
-use lib.ListN.{getD, take, replicate}
+use lib.ListN.{length, getD, take, replicate}
 use Rattle.rules.specs.Bytes.{byteAt, wordAt}
 use Rattle.rules.specs.Refusals.{Result, ok, refuse}
 use Rattle.refusal.specs.Refusing.{refusalOf}
@@ -68,3 +69,10 @@ unfoldable pub resultOf : (k : ℕ) (rest : List ℕ) → Record → Result rule
 resultOf k rest Item = ok (rules.catalogue (itemRead k (take (bodyLength k) rest)))
 resultOf k rest Sheet = ok (rules.sheet (commandRead k (take (bodyLength k) rest)))
 resultOf k rest (Refused f) = refuse (refusalOf f)
+
+-- b says that an item stands whole at `at`, without a look at its length
+pub record Plain (b : Bool) (job : List ℕ) (at : ℕ) (begun : Bool) (kind : ℕ) : Type 0 where
+  pub first : b ≡ true → begun ≡ false
+  pub from : b ≡ true → 0 < kind
+  pub to : b ≡ true → kind ≤ 10
+  pub room : b ≡ true → at + 8 ≤ length job

@@ -7,7 +7,7 @@ ghost use lib.ListN.{length, take, drop, getD};
 ghost use Rattle.rules.specs.Bytes.{byteAt, wordAt};
 ghost use mathlib.Core.Bool.{not, _&&_};
 ghost use Rattle.rules.specs.Records.{ofSheet, read};
-ghost use Rattle.reader.specs.Reading.{lengthAt, bodyLength, nextOf, commandOf, commandRead, resultOf};
+ghost use Rattle.reader.specs.Reading.{lengthAt, bodyLength, nextOf, commandOf, commandRead, resultOf, Plain};
 
 // What stands at a position of a job: a whole record, whose numbers stay in its body, or why none is read.
 pub enum Record {
@@ -123,6 +123,23 @@ pub fn out_of_place(begun: bool, kind: u8) -> bool
     if begun { kind < 32 } else { false }
 }
 
+// A catalogue kind, no sheet record before it, and room for the longest body: the record is whole, whatever its length is.
+fn is_plain(job: &[u8], at: usize, begun: bool, kind: u8) -> bool
+    requires { ⌜ at < length (now job) ⌝ }
+    ensures { λ b. ⌜ Plain b (now (job .entry)) at begun kind ⌝ }
+{
+    if begun {
+        return false;
+    }
+    if kind == 0 {
+        return false;
+    }
+    if 10 < kind {
+        return false;
+    }
+    8 <= job.len() - at
+}
+
 // What stands at `at`, on the slice and the number.
 pub fn decode(job: &[u8], at: usize, begun: bool) -> Record
     requires { ⌜ at < length (now job) ⌝ }
@@ -130,6 +147,9 @@ pub fn decode(job: &[u8], at: usize, begun: bool) -> Record
         ≡ read begun (getD (now (job .entry)) at 0) (drop (at + 1) (now (job .entry))) ⌝ }
 {
     let kind = job[at];
+    if is_plain(job, at, begun, kind) {
+        return Record::Item;
+    }
     let n = body_length(kind);
     if n == 99 {
         return Record::Refused(Refusal::UnknownKind);
