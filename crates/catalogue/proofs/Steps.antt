@@ -39,7 +39,7 @@ use Rattle.catalogue.specs.declared.Step.{Step}
 use Rattle.catalogue.specs.declared.Step.the-variants as Step
 use Rattle.catalogue.specs.declared.Read.the-variants as Read
 use Rattle.kept.specs.Entered.{rowsOf, answered, After, Entered}
-use Rattle.catalogue.specs.Walking.{Same, Ready, stepTo, Taken, ItemAt, placeAfter, progressAfter, Passed, AtSheet, Stepped, placeOf, progressOf, ReadUp}
+use Rattle.catalogue.specs.Walking.{Same, Ready, bodyAt, stepTo, Taken, ItemAt, placeAfter, progressAfter, Passed, AtSheet, Stepped, placeOf, progressOf, ReadUp}
 
 -- ---- one item of ten
 
@@ -53,11 +53,14 @@ module _ (next : ℕ) (a : Added) where
   to-refused f e = rw e
 
 -- the last of the ten kinds
-past-five : (n : ℕ) → 0 < n → (n ≡ 1 → ⊥) → (n ≡ 2 → ⊥) → (n ≡ 3 → ⊥) → (n ≡ 4 → ⊥) → (n ≡ 5 → ⊥) → 5 < n
-past-five n h e1 e2 e3 e4 e5 = omega arith
+pub last-kind : (n : ℕ) → 0 < n → n ≤ 10 → (n ≡ 1 → ⊥) → (n ≡ 2 → ⊥) → (n ≡ 3 → ⊥) → (n ≡ 4 → ⊥) → (n ≡ 5 → ⊥) → (n ≡ 6 → ⊥) → (n ≡ 7 → ⊥) → (n ≡ 8 → ⊥) → (n ≡ 9 → ⊥) → n ≡ 10
+last-kind n h g e1 e2 e3 e4 e5 e6 e7 e8 e9 = ten n (past-five n h e1 e2 e3 e4 e5) g e6 e7 e8 e9
+  where
+    past-five : (n : ℕ) → 0 < n → (n ≡ 1 → ⊥) → (n ≡ 2 → ⊥) → (n ≡ 3 → ⊥) → (n ≡ 4 → ⊥) → (n ≡ 5 → ⊥) → 5 < n
+    past-five n h e1 e2 e3 e4 e5 = omega arith
 
-ten : (n : ℕ) → 5 < n → n ≤ 10 → (n ≡ 6 → ⊥) → (n ≡ 7 → ⊥) → (n ≡ 8 → ⊥) → (n ≡ 9 → ⊥) → n ≡ 10
-ten n h g e6 e7 e8 e9 = omega arith
+    ten : (n : ℕ) → 5 < n → n ≤ 10 → (n ≡ 6 → ⊥) → (n ≡ 7 → ⊥) → (n ≡ 8 → ⊥) → (n ≡ 9 → ⊥) → n ≡ 10
+    ten n h g e6 e7 e8 e9 = omega arith
 
 module _ (at kind : ℕ) (k : Counts) (c : Catalogue) (b : List ℕ) (s : Step) (r : Added) (m u t : List ℕ) where
   taken : (n : ℕ) → at + n ≡ at + 1 + bodyLength kind → Entered k c (itemRead kind b) r m u t → s ≡ stepTo (at + n) r → Taken at kind k c b s m u t
@@ -99,11 +102,23 @@ module _ (at kind : ℕ) (k : Counts) (c : Catalogue) (b : List ℕ) (s : Step) 
   unfolding itemRead bodyLength
   as-requirement o f n q e h0 h1 h2 h3 x y = taken 8 (rw e (omega arith)) (rw (e, ← h0, ← h1, ← h2, ← h3) x) y
 
-  pub as-constraint : (o n : ℕ) → 0 < kind → kind ≤ 10 → (kind ≡ 1 → ⊥) → (kind ≡ 2 → ⊥) → (kind ≡ 3 → ⊥) → (kind ≡ 4 → ⊥) → (kind ≡ 5 → ⊥) → (kind ≡ 6 → ⊥) → (kind ≡ 7 → ⊥) → (kind ≡ 8 → ⊥) → (kind ≡ 9 → ⊥) → o ≡ wordAt b 0 → n ≡ wordAt b 2 → Entered k c (Item.constraint o n) r m u t → s ≡ stepTo (at + 5) r → Taken at kind k c b s m u t
+  pub as-constraint : (o n : ℕ) → kind ≡ 10 → o ≡ wordAt b 0 → n ≡ wordAt b 2 → Entered k c (Item.constraint o n) r m u t → s ≡ stepTo (at + 5) r → Taken at kind k c b s m u t
   unfolding itemRead bodyLength
-  as-constraint o n l g e1 e2 e3 e4 e5 e6 e7 e8 e9 h0 h1 x y =
-      let e : kind ≡ 10 = ten kind (past-five kind l e1 e2 e3 e4 e5) g e6 e7 e8 e9 in
-      taken 5 (rw e (omega arith)) (rw (e, ← h0, ← h1) x) y
+  as-constraint o n e h0 h1 x y = taken 5 (rw e (omega arith)) (rw (e, ← h0, ← h1) x) y
+
+-- a body of n - 1 bytes is that of its kind
+pub body-there : (at kind n size : ℕ) → at + n ≡ at + 1 + bodyLength kind → at + 1 + bodyLength kind ≤ size → at + n ≤ size
+body-there at kind n size e h = omega arith
+
+pub of-body : (job : List ℕ) (at kind n : ℕ) → at + n ≡ at + 1 + bodyLength kind → {k : Counts} {c : Catalogue} {b : List ℕ} {s : Step} {m u t : List ℕ}
+    → b ≡ take (at + n - (at + 1)) (drop (at + 1) job) → Taken at kind k c b s m u t → Taken at kind k c (bodyAt job at kind) s m u t
+of-body job at kind n e h x =
+    let z : at + n - (at + 1) ≡ bodyLength kind = omega arith in
+    rw (h, z) at x
+
+-- the place behind a record by the length of its kind
+pub behind-kind : (at kind j n : ℕ) → kind ≡ j → n ≡ 1 + bodyLength j → at + n ≡ at + 1 + bodyLength kind
+behind-kind at kind j n e h = rw e (omega arith)
 
 -- a union member needs a row
 pub row-free : (k : Counts) (kind : ℕ) (b : List ℕ) → k .members + rowsOf (itemRead kind b) ≤ 13107 → kind ≡ 6 → k .members < 13107
@@ -224,21 +239,11 @@ module _ (job : List ℕ) (at : ℕ) (k : Counts) (m u t : List ℕ) (y : Ready 
           then = tt;
         }
 
--- an item that was read, and its body
-module _ (job : List ℕ) (at next : ℕ) (x : Record) (d : next ≡ nextOf job at) (e : resultOf (getD job at 0) (drop (at + 1) job) x ≡ read false (getD job at 0) (drop (at + 1) job))
-    (q : x ≡ R.Item) where
-  item-is : read false (getD job at 0) (drop (at + 1) job) ≡ rules.ok (records.catalogue (itemRead (getD job at 0) (take (bodyLength (getD job at 0)) (drop (at + 1) job))))
+-- an item that was read
+module _ (job : List ℕ) (at : ℕ) (x : Record) (e : resultOf (getD job at 0) (drop (at + 1) job) x ≡ read false (getD job at 0) (drop (at + 1) job)) (q : x ≡ R.Item) where
+  pub item-at : (b : Bool) → at < length job → b ≡ startsSheet (getD job at 0) (kindOf (getD job at 0)) → b ≡ false → ItemAt job at (getD job at 0)
   unfolding resultOf
-  item-is = sym (rw q at e)
-
-  pub body-whole : at < length job → next ≤ length job
-  body-whole h = next-inside false job at next _ item-is d h
-
-  pub item-at : (b : Bool) (l : List ℕ) → at < length job → b ≡ startsSheet (getD job at 0) (kindOf (getD job at 0)) → b ≡ false
-      → l ≡ take (next - (at + 1)) (drop (at + 1) job) → ItemAt job at (getD job at 0) l
-  item-at b l h s n f =
-      let z : next - (at + 1) ≡ bodyLength (getD job at 0) = omega arith in
-      record { there = h; here = refl; class = sym s ∙ n; is = rw (f, z) item-is }
+  item-at b h s n = record { there = h; here = refl; class = sym s ∙ n; is = sym (rw q at e) }
 
 abbrev numbered : ℕ × Kind × ℕ → Bool
 numbered e = leb 32 (e .0) || (ltb 0 (e .0) && leb (e .0) 10)
@@ -252,7 +257,10 @@ item-numbers b x e s =
     let w : (ltb 0 b && leb b 10) ≡ true = rw l at n in
     (ltb-true 0 b (and-left (ltb 0 b) _ w), leb-true b 10 (and-right (ltb 0 b) _ w))
 
-module _ (job : List ℕ) (at kind : ℕ) (b : List ℕ) (k : Counts) (m u t : List ℕ) (x : ItemAt job at kind b) where
+module _ (job : List ℕ) (at kind : ℕ) (k : Counts) (m u t : List ℕ) (x : ItemAt job at kind) where
+  abbrev b : List ℕ
+  b = bodyAt job at kind
+
   is-there : read false (getD job at 0) (drop (at + 1) job) ≡ rules.ok (records.catalogue (itemRead kind b))
   is-there = rw (← x .here) (x .is)
 
@@ -268,8 +276,8 @@ module _ (job : List ℕ) (at kind : ℕ) (b : List ℕ) (k : Counts) (m u t : L
   behind : next ≡ at + 1 + bodyOf (kindOf (getD job at 0))
   behind = next-behind false job at next _ is-there next-there
 
-  whole : next ≤ length job
-  whole = next-inside false job at next _ is-there next-there (x .there)
+  pub item-whole : next ≤ length job
+  item-whole = next-inside false job at next _ is-there next-there (x .there)
 
   light : 5 * rowsOf (itemRead kind b) ≤ 1 + bodyOf (kindOf (getD job at 0))
   light = rows-light (getD job at 0) (drop (at + 1) job) (itemRead kind b) is-there
@@ -285,7 +293,7 @@ module _ (job : List ℕ) (at kind : ℕ) (b : List ℕ) (k : Counts) (m u t : L
 
   module _ (y : Ready at k m u t) where
     pub item-room : length job ≤ 65536 → k .members + rowsOf (itemRead kind b) ≤ 13107
-    item-room w = omega (arith, y .few, whole, light, behind)
+    item-room w = omega (arith, y .few, item-whole, light, behind)
 
     module _ (a : Added) (m′ u′ t′ : List ℕ) (g : Entered k (catalogue k m u t) (itemRead kind b) a m′ u′ t′) where
       item-refused : (f : Refusal) → a ≡ Refused f → Stepped job at k m u t (Step.Refused f) m′ u′ t′
@@ -312,7 +320,7 @@ module _ (job : List ℕ) (at kind : ℕ) (b : List ℕ) (k : Counts) (m u t : L
             };
             then = record {
               onward = omega arith;
-              inside = whole;
+              inside = item-whole;
               ready = record { kept = w .kept; few = omega (arith, w .members, y .few, light, behind) };
             };
           }

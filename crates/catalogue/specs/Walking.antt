@@ -3,7 +3,7 @@ use mathlib.Core.Path.{_≡_}
 use mathlib.Core.Bool.{true, false}
 use mathlib.Core.List.{List}
 use Prim.Native.Nat.{ℕ, _+_, _*_, _<_, _≤_}
-use lib.ListN.{length, getD, drop}
+use lib.ListN.{length, getD, take, drop}
 use Rattle.rules.specs.Catalogue.{Catalogue, emptyCatalogue}
 use Rattle.rules.specs.Refusals.{ok, numberAndPlace}
 use Rattle.rules.specs.Records.{kindOf, read}
@@ -35,12 +35,16 @@ pub record Ready (at : ℕ) (k : Counts) (m u t : List ℕ) : Type 0 where
 
 -- ---- after a record
 
--- an item of this kind and body stands at `at`, whole
-pub record ItemAt (job : List ℕ) (at kind : ℕ) (b : List ℕ) : Type 0 where
+-- the body of the record at `at`, of this kind
+abbrev pub bodyAt : (job : List ℕ) → (at kind : ℕ) → List ℕ
+bodyAt job at kind = take (bodyLength kind) (drop (at + 1) job)
+
+-- an item of this kind stands at `at`, whole
+pub record ItemAt (job : List ℕ) (at kind : ℕ) : Type 0 where
   pub there : at < length job
   pub here : kind ≡ getD job at 0
   pub class : startsSheet kind (kindOf kind) ≡ false
-  pub is : read false kind (drop (at + 1) job) ≡ ok (rules.catalogue (itemRead kind b))
+  pub is : read false kind (drop (at + 1) job) ≡ ok (rules.catalogue (itemRead kind (bodyAt job at kind)))
 
 unfoldable pub stepTo : ℕ → Added → Step
 stepTo next (Added.Counted r) = Step.Next next r

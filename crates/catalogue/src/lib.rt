@@ -9,11 +9,11 @@ ghost use Prim.Native.Nat.{_+_, _<_, _≤_};
 ghost use lib.ListN.{length};
 ghost use Rattle.rules.specs.Records.{kindOf};
 ghost use Rattle.rules.specs.Job.{startsSheet};
-ghost use Rattle.reader.specs.Reading.{itemRead};
+ghost use Rattle.reader.specs.Reading.{bodyLength, itemRead};
 ghost use Rattle.cache.specs.Areas.{catalogue};
 ghost use Rattle.kept.specs.Kept.{Kept};
 ghost use Rattle.kept.specs.Entered.{rowsOf};
-ghost use Rattle.catalogue.specs.Walking.{Ready, stepTo, Taken, ItemAt, Stepped, ReadUp};
+ghost use Rattle.catalogue.specs.Walking.{Ready, bodyAt, stepTo, Taken, ItemAt, Stepped, ReadUp};
 
 // After the record at a place: the place and the counts after it, or the place is that of the first sheet record, or why it is refused.
 pub enum Step {
@@ -38,107 +38,135 @@ fn step_to(next: usize, added: Added) -> Step
     }
 }
 
-// The item of a kind, read from the body of the record at `at`. Each kind has its own length: the next place does not wait for a table.
+// The item of the record at `at`, which is whole, by its kind. Each kind has its own length: neither the reading of a body nor the next place waits for a table.
 pub fn add_item(
+    job: &[u8],
     at: usize,
     marks: &mut [u8],
     unions: &mut [u8],
     t: &mut [u8],
     k: Counts,
     kind: u8,
-    body: &[u8],
 ) -> Step
     requires { ⌜ Kept k (now marks) (now unions) (now t) ⌝ }
-    requires { ⌜ k .members + rowsOf (itemRead kind (now body)) ≤ 13107 ⌝ }
+    requires { ⌜ k .members + rowsOf (itemRead kind (bodyAt (now job) at kind)) ≤ 13107 ⌝ }
     requires { ⌜ (at < 65536) × (0 < kind) × (kind ≤ 10) ⌝ }
-    ensures { λ r. ⌜ Taken at kind k (catalogue k (now (marks .entry)) (now (unions .entry)) (now (t .entry))) (now (body .entry))
+    requires { ⌜ at + 1 + bodyLength kind ≤ length (now job) ⌝ }
+    ensures { λ r. ⌜ Taken at kind k (catalogue k (now (marks .entry)) (now (unions .entry)) (now (t .entry))) (bodyAt (now (job .entry)) at kind)
         r (now (marks .exit)) (now (unions .exit)) (now (t .exit)) ⌝ }
 {
     match kind {
-        1 => step_to(
-            at + 2,
-            part_items::add_name(marks, unions, t, k, reader::byte(body, 0)),
-        ),
-        2 => step_to(
-            at + 8,
-            part_items::add_part(
-                marks,
-                unions,
-                t,
-                k,
-                reader::word(body, 0),
-                reader::byte(body, 2),
-                reader::word(body, 3),
-                reader::word(body, 5),
-            ),
-        ),
-        3 => step_to(
-            at + 3,
-            part_items::add_range(marks, unions, t, k, reader::word(body, 0)),
-        ),
-        4 => step_to(
-            at + 5,
-            part_items::add_member(
-                marks,
-                unions,
-                t,
-                k,
-                reader::word(body, 0),
-                reader::word(body, 2),
-            ),
-        ),
+        1 => {
+            let body = reader::body(job, at, at + 2);
+            step_to(
+                at + 2,
+                part_items::add_name(marks, unions, t, k, reader::byte(body, 0)),
+            )
+        }
+        2 => {
+            let body = reader::body(job, at, at + 8);
+            step_to(
+                at + 8,
+                part_items::add_part(
+                    marks,
+                    unions,
+                    t,
+                    k,
+                    reader::word(body, 0),
+                    reader::byte(body, 2),
+                    reader::word(body, 3),
+                    reader::word(body, 5),
+                ),
+            )
+        }
+        3 => {
+            let body = reader::body(job, at, at + 3);
+            step_to(
+                at + 3,
+                part_items::add_range(marks, unions, t, k, reader::word(body, 0)),
+            )
+        }
+        4 => {
+            let body = reader::body(job, at, at + 5);
+            step_to(
+                at + 5,
+                part_items::add_member(
+                    marks,
+                    unions,
+                    t,
+                    k,
+                    reader::word(body, 0),
+                    reader::word(body, 2),
+                ),
+            )
+        }
         5 => step_to(at + 1, rule_items::add_union(marks, unions, t, k)),
-        6 => step_to(
-            at + 5,
-            rule_items::add_union_member(
-                marks,
-                unions,
-                t,
-                k,
-                reader::word(body, 0),
-                reader::word(body, 2),
-            ),
-        ),
-        7 => step_to(
-            at + 3,
-            rule_items::add_leaf(marks, unions, t, k, reader::word(body, 0)),
-        ),
-        8 => step_to(
-            at + 6,
-            rule_items::add_joined(
-                marks,
-                unions,
-                t,
-                k,
-                reader::byte(body, 0),
-                reader::word(body, 1),
-                reader::word(body, 3),
-            ),
-        ),
-        9 => step_to(
-            at + 8,
-            rule_items::add_requirement(
-                marks,
-                unions,
-                t,
-                k,
-                reader::word(body, 0),
-                reader::byte(body, 2),
-                reader::word(body, 3),
-                reader::word(body, 5),
-            ),
-        ),
-        _ => step_to(
-            at + 5,
-            rule_items::add_constraint(
-                marks,
-                unions,
-                t,
-                k,
-                reader::word(body, 0),
-                reader::word(body, 2),
-            ),
-        ),
+        6 => {
+            let body = reader::body(job, at, at + 5);
+            step_to(
+                at + 5,
+                rule_items::add_union_member(
+                    marks,
+                    unions,
+                    t,
+                    k,
+                    reader::word(body, 0),
+                    reader::word(body, 2),
+                ),
+            )
+        }
+        7 => {
+            let body = reader::body(job, at, at + 3);
+            step_to(
+                at + 3,
+                rule_items::add_leaf(marks, unions, t, k, reader::word(body, 0)),
+            )
+        }
+        8 => {
+            let body = reader::body(job, at, at + 6);
+            step_to(
+                at + 6,
+                rule_items::add_joined(
+                    marks,
+                    unions,
+                    t,
+                    k,
+                    reader::byte(body, 0),
+                    reader::word(body, 1),
+                    reader::word(body, 3),
+                ),
+            )
+        }
+        9 => {
+            let body = reader::body(job, at, at + 8);
+            step_to(
+                at + 8,
+                rule_items::add_requirement(
+                    marks,
+                    unions,
+                    t,
+                    k,
+                    reader::word(body, 0),
+                    reader::byte(body, 2),
+                    reader::word(body, 3),
+                    reader::word(body, 5),
+                ),
+            )
+        }
+        _ => {
+            let body = reader::body(job, at, at + 5);
+            step_to(
+                at + 5,
+                rule_items::add_constraint(
+                    marks,
+                    unions,
+                    t,
+                    k,
+                    reader::word(body, 0),
+                    reader::word(body, 2),
+                ),
+            )
+        }
     }
 }
 
@@ -155,7 +183,7 @@ pub fn starts_sheet(kind: u8) -> bool
     true
 }
 
-// The item of the record at `at`, of this kind and body.
+// The item of the record at `at`, of this kind.
 fn enter(
     job: &[u8],
     at: usize,
@@ -164,15 +192,14 @@ fn enter(
     t: &mut [u8],
     k: Counts,
     kind: u8,
-    body: &[u8],
 ) -> Step
     requires { ⌜ length (now job) ≤ 65536 ⌝ }
     requires { ⌜ Ready at k (now marks) (now unions) (now t) ⌝ }
-    requires { ⌜ ItemAt (now job) at kind (now body) ⌝ }
+    requires { ⌜ ItemAt (now job) at kind ⌝ }
     ensures { λ r. ⌜ Stepped (now (job .entry)) at k (now (marks .entry)) (now (unions .entry)) (now (t .entry))
         r (now (marks .exit)) (now (unions .exit)) (now (t .exit)) ⌝ }
 {
-    add_item(at, marks, unions, t, k, kind, body)
+    add_item(job, at, marks, unions, t, k, kind)
 }
 
 // The record at `at`. A sheet record is left as it is, its body not looked at.
@@ -193,15 +220,11 @@ pub fn read_record(
     if starts_sheet(kind) {
         return Step::Sheet;
     }
-    let next = reader::next_at(job, at);
     let record = reader::record_at(job, at, false);
     match record {
         Record::Refused(refusal) => Step::Refused(refusal),
         Record::Sheet => Step::Sheet,
-        Record::Item => {
-            let body = reader::body(job, at, next);
-            enter(job, at, marks, unions, t, k, kind, body)
-        }
+        Record::Item => enter(job, at, marks, unions, t, k, kind),
     }
 }
 

@@ -1,11 +1,11 @@
 -- `catalogue::enter` takes one step of the walks: an item read whole is entered, or the walks stop.
 use borrow.Author.Needs.{needs}
-use Rattle.catalogue.proofs.Steps.{item-room, item-from, item-to, item-steps}
+use Rattle.catalogue.proofs.Steps.{item-room, item-from, item-to, item-whole, item-steps}
 use Rattle.catalogue.proofs.enter.Statement.{statement}
 use Rattle.catalogue.proofs.enter.Tie as tie
 
 add-item-requires : tie.Need-add-item-requires
-add-item-requires c κs = (search needs, (search (needs, item-room), (search needs, search (needs, item-from), search (needs, item-to))))
+add-item-requires c κs = (search needs, (search (needs, item-room), ((search needs, search (needs, item-from), search (needs, item-to)), search (needs, item-whole))))
 
 same-length : tie.Need-same-length
 same-length c = search needs

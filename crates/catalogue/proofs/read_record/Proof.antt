@@ -1,6 +1,6 @@
 -- `catalogue::read_record` takes one step of the walks, or stops before the first sheet record.
 use borrow.Author.Needs.{needs}
-use Rattle.catalogue.proofs.Steps.{step-sheet, body-whole, item-at, step-unread, step-command}
+use Rattle.catalogue.proofs.Steps.{step-sheet, item-at, step-unread, step-command}
 use Rattle.catalogue.proofs.read_record.Statement.{statement}
 use Rattle.catalogue.proofs.read_record.Tie as tie
 
@@ -12,9 +12,6 @@ starts-sheet-requires c κs = search needs
 
 returns : tie.Need-returns
 returns c = search (needs, step-sheet)
-
-next-at-requires : tie.Need-next-at-requires
-next-at-requires c κs = search needs
 
 record-at-requires : tie.Need-record-at-requires
 record-at-requires c κs = search needs
@@ -28,18 +25,8 @@ enum-told c = search needs
 enum-told-2 : tie.Need-enum-told-2
 enum-told-2 c = search needs
 
-body-requires : tie.Need-body-requires
-body-requires c κs = search (needs, body-whole)
-
 enter-requires : tie.Need-enter-requires
-enter-requires c κs = (
-  search needs,
-  (
-    search needs,
-    item-at _ _ _ _ (c .before .before .before .before .before .before .before .next-at .ensures) (c .before .before .before .before .before .before .record-at .ensures) (search needs) _ _ (search needs)
-        (c .before .before .before .before .before .before .before .before .before .starts-sheet .ensures) (search needs) (c .before .before .before .body .ensures),
-  ),
-)
+enter-requires c κs = (search needs, (search needs, search (needs, item-at)))
 
 returns-2 : tie.Need-returns-2
 returns-2 c = search (needs, step-unread)
@@ -66,12 +53,10 @@ read-record-spec =
     shared-slice-read-kind
     starts-sheet-requires
     returns
-    next-at-requires
     record-at-requires
     enum-known-record
     enum-told
     enum-told-2
-    body-requires
     enter-requires
     returns-2
     returns-3
