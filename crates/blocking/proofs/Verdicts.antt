@@ -46,7 +46,7 @@ not-two v e = by-cases (eqb v 2) (λ q. eqb-true v 2 q) (λ q. absurd (true≢fa
 
 -- ---- verdicts that stay
 
-pub still-same : {vs : List ℕ} → Still vs vs
+still-same : {vs : List ℕ} → Still vs vs
 still-same = record { fails = λ i e. e }
 
 pub still-then : {vs ws us : List ℕ} → Still vs ws → Still ws us → Still vs us

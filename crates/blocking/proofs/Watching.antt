@@ -29,11 +29,11 @@ use Rattle.blocking.proofs.Verdicts.{fails-in, fails-out}
 -- ---- one flag more
 
 module _ (flags : List ℕ) (p : ℕ) where
-  pub held-there : p < length flags → isHeld (set flags p 1) p ≡ true
+  held-there : p < length flags → isHeld (set flags p 1) p ≡ true
   unfolding isHeld isFree
   held-there h = rw (getD-set-same flags p 1 0 h)
 
-  pub held-other : (q : ℕ) → (q ≡ p → ⊥) → isHeld (set flags p 1) q ≡ isHeld flags q
+  held-other : (q : ℕ) → (q ≡ p → ⊥) → isHeld (set flags p 1) q ≡ isHeld flags q
   unfolding isHeld isFree
   held-other q n = rw (getD-set-other flags p q 1 0 n)
 

@@ -108,14 +108,18 @@ pub record Watched (c : Catalogue) (vs : List ℕ) (b : Bool) (watched watched�
 
 -- ---- blocked conditions
 
+-- condition x is blocked
+unfoldable pub isBlocked : List ℕ → ℕ → Bool
+isBlocked blocked x = eqb (getD blocked x 0) 1
+
 -- each disjunct of a blocked condition has a range whose matching parts are watched, and none of these is decided true
 pub record Blocked (c : Catalogue) (true? : ℕ → Bool) (blocked watched : List ℕ) : Type 0 where
   pub long : length watched ≡ 1024
-  pub given : (x : ℕ) → isHeld blocked x ≡ true → x < length (c .conditions)
-  pub barred : (x : ℕ) → isHeld blocked x ≡ true → Barred c (allWatched c watched) x
+  pub given : (x : ℕ) → isBlocked blocked x ≡ true → x < length (c .conditions)
+  pub barred : (x : ℕ) → isBlocked blocked x ≡ true → Barred c (allWatched c watched) x
   pub unmet : Unmet true? watched
 
--- if b is true no disjunct of condition x holds; the conditions that are flagged are blocked
+-- if b is true no disjunct of condition x holds; the conditions that are blocked stay so
 pub record Blocks (c : Catalogue) (true? : ℕ → Bool) (x : ℕ) (b : Bool) (blocked watched blocked′ watched′ : List ℕ) : Type 0 where
   pub none : b ≡ true → Blocked c true? blocked watched → (d : Disjunct) → d ∈ disjuncts (c .conditions) x → holdsNow c true? d ≡ false
   pub keeps : Blocked c true? blocked watched → Blocked c true? blocked′ watched′

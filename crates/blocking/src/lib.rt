@@ -155,7 +155,7 @@ fn watch(
     left > 0
 }
 
-// ---- blocked conditions
+// ---- conditions: 1, it is blocked, and 2, the parts that it waits for are too many to be watched
 
 // Does no disjunct of condition c hold? Then it is blocked, if the parts that it waits for can be watched.
 pub fn blocks(
@@ -177,15 +177,21 @@ pub fn blocks(
     requires { ⌜ c < k .conditions ⌝ }
     ensures { λ b. ⌜ Blocks (catalogue k (now (marks .entry)) (now (unions .entry)) (now (t .entry))) (trueOf (variables (n .variables) (held l (now (s .entry)))) (decisions (n .decisions) (held l (now (s .entry))))) c b (now (blocked .entry)) (now (watched .entry)) (now (blocked .exit)) (now (watched .exit)) ⌝ }
 {
-    if blocked[c] != 0 {
+    let b = blocked[c];
+    if b == 1 {
         return true;
     }
     let mut known = [0u8; 768];
     if some_holds(marks, unions, t, k, s, l, n, &mut known, c) {
         return false;
     }
+    if b == 2 {
+        return true;
+    }
     if watch(marks, unions, t, k, &known, watched) {
         blocked[c] = 1;
+        return true;
     }
+    blocked[c] = 2;
     true
 }
