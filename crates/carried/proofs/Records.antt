@@ -1,7 +1,7 @@
 -- One record of a sheet: a step of the definitions' walk, or its refusal.
 use mathlib.Core.Path.{_≡_, refl, sym, _∙_, ap}
 use mathlib.Core.Bool.{Bool, true, not, _||_}
-use mathlib.Core.List.{List}
+use mathlib.Core.List.{List, []}
 use Prim.Native.Nat.{ℕ, _+_, _-_, _<_, _≤_}
 use native.Mathlib.Omega.{arith}
 use lib.Dec.{leb}
@@ -13,7 +13,7 @@ use Rattle.rules.specs.Catalogue.{Catalogue}
 use Rattle.rules.specs.Refusals.{ok, refuse, numberAndPlace}
 use Rattle.rules.specs.Refusals as rules
 use Rattle.rules.specs.Records.{Kind, kinds, kindOf, ofSheet, Command, sheet, read}
-use Rattle.rules.specs.State.{State}
+use Rattle.rules.specs.State.{State, decidedTrue}
 use Rattle.rules.specs.Limits.{Terms}
 use Rattle.rules.specs.Sheet.{commandRefusals, carriedOut, carryOut}
 use Rattle.rules.specs.Job.{carrying, stopped, bodyOf, walk, afterCommand, afterRecord, runStep, startsSheet, refused, ended}
@@ -28,14 +28,18 @@ use Rattle.reader.specs.declared.Record.the-variants as R
 use Rattle.reader.specs.Reading.{bodyLength, commandOf, commandRead, resultOf, nextOf}
 use Rattle.reader.proofs.Laws.{next-behind, next-inside}
 use Rattle.state.specs.declared.Limits.{Limits}
+use Rattle.variable_map.specs.Mapping.{variables}
+use Rattle.decision_tracker.specs.Tracking.{decisions}
 use Rattle.encoder.specs.declared.Counters.{Counters}
+use Rattle.encoder.specs.Held.{stateOf}
 use Rattle.encoder.specs.Did.{limitsOf}
+use Rattle.blocking.specs.Blocking.{Blocked}
 use Rattle.encoding.specs.Running.{Holds}
 use Rattle.commands.specs.declared.Outcome.{Outcome}
 use Rattle.commands.specs.declared.Outcome.the-variants as outcome
 use Rattle.sheet.specs.Sheet.{CommandDid}
 use Rattle.carried.specs.declared.Step.the-variants as Step
-use Rattle.carried.specs.Carrying.{endFrom, Settled, Idles, SettledDid, Passed, StepDid}
+use Rattle.carried.specs.Carrying.{endFrom, Settled, Has, Idles, SettledDid, Passed, StepDid}
 
 -- ---- a sheet record has three bytes or more
 
@@ -93,24 +97,35 @@ module _ (l : Limits) (job : List ℕ) (at : ℕ) (h : at < length job) (c : Cat
 
 -- ---- the code's command
 
-module _ {c : Catalogue} {flags : List ℕ} {l : Limits} {o : Command} {n : Counters} {st : ℕ → List ℕ} {cl wt : List ℕ} where
-  pub settled-passes : {b : Bool} → b ≡ true → Idles b o flags → SettledDid c flags l o n st cl wt (outcome.Carried n) st cl wt
-  settled-passes e d =
+has-held : {c : Catalogue} {l : Limits} {s : State} {n : Counters} {st : ℕ → List ℕ} {cl wt : List ℕ} → Holds c l s n st cl wt
+    → Has (variables (n .variables) st) (decisions (n .decisions) st) s
+unfolding stateOf
+has-held h =
+    let is = h .is (record { truth = λ _. true; drawn = [] }) in
+    record { variables = sym (ap (λ (u : State). u .variables) is); decisions = sym (ap (λ (u : State). u .decisions) is) }
+
+module _ {c : Catalogue} {flags blocked watched : List ℕ} {l : Limits} {o : Command} {n : Counters} {st : ℕ → List ℕ} {cl wt blocked′ watched′ : List ℕ} {b : Bool}
+    (d : Idles c (variables (n .variables) st) (decisions (n .decisions) st) o flags blocked watched b blocked′ watched′) where
+  pub settled-passes : b ≡ true → SettledDid c flags blocked watched l o n st cl wt (outcome.Carried n) st cl wt blocked′ watched′
+  settled-passes e =
       record {
-        carried = λ m q s g z h x. let y : m ≡ n = cc in rw y (record { state = s; is = d .is e c s x (limitsOf l); holds = h; runs = omega arith });
+        carried = λ m q s g z h x w. let y : m ≡ n = cc in rw y (record { state = s; is = d .is e (limitsOf l) s g z (has-held h) x w; holds = h; runs = omega arith });
+        guards = d .guards;
         refused = λ f q. absurd (not-one (cc));
       }
 
-  pub settled-carries : {r : Outcome} {st′ : ℕ → List ℕ} {cl′ wt′ : List ℕ} → CommandDid c l o n st cl wt r st′ cl′ wt′ → SettledDid c flags l o n st cl wt r st′ cl′ wt′
-  settled-carries d = record { carried = λ m e s g z h _. d .carried m e s g z h; refused = d .refused }
+  pub settled-carries : {r : Outcome} {st′ : ℕ → List ℕ} {cl′ wt′ : List ℕ} → CommandDid c l o n st cl wt r st′ cl′ wt′
+      → SettledDid c flags blocked watched l o n st cl wt r st′ cl′ wt′ blocked′ watched′
+  settled-carries k = record { carried = λ m e s g z h _ _. k .carried m e s g z h; guards = d .guards; refused = k .refused }
 
 -- ---- the code's record
 
-module _ {c : Catalogue} {flags : List ℕ} {l : Limits} {job : List ℕ} {at : ℕ} {n : Counters} {st : ℕ → List ℕ} {cl wt : List ℕ} {st′ : ℕ → List ℕ} {cl′ wt′ : List ℕ} where
+module _ {c : Catalogue} {flags blocked watched : List ℕ} {l : Limits} {job : List ℕ} {at : ℕ} {n : Counters} {st : ℕ → List ℕ} {cl wt : List ℕ} {st′ : ℕ → List ℕ}
+    {cl′ wt′ blocked′ watched′ : List ℕ} where
   refuses : (f : Refusal)
       → ((s : State) → Given c → Reached (limitsOf l) c s → Holds c l s n st cl wt → (t : Terms) → t .limits ≡ limitsOf l
       → endFrom t job at (carrying c s) ≡ refused (numberAndPlace (length job) at (refusalOf f)))
-      → StepDid c flags l job at n st cl wt (Step.Refused f) st′ cl′ wt′
+      → StepDid c flags blocked watched l job at n st cl wt (Step.Refused f) st′ cl′ wt′ blocked′ watched′
   refuses f p =
       record {
         next = λ a m o e. absurd (not-one (cc));
@@ -126,31 +141,31 @@ module _ (job : List ℕ) (at : ℕ) (x : Record) (e : resultOf (getD job at 0) 
   pub sheet-whole : (next : ℕ) → next ≡ nextOf job at → at < length job → next ≤ length job
   sheet-whole next u h = next-inside true job at next _ sheet-is u h
 
-module _ {c : Catalogue} {flags : List ℕ} {l : Limits} (job : List ℕ) (at : ℕ) {n : Counters} {st : ℕ → List ℕ} {cl wt : List ℕ} (x : Record) (h : at < length job)
+module _ {c : Catalogue} {flags blocked watched : List ℕ} {l : Limits} (job : List ℕ) (at : ℕ) {n : Counters} {st : ℕ → List ℕ} {cl wt : List ℕ} (x : Record) (h : at < length job)
     (e : resultOf (getD job at 0) (drop (at + 1) job) x ≡ read true (getD job at 0) (drop (at + 1) job)) where
-  pub step-unread : (f : Refusal) → x ≡ R.Refused f → StepDid c flags l job at n st cl wt (Step.Refused f) st cl wt
+  pub step-unread : (f : Refusal) → x ≡ R.Refused f → StepDid c flags blocked watched l job at n st cl wt (Step.Refused f) st cl wt blocked watched
   unfolding resultOf
   step-unread f q = refuses f (λ s _ _ _ t p. unread l job at h c s t p (refusalOf f) (sym (rw q at e)))
 
   -- after a sheet record nothing is read as an item
-  pub step-item : (f : Refusal) → x ≡ R.Item → StepDid c flags l job at n st cl wt (Step.Refused f) st cl wt
+  pub step-item : (f : Refusal) → x ≡ R.Item → StepDid c flags blocked watched l job at n st cl wt (Step.Refused f) st cl wt blocked watched
   unfolding resultOf
   step-item f q = absurd (no-item (getD job at 0) (drop (at + 1) job) _ (sym (rw q at e)))
 
   module _ (q : x ≡ R.Sheet) (next : ℕ) (u : next ≡ nextOf job at) (k : code.Command) (w : commandOf k ≡ commandRead (getD job at 0) (take (next - (at + 1)) (drop (at + 1) job)))
-      {st′ : ℕ → List ℕ} {cl′ wt′ : List ℕ} {r : Outcome} (d : SettledDid c flags l (commandOf k) n st cl wt r st′ cl′ wt′) where
+      {st′ : ℕ → List ℕ} {cl′ wt′ blocked′ watched′ : List ℕ} {r : Outcome} (d : SettledDid c flags blocked watched l (commandOf k) n st cl wt r st′ cl′ wt′ blocked′ watched′) where
     is-read : read true (getD job at 0) (drop (at + 1) job) ≡ ok (sheet (commandOf k))
     is-read =
         let z : next - (at + 1) ≡ bodyLength (getD job at 0) = omega arith in
         rw (w, z) (sheet-is job at x e q)
 
-    pub step-refused : (f : Refusal) → r ≡ outcome.Refused f → StepDid c flags l job at n st cl wt (Step.Refused f) st′ cl′ wt′
+    pub step-refused : (f : Refusal) → r ≡ outcome.Refused f → StepDid c flags blocked watched l job at n st cl wt (Step.Refused f) st′ cl′ wt′ blocked′ watched′
     step-refused f y = refuses f (λ s g z o t p. not-carried l job at h c s t p (commandOf k) is-read (refusalOf f) (d .refused f y s g z o))
 
     behind : next ≡ at + 1 + bodyOf (kindOf (getD job at 0))
     behind = next-behind true job at next _ is-read u
 
-    pub step-carried : (m : Counters) → r ≡ outcome.Carried m → StepDid c flags l job at n st cl wt (Step.Next next m k) st′ cl′ wt′
+    pub step-carried : (m : Counters) → r ≡ outcome.Carried m → StepDid c flags blocked watched l job at n st cl wt (Step.Next next m k) st′ cl′ wt′ blocked′ watched′
     step-carried m y =
         record {
           next = λ a m′ k′ v. let i : a ≡ next = cc in let j : m′ ≡ m = cc in let z : k′ ≡ k = cc in rw (i, j, z) passed;
@@ -158,9 +173,9 @@ module _ {c : Catalogue} {flags : List ℕ} {l : Limits} (job : List ℕ) (at : 
         }
       where
         passed : (s : State) → Given c → Reached (limitsOf l) c s → Holds c l s n st cl wt → Settled c flags s
-            → Passed c l job at next (commandOf k) s n m st′ cl′ wt′
-        passed s g z o b =
-            let x = d .carried m y s g z o b in
+            → Blocked c (decidedTrue s) blocked watched → Passed c l job at next (commandOf k) s n m st′ cl′ wt′ blocked′ watched′
+        passed s g z o b w =
+            let x = d .carried m y s g z o b w in
             record {
               onward = omega (arith, behind, sheet-body (getD job at 0) (drop (at + 1) job) (commandOf k) is-read);
               inside = next-inside true job at next _ is-read u h;
@@ -169,5 +184,6 @@ module _ {c : Catalogue} {flags : List ℕ} {l : Limits} (job : List ℕ) (at : 
               is = x .is;
               reached = then-reached z (commandOf k) (x .is);
               holds = x .holds;
+              blocked = d .guards .is (limitsOf l) s (x .state) z (has-held o) (x .is) w;
               alike = λ t p. goes-on l job at h c s t p (commandOf k) is-read (x .state) next behind (x .is);
             }

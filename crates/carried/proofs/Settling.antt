@@ -1,6 +1,6 @@
 -- The flags of conditions of which nothing is to be drawn: what they say of a draw, and what each command leaves of them.
 use mathlib.Core.Path.{_≡_, sym, _∙_}
-use mathlib.Core.Bool.{Bool, true, false, not, true≢false}
+use mathlib.Core.Bool.{true, false, not, true≢false}
 use mathlib.Core.List.{List}
 use Prim.Native.Nat.{ℕ, _<_}
 use native.Mathlib.Omega.{arith}
@@ -27,7 +27,7 @@ use Rattle.entries.specs.Deferred.{isFree, isHeld}
 use Rattle.entries.proofs.Places.{is-free}
 use Rattle.judging.proofs.Judging.{zeros}
 use Rattle.commands.proofs.Idling.{idle-draw, idle-after, idle-kept}
-use Rattle.carried.specs.Carrying.{Settled, Idles, Notes}
+use Rattle.carried.specs.Carrying.{Settled, Notes}
 use Rattle.carried.proofs.Undoing.{idle-undone}
 use Rattle.carried.proofs.Running.{idle-run}
 
@@ -35,7 +35,7 @@ use Rattle.carried.proofs.Running.{idle-run}
 
 module _ (l : rules.Limits) (c : Catalogue) (s : State) where
   -- a draw of a condition that is given
-  drawn-is : (k : ℕ) → k < length (c .conditions) → carryOut l c (Command.draw k) s ≡ ok (setOpening (opening.draw c (decidedTrue s) k (s .opening)) s)
+  pub drawn-is : (k : ℕ) → k < length (c .conditions) → carryOut l c (Command.draw k) s ≡ ok (setOpening (opening.draw c (decidedTrue s) k (s .opening)) s)
   unfolding carryOut commandRefusals carriedOut unlessAny absent given
   drawn-is k h = rw (lt-leb (length (c .conditions)) k h)
 
@@ -46,12 +46,12 @@ module _ (l : rules.Limits) (c : Catalogue) (s : State) where
       refused : {f : Refusal} → refuse f ≡ ok s′ → ⊥
       refused q = not-one (cc)
 
-  carried-is : (o : Command) (s′ : State) → carryOut l c o s ≡ ok s′ → carriedOut l c o s ≡ s′
+  pub carried-is : (o : Command) (s′ : State) → carryOut l c o s ≡ ok s′ → carriedOut l c o s ≡ s′
   unfolding carryOut
   carried-is o s′ e = unlessAny-ok (commandRefusals l c o s) (carriedOut l c o s) s′ e .1
 
   module _ {flags : List ℕ} (h : Settled c flags s) where
-    settled-draw : (k : ℕ) → isHeld flags k ≡ true → carryOut l c (Command.draw k) s ≡ ok s
+    pub settled-draw : (k : ℕ) → isHeld flags k ≡ true → carryOut l c (Command.draw k) s ≡ ok s
     settled-draw k e = drawn-is k (h .given k e) ∙ rw (idle-draw c (decidedTrue s) k (s .opening) (h .idle k e))
 
     settled-added : (o : ℕ) → Settled c flags (carriedOut l c (Command.add o) s)
@@ -88,13 +88,6 @@ settled-none c n s = record { given = λ k e. absurd (unset k e); idle = λ k e.
 -- ---- the code's command
 
 module _ (x : code.Command) {flags : List ℕ} where
-  pub idles-draw : (k : ℕ) {b : Bool} → x ≡ C.Draw k → b ≡ isHeld flags k → Idles b (commandOf x) flags
-  unfolding commandOf
-  idles-draw k q e = rw q (record { is = λ t c s h l. settled-draw l c s h k (sym e ∙ t) })
-
-  pub idles-other : Idles false (commandOf x) flags
-  idles-other = record { is = λ t. absurd (true≢false (sym t)) }
-
   pub notes-add : (o : ℕ) → x ≡ C.Add o → Notes (commandOf x) flags flags
   unfolding commandOf
   notes-add o q = rw q (record { is = λ l c s s′ r e h. rw (← carried-is l c s (Command.add o) s′ e) (settled-added l c s h o) })

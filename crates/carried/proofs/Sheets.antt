@@ -9,7 +9,7 @@ use native.Mathlib.Decide.{decLt}
 use lib.ListN.{length, getD, drop, replicate, length-replicate}
 use Rattle.rules.specs.Catalogue.{Catalogue}
 use Rattle.rules.specs.Records.{Kind, kindOf, ofSheet, read}
-use Rattle.rules.specs.State.{State, start}
+use Rattle.rules.specs.State.{State, start, decidedTrue}
 use Rattle.rules.specs.Limits.{Terms}
 use Rattle.rules.specs.Job.{reading, carrying, walk, runStep, startsSheet, refused, ended}
 use Rattle.rules.proofs.KindTable.{not-one}
@@ -26,6 +26,8 @@ use Rattle.state.specs.Layout.{held, Fits}
 use Rattle.encoder.specs.declared.Counters.{Counters}
 use Rattle.encoder.specs.Held.{LongEnough}
 use Rattle.encoder.specs.Did.{limitsOf}
+use Rattle.blocking.specs.Blocking.{Blocked}
+use Rattle.blocking.proofs.Blocking.{blocked-none}
 use Rattle.encoding.specs.Running.{Holds, Reaches}
 use Rattle.sheet.proofs.Held.{held-runs}
 use Rattle.carried.specs.declared.Step.{Step}
@@ -60,7 +62,7 @@ module _ (job : List ℕ) (from : ℕ) (c : Catalogue) (starts : from < length j
 -- ---- the loop
 
 -- the records before `at` were carried out; a run takes three bytes or more
-pub record Left (c : Catalogue) (l : Limits) (job : List ℕ) (from : ℕ) (s₀ cl₀ wt₀ : List ℕ) (flags : List ℕ) (at : ℕ) (m : Counters) (s cl wt : List ℕ) : Type 0 where
+pub record Left (c : Catalogue) (l : Limits) (job : List ℕ) (from : ℕ) (s₀ cl₀ wt₀ : List ℕ) (flags blocked watched : List ℕ) (at : ℕ) (m : Counters) (s cl wt : List ℕ) : Type 0 where
   pub state-same : length s ≡ length s₀
   pub clauses-same : length cl ≡ length cl₀
   pub waiting-same : length wt ≡ length wt₀
@@ -70,11 +72,13 @@ pub record Left (c : Catalogue) (l : Limits) (job : List ℕ) (from : ℕ) (s₀
   pub reached : Reached (limitsOf l) c state
   pub holds : Holds c l state m (held l s) cl wt
   pub settled : Settled c flags state
+  pub guarded : Blocked c (decidedTrue state) blocked watched
   pub alike : (t : Terms) → t .limits ≡ limitsOf l → endFrom t job from (reading c) ≡ endFrom t job at (carrying c state)
 
-pub left-start : (k : Counts) (u v w : List ℕ) (l : Limits) (job : List ℕ) (from : ℕ) (n : Counters) (s cl wt flags : List ℕ) → UpToSheet job from k u v w
-    → Holds (catalogue k u v w) l start n (held l s) cl wt → flags ≡ replicate 256 0 → Left (catalogue k u v w) l job from s cl wt flags from n s cl wt
-left-start k u v w l job from n s cl wt flags y h z =
+pub left-start : (k : Counts) (u v w : List ℕ) (l : Limits) (job : List ℕ) (from : ℕ) (n : Counters) (s cl wt flags blocked watched : List ℕ) → UpToSheet job from k u v w
+    → Holds (catalogue k u v w) l start n (held l s) cl wt → flags ≡ replicate 256 0 → blocked ≡ replicate 256 0 → watched ≡ replicate 1024 0
+    → Left (catalogue k u v w) l job from s cl wt flags blocked watched from n s cl wt
+left-start k u v w l job from n s cl wt flags blocked watched y h z b d =
     record {
       state-same = refl;
       clauses-same = refl;
@@ -85,11 +89,12 @@ left-start k u v w l job from n s cl wt flags y h z =
       reached = Reached.begun;
       holds = h;
       settled = rw z (settled-none (catalogue k u v w) 256 start);
+      guarded = blocked-none 256 b d;
       alike = λ t _. begins-alike job from (catalogue k u v w) (y .starts) t;
     }
 
-module _ {c : Catalogue} {l : Limits} {job : List ℕ} {from : ℕ} {s₀ cl₀ wt₀ flags : List ℕ} {at : ℕ} {m : Counters} {s cl wt : List ℕ}
-    (x : Left c l job from s₀ cl₀ wt₀ flags at m s cl wt) where
+module _ {c : Catalogue} {l : Limits} {job : List ℕ} {from : ℕ} {s₀ cl₀ wt₀ flags blocked watched : List ℕ} {at : ℕ} {m : Counters} {s cl wt : List ℕ}
+    (x : Left c l job from s₀ cl₀ wt₀ flags blocked watched at m s cl wt) where
   pub left-fits : Fits l (length s₀) → Fits l (length s)
   left-fits f = rw (x .state-same) f
 
@@ -99,14 +104,18 @@ module _ {c : Catalogue} {l : Limits} {job : List ℕ} {from : ℕ} {s₀ cl₀ 
   pub left-long : LongEnough l (length cl₀) (length wt₀) → LongEnough l (length cl) (length wt)
   left-long f = rw (x .clauses-same, x .waiting-same) f
 
+  pub left-room : length watched ≡ 1024
+  left-room = x .guarded .long
+
   pub left-few : at < length job → length job ≤ 65536 → m .runs < 65535
   left-few h k = omega (arith, x .few)
 
-  module _ {r : Step} (s′ : List ℕ) {cl′ wt′ : List ℕ} (g : Given c) (d : StepDid c flags l job at m (held l s) cl wt r (held l s′) cl′ wt′) where
+  module _ {r : Step} (s′ : List ℕ) {cl′ wt′ blocked′ watched′ : List ℕ} (g : Given c)
+      (d : StepDid c flags blocked watched l job at m (held l s) cl wt r (held l s′) cl′ wt′ blocked′ watched′) where
     pub left-next : (a : ℕ) (m′ : Counters) (o : code.Command) {flags′ : List ℕ} → r ≡ Step.Next a m′ o → Notes (commandOf o) flags flags′
-        → length s′ ≡ length s → length cl′ ≡ length cl → length wt′ ≡ length wt → length flags′ ≡ length flags → Left c l job from s₀ cl₀ wt₀ flags′ a m′ s′ cl′ wt′
+        → length s′ ≡ length s → length cl′ ≡ length cl → length wt′ ≡ length wt → length flags′ ≡ length flags → Left c l job from s₀ cl₀ wt₀ flags′ blocked′ watched′ a m′ s′ cl′ wt′
     left-next a m′ o e b p q v w =
-        let y = d .next a m′ o e (x .state) g (x .reached) (x .holds) (x .settled) in
+        let y = d .next a m′ o e (x .state) g (x .reached) (x .holds) (x .settled) (x .guarded) in
         record {
           state-same = p ∙ x .state-same;
           clauses-same = q ∙ x .clauses-same;
@@ -117,11 +126,12 @@ module _ {c : Catalogue} {l : Limits} {job : List ℕ} {from : ℕ} {s₀ cl₀ 
           reached = y .reached;
           holds = y .holds;
           settled = b .is (limitsOf l) c (x .state) (y .state) (x .reached) (y .is) (x .settled);
+          guarded = y .blocked;
           alike = λ t z. x .alike t z ∙ y .alike t z;
         }
 
     pub left-less : (a : ℕ) (m′ : Counters) (o : code.Command) → r ≡ Step.Next a m′ o → at < length job → length job - a < length job - at
-    left-less a m′ o e h = let y = d .next a m′ o e (x .state) g (x .reached) (x .holds) (x .settled) in omega (arith, y .onward)
+    left-less a m′ o e h = let y = d .next a m′ o e (x .state) g (x .reached) (x .holds) (x .settled) (x .guarded) in omega (arith, y .onward)
 
     pub left-refused : (f : Refusal) → r ≡ Step.Refused f → SheetDid c l job from (Sheet.Refused f at) (held l s′) cl′ wt′
     left-refused f e =

@@ -62,7 +62,7 @@ module _ {l : Limits} {c : Catalogue} {s : State} (r : Reached l c s) (level : �
       let u = undo-removes r level in
       rw (u .is) (first-decide (upToLevel level (s .decisions)) (u .removed) (pos x) e)
 
-  decided-before : (p : ℕ) → decidedTrue (setDecisions (upToLevel level (s .decisions)) s) p ≡ true → decidedTrue s p ≡ true
+  pub decided-before : (p : ℕ) → decidedTrue (setDecisions (upToLevel level (s .decisions)) s) p ≡ true → decidedTrue s p ≡ true
   unfolding decidedTrue
   decided-before p e =
       let v : ℕ = partVariable (s .variables) p in

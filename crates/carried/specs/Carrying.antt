@@ -1,12 +1,14 @@
 -- A job's state at the start, and its sheet carried out record by record.
 use mathlib.Core.Path.{_≡_}
-use mathlib.Core.Bool.{Bool, true}
+use mathlib.Core.Bool.{Bool, true, false}
 use mathlib.Core.List.{List}
 use Prim.Native.Nat.{ℕ, _+_, _<_, _≤_}
-use lib.ListN.{length, drop}
-use Rattle.rules.specs.Catalogue.{Catalogue}
+use lib.ListN.{length, getD, drop}
+use Rattle.rules.specs.Catalogue.{root, Catalogue}
 use Rattle.rules.specs.Refusals.{ok, refuse, numberAndPlace}
 use Rattle.rules.specs.Records.{Command}
+use Rattle.rules.specs.Variables.{Origin, chosen, partOrigin}
+use Rattle.rules.specs.Decisions.{Decision}
 use Rattle.rules.specs.State.{State, start, decidedTrue}
 use Rattle.rules.specs.Limits.{Terms}
 use Rattle.rules.specs.Limits as rules
@@ -18,9 +20,12 @@ use Rattle.refusal.specs.Refusing.{refusalOf}
 use Rattle.reader.specs.declared.Command as code
 use Rattle.reader.specs.Reading.{commandOf}
 use Rattle.state.specs.declared.Limits.{Limits}
+use Rattle.variable_map.specs.Mapping.{variables}
+use Rattle.decision_tracker.specs.Tracking.{decisions}
 use Rattle.entries.specs.Deferred.{isHeld}
 use Rattle.encoder.specs.declared.Counters.{Counters}
 use Rattle.encoder.specs.Did.{limitsOf}
+use Rattle.blocking.specs.Blocking.{Blocked}
 use Rattle.serving.specs.Flags.{Flagged}
 use Rattle.encoding.specs.Running.{Holds}
 use Rattle.commands.specs.declared.Outcome as commands
@@ -47,26 +52,48 @@ pub record Settled (c : Catalogue) (flags : List ℕ) (s : State) : Type 0 where
   pub given : (k : ℕ) → isHeld flags k ≡ true → k < length (c .conditions)
   pub idle : (k : ℕ) → isHeld flags k ≡ true → Idle c (decidedTrue s) k (s .opening)
 
--- b says that the command changes nothing where nothing of the flagged conditions is to be drawn
-pub record Idles (b : Bool) (o : Command) (flags : List ℕ) : Type 0 where
-  pub is : b ≡ true → (c : Catalogue) (s : State) → Settled c flags s → (l : rules.Limits) → carryOut l c o s ≡ ok s
+-- these are its variables and decisions
+pub record Has (vs : List Origin) (ds : List Decision) (s : State) : Type 0 where
+  pub variables : s .variables ≡ vs
+  pub decisions : s .decisions ≡ ds
+
+-- after the command the flagged conditions are blocked
+pub record Guards (c : Catalogue) (vs : List Origin) (ds : List Decision) (o : Command) (blocked watched blocked′ watched′ : List ℕ) : Type 0 where
+  pub is : (l : rules.Limits) (s s′ : State) → Reached l c s → Has vs ds s → carryOut l c o s ≡ ok s′ → Blocked c (decidedTrue s) blocked watched
+      → Blocked c (decidedTrue s′) blocked′ watched′
+
+-- b says that the command changes nothing, where nothing of the settled conditions is to be drawn
+pub record Idles (c : Catalogue) (vs : List Origin) (ds : List Decision) (o : Command) (settled blocked watched : List ℕ) (b : Bool) (blocked′ watched′ : List ℕ) : Type 0 where
+  pub is : b ≡ true → (l : rules.Limits) (s : State) → Given c → Reached l c s → Has vs ds s → Settled c settled s → Blocked c (decidedTrue s) blocked watched
+      → carryOut l c o s ≡ ok s
+  pub guards : Guards c vs ds o blocked watched blocked′ watched′
+
+-- if b is false, variable x is not that of a watched part, or gets another value than true
+pub record Meets (vs : List Origin) (x value : ℕ) (watched : List ℕ) (b : Bool) : Type 0 where
+  pub missed : b ≡ false → value ≡ 1 → (p : ℕ) → getD vs x (chosen root) ≡ partOrigin p → isHeld watched p ≡ false
+
+-- where no part was made true but that of variable x, by value 1, the flagged conditions are blocked
+pub record Unblocks (vs : List Origin) (x value : ℕ) (blocked watched blocked′ watched′ : List ℕ) : Type 0 where
+  pub is : {c : Catalogue} {true? now? : ℕ → Bool} → ((p : ℕ) → (value ≡ 1 → getD vs x (chosen root) ≡ partOrigin p → ⊥) → now? p ≡ true? p)
+      → Blocked c true? blocked watched → Blocked c now? blocked′ watched′
 
 -- after the command these are flags of that kind
 pub record Notes (o : Command) (flags flags′ : List ℕ) : Type 0 where
   pub is : (l : rules.Limits) (c : Catalogue) (s s′ : State) → Reached l c s → carryOut l c o s ≡ ok s′ → Settled c flags s → Settled c flags′ s′
 
 -- the command was carried out or refused, where nothing of the flagged conditions was to be drawn
-pub record SettledDid (c : Catalogue) (flags : List ℕ) (l : Limits) (o : Command) (n : Counters) (st : ℕ → List ℕ) (cl wt : List ℕ)
-    (r : commands.Outcome) (st′ : ℕ → List ℕ) (cl′ wt′ : List ℕ) : Type 0 where
+pub record SettledDid (c : Catalogue) (flags blocked watched : List ℕ) (l : Limits) (o : Command) (n : Counters) (st : ℕ → List ℕ) (cl wt : List ℕ)
+    (r : commands.Outcome) (st′ : ℕ → List ℕ) (cl′ wt′ blocked′ watched′ : List ℕ) : Type 0 where
   pub carried : (m : Counters) → r ≡ outcome.Carried m → (s : State) → Given c → Reached (limitsOf l) c s → Holds c l s n st cl wt → Settled c flags s
-      → Gives c l o s n m st′ cl′ wt′
+      → Blocked c (decidedTrue s) blocked watched → Gives c l o s n m st′ cl′ wt′
+  pub guards : Guards c (variables (n .variables) st) (decisions (n .decisions) st) o blocked watched blocked′ watched′
   pub refused : (f : Refusal) → r ≡ outcome.Refused f → (s : State) → Given c → Reached (limitsOf l) c s → Holds c l s n st cl wt
       → carryOut (limitsOf l) c o s ≡ refuse (refusalOf f)
 
 -- ---- a record
 
 -- the record at `at` was the command o, carried out in state s, and `next` is past it
-pub record Passed (c : Catalogue) (l : Limits) (job : List ℕ) (at next : ℕ) (o : Command) (s : State) (n m : Counters) (st′ : ℕ → List ℕ) (cl′ wt′ : List ℕ) : Type 0 where
+pub record Passed (c : Catalogue) (l : Limits) (job : List ℕ) (at next : ℕ) (o : Command) (s : State) (n m : Counters) (st′ : ℕ → List ℕ) (cl′ wt′ blocked′ watched′ : List ℕ) : Type 0 where
   pub onward : at + 3 ≤ next
   pub inside : next ≤ length job
   pub runs : m .runs ≤ n .runs + 1
@@ -74,13 +101,14 @@ pub record Passed (c : Catalogue) (l : Limits) (job : List ℕ) (at next : ℕ) 
   pub is : carryOut (limitsOf l) c o s ≡ ok state
   pub reached : Reached (limitsOf l) c state
   pub holds : Holds c l state m st′ cl′ wt′
+  pub blocked : Blocked c (decidedTrue state) blocked′ watched′
   pub alike : (t : Terms) → t .limits ≡ limitsOf l → endFrom t job at (carrying c s) ≡ endFrom t job next (carrying c state)
 
 -- it was carried out or refused, where nothing of the flagged conditions was to be drawn
-pub record StepDid (c : Catalogue) (flags : List ℕ) (l : Limits) (job : List ℕ) (at : ℕ) (n : Counters) (st : ℕ → List ℕ) (cl wt : List ℕ)
-    (r : Step) (st′ : ℕ → List ℕ) (cl′ wt′ : List ℕ) : Type 0 where
+pub record StepDid (c : Catalogue) (flags blocked watched : List ℕ) (l : Limits) (job : List ℕ) (at : ℕ) (n : Counters) (st : ℕ → List ℕ) (cl wt : List ℕ)
+    (r : Step) (st′ : ℕ → List ℕ) (cl′ wt′ blocked′ watched′ : List ℕ) : Type 0 where
   pub next : (a : ℕ) (m : Counters) (o : code.Command) → r ≡ Step.Next a m o → (s : State) → Given c → Reached (limitsOf l) c s → Holds c l s n st cl wt
-      → Settled c flags s → Passed c l job at a (commandOf o) s n m st′ cl′ wt′
+      → Settled c flags s → Blocked c (decidedTrue s) blocked watched → Passed c l job at a (commandOf o) s n m st′ cl′ wt′ blocked′ watched′
   pub refused : (f : Refusal) → r ≡ Step.Refused f → (s : State) → Given c → Reached (limitsOf l) c s → Holds c l s n st cl wt
       → (t : Terms) → t .limits ≡ limitsOf l → endFrom t job at (carrying c s) ≡ refused (numberAndPlace (length job) at (refusalOf f))
 

@@ -10,18 +10,21 @@ use tables::Counts;
 ghost use mathlib.Core.Path.{_≡_};
 ghost use Prim.Native.Nat.{_*_, _<_, _≤_};
 ghost use lib.ListN.{length, set, replicate};
-ghost use Rattle.rules.specs.State as rules;
+ghost use Rattle.rules.specs.Records as rules;
+ghost use Rattle.rules.specs.State.{start};
 ghost use Rattle.rules.proofs.Reached.{Given};
 ghost use Rattle.cache.specs.Areas.{catalogue};
 ghost use Rattle.catalogue.specs.Walking.{UpToSheet};
 ghost use Rattle.reader.specs.Reading.{commandOf};
 ghost use Rattle.state.specs.Layout.{held, Fits};
+ghost use Rattle.variable_map.specs.Mapping.{variables, Mapped};
+ghost use Rattle.decision_tracker.specs.Tracking.{decisions, Kept};
 ghost use Rattle.encoder.specs.Held.{LongEnough};
 ghost use Rattle.goals.specs.Goals.{Catalogued};
 ghost use Rattle.encoding.specs.Running.{Holds, Reaches};
 ghost use Rattle.serving.specs.Flags.{Flagged};
 ghost use Rattle.sheet.specs.Sheet.{FlaggedAfter};
-ghost use Rattle.carried.specs.Carrying.{Started, Idles, Notes, SettledDid, StepDid, FlaggedNext, SheetDid};
+ghost use Rattle.carried.specs.Carrying.{Started, Meets, Unblocks, Idles, Notes, SettledDid, StepDid, FlaggedNext, SheetDid};
 
 // Variable 0 is the root; clause 0, install, is stored at the start. The state area is zero.
 pub fn start(s: &mut [u8], clauses: &mut [u8], l: Limits) -> Counters
@@ -70,16 +73,6 @@ pub enum Sheet {
 
 // ---- draws that change nothing
 
-// Is the command a draw of a condition that is flagged?
-fn is_settled(settled: &[u8], command: Command) -> bool
-    ensures { λ b. ⌜ Idles b (commandOf command) (now (settled .entry)) ⌝ }
-{
-    match command {
-        Command::Draw(c) => commands::is_set(settled, c as usize),
-        _ => false,
-    }
-}
-
 // Flag i is set, if there is one.
 fn set_flag(flags: &mut [u8], i: usize)
     ensures { λ _. ⌜ now (flags .exit) ≡ set (now (flags .entry)) i 1 ⌝ }
@@ -103,9 +96,124 @@ fn note(settled: &mut [u8], command: Command)
     }
 }
 
+// Does the decision make a watched part true?
+fn meets(watched: &[u8; 1024], s: &[u8], l: Limits, n: Counters, variable: u16, value: u8) -> bool
+    requires { ⌜ Fits l (length (now s)) ⌝ }
+    requires { ⌜ n .variables ≤ l .variables ⌝ }
+    ensures { λ b. ⌜ Meets (variables (n .variables) (held l (now (s .entry)))) variable value (now (watched .entry)) b ⌝ }
+{
+    if value != 1 {
+        return false;
+    }
+    let origin = variable_map::origin_at(s, l, n.variables, variable as usize);
+    if origin.kind != 1 {
+        return false;
+    }
+    commands::is_set(watched, origin.number as usize)
+}
+
+// A decision: where it makes a watched part true, nothing is blocked or watched any more.
+fn unblock(
+    blocked: &mut [u8; 256],
+    watched: &mut [u8; 1024],
+    s: &[u8],
+    l: Limits,
+    n: Counters,
+    variable: u16,
+    value: u8,
+)
+    requires { ⌜ Fits l (length (now s)) ⌝ }
+    requires { ⌜ n .variables ≤ l .variables ⌝ }
+    ensures { λ _. ⌜ Unblocks (variables (n .variables) (held l (now (s .entry)))) variable value (now (blocked .entry)) (now (watched .entry)) (now (blocked .exit)) (now (watched .exit)) ⌝ }
+{
+    if meets(watched, s, l, n, variable, value) {
+        words::clear(blocked);
+        words::clear(watched);
+    }
+}
+
+// Does a draw of condition c change nothing? Nothing is to be drawn of it where it is flagged, or where no disjunct of it holds.
+fn draws_nothing(
+    settled: &[u8],
+    blocked: &mut [u8; 256],
+    watched: &mut [u8; 1024],
+    marks: &[u8],
+    unions: &[u8],
+    t: &[u8],
+    k: Counts,
+    s: &[u8],
+    l: Limits,
+    n: Counters,
+    c: usize,
+) -> bool
+    requires { ⌜ Catalogued k (now marks) (now unions) (now t) ⌝ }
+    requires { ⌜ Fits l (length (now s)) ⌝ }
+    requires { ⌜ Mapped l (n .variables) (held l (now s)) × Kept l (n .decisions) (held l (now s)) ⌝ }
+    requires { ⌜ length (now watched) ≡ 1024 ⌝ }
+    ensures { λ b. ⌜ Idles (catalogue k (now (marks .entry)) (now (unions .entry)) (now (t .entry))) (variables (n .variables) (held l (now (s .entry)))) (decisions (n .decisions) (held l (now (s .entry)))) (rules.Command.draw c) (now (settled .entry)) (now (blocked .entry)) (now (watched .entry)) b (now (blocked .exit)) (now (watched .exit)) ⌝ }
+{
+    if commands::is_set(settled, c) {
+        return true;
+    }
+    if c < k.conditions {
+        return blocking::blocks(marks, unions, t, k, s, l, n, c, blocked, watched);
+    }
+    false
+}
+
+// Is the command a draw that changes nothing? `blocked` and `watched` become what they are after the command.
+fn is_idle(
+    settled: &[u8],
+    blocked: &mut [u8; 256],
+    watched: &mut [u8; 1024],
+    marks: &[u8],
+    unions: &[u8],
+    t: &[u8],
+    k: Counts,
+    s: &[u8],
+    l: Limits,
+    n: Counters,
+    command: Command,
+) -> bool
+    requires { ⌜ Catalogued k (now marks) (now unions) (now t) ⌝ }
+    requires { ⌜ Fits l (length (now s)) ⌝ }
+    requires { ⌜ Mapped l (n .variables) (held l (now s)) × Kept l (n .decisions) (held l (now s)) ⌝ }
+    requires { ⌜ length (now watched) ≡ 1024 ⌝ }
+    ensures { λ b. ⌜ Idles (catalogue k (now (marks .entry)) (now (unions .entry)) (now (t .entry))) (variables (n .variables) (held l (now (s .entry)))) (decisions (n .decisions) (held l (now (s .entry)))) (commandOf command) (now (settled .entry)) (now (blocked .entry)) (now (watched .entry)) b (now (blocked .exit)) (now (watched .exit)) ⌝ }
+{
+    match command {
+        Command::Add(_) => false,
+        Command::Draw(c) => draws_nothing(
+            settled,
+            blocked,
+            watched,
+            marks,
+            unions,
+            t,
+            k,
+            s,
+            l,
+            n,
+            c as usize,
+        ),
+        Command::Run(_) => false,
+        Command::Decide {
+            variable,
+            value,
+            ..
+        } => {
+            unblock(blocked, watched, s, l, n, variable, value);
+            false
+        }
+        Command::Undo(_) => false,
+    }
+}
+
 // A command is carried out; a draw that changes nothing is passed over.
 fn carry_command(
     settled: &[u8],
+    blocked: &mut [u8; 256],
+    watched: &mut [u8; 1024],
     marks: &[u8],
     unions: &[u8],
     t: &[u8],
@@ -123,10 +231,23 @@ fn carry_command(
     requires { ⌜ Reaches (catalogue k (now marks) (now unions) (now t)) l n (held l (now s)) (now clauses) (now w) ⌝ }
     requires { ⌜ LongEnough l (length (now clauses)) (length (now w)) × (n .runs < 65535) ⌝ }
     requires { ⌜ Flagged (catalogue k (now marks) (now unions) (now t)) l (now goals) n (held l (now s)) ⌝ }
-    ensures { λ r. ⌜ SettledDid (catalogue k (now (marks .entry)) (now (unions .entry)) (now (t .entry))) (now (settled .entry)) l (commandOf command) n (held l (now (s .entry))) (now (clauses .entry)) (now (w .entry)) r (held l (now (s .exit))) (now (clauses .exit)) (now (w .exit)) ⌝ }
+    requires { ⌜ length (now watched) ≡ 1024 ⌝ }
+    ensures { λ r. ⌜ SettledDid (catalogue k (now (marks .entry)) (now (unions .entry)) (now (t .entry))) (now (settled .entry)) (now (blocked .entry)) (now (watched .entry)) l (commandOf command) n (held l (now (s .entry))) (now (clauses .entry)) (now (w .entry)) r (held l (now (s .exit))) (now (clauses .exit)) (now (w .exit)) (now (blocked .exit)) (now (watched .exit)) ⌝ }
     ensures { λ r. ⌜ FlaggedAfter (catalogue k (now (marks .entry)) (now (unions .entry)) (now (t .entry))) l (now (goals .exit)) r (held l (now (s .exit))) ⌝ }
 {
-    if is_settled(settled, command) {
+    if is_idle(
+        settled,
+        blocked,
+        watched,
+        marks,
+        unions,
+        t,
+        k,
+        s,
+        l,
+        n,
+        command,
+    ) {
         return Outcome::Carried(n);
     }
     sheet::carry_out(marks, unions, t, k, s, clauses, w, l, n, command, goals)
@@ -144,12 +265,14 @@ pub enum Step {
     Refused(Refusal),
 }
 
-// The command at `at` is read and carried out. `settled` flags conditions of which nothing is to be drawn, `goals`
-// goals whose candidates are settled.
+// The command at `at` is read and carried out. `settled` flags conditions of which nothing is to be drawn, `blocked` conditions
+// no disjunct of which holds until a part that `watched` flags is decided true, `goals` goals whose candidates are settled.
 fn carry_record(
     job: &[u8],
     at: usize,
     settled: &[u8],
+    blocked: &mut [u8; 256],
+    watched: &mut [u8; 1024],
     marks: &[u8],
     unions: &[u8],
     t: &[u8],
@@ -167,7 +290,8 @@ fn carry_record(
     requires { ⌜ Reaches (catalogue k (now marks) (now unions) (now t)) l n (held l (now s)) (now clauses) (now w) ⌝ }
     requires { ⌜ LongEnough l (length (now clauses)) (length (now w)) × (n .runs < 65535) ⌝ }
     requires { ⌜ Flagged (catalogue k (now marks) (now unions) (now t)) l (now goals) n (held l (now s)) ⌝ }
-    ensures { λ r. ⌜ StepDid (catalogue k (now (marks .entry)) (now (unions .entry)) (now (t .entry))) (now (settled .entry)) l (now (job .entry)) at n (held l (now (s .entry))) (now (clauses .entry)) (now (w .entry)) r (held l (now (s .exit))) (now (clauses .exit)) (now (w .exit)) ⌝ }
+    requires { ⌜ length (now watched) ≡ 1024 ⌝ }
+    ensures { λ r. ⌜ StepDid (catalogue k (now (marks .entry)) (now (unions .entry)) (now (t .entry))) (now (settled .entry)) (now (blocked .entry)) (now (watched .entry)) l (now (job .entry)) at n (held l (now (s .entry))) (now (clauses .entry)) (now (w .entry)) r (held l (now (s .exit))) (now (clauses .exit)) (now (w .exit)) (now (blocked .exit)) (now (watched .exit)) ⌝ }
     ensures { λ r. ⌜ FlaggedNext (catalogue k (now (marks .entry)) (now (unions .entry)) (now (t .entry))) l (now (goals .exit)) r (held l (now (s .exit))) ⌝ }
 {
     let next = reader::next_at(job, at);
@@ -178,6 +302,8 @@ fn carry_record(
             let command = reader::command_at(job, at, next);
             match carry_command(
                 settled,
+                blocked,
+                watched,
                 marks,
                 unions,
                 t,
@@ -221,10 +347,12 @@ pub fn carry_sheet(
     requires { ⌜ Given (catalogue k (now marks) (now unions) (now t)) ⌝ }
     requires { ⌜ Fits l (length (now s)) ⌝ }
     requires { ⌜ LongEnough l (length (now clauses)) (length (now w)) ⌝ }
-    requires { ⌜ Holds (catalogue k (now marks) (now unions) (now t)) l rules.start n (held l (now s)) (now clauses) (now w) ⌝ }
+    requires { ⌜ Holds (catalogue k (now marks) (now unions) (now t)) l start n (held l (now s)) (now clauses) (now w) ⌝ }
     ensures { λ r. ⌜ SheetDid (catalogue k (now (marks .entry)) (now (unions .entry)) (now (t .entry))) l (now (job .entry)) from r (held l (now (s .exit))) (now (clauses .exit)) (now (w .exit)) ⌝ }
 {
     let mut settled = [0u8; 256];
+    let mut blocked = [0u8; 256];
+    let mut watched = [0u8; 1024];
     let mut goals = [0u8; 640];
     let mut at = from;
     let mut m = n;
@@ -233,6 +361,8 @@ pub fn carry_sheet(
             job,
             at,
             &settled,
+            &mut blocked,
+            &mut watched,
             marks,
             unions,
             t,

@@ -5,17 +5,17 @@ use Rattle.sheet.proofs.Flags.{after-carried}
 use Rattle.carried.proofs.carry_command.Statement.{statement}
 use Rattle.carried.proofs.carry_command.Tie as tie
 
-is-settled-requires : tie.Need-is-settled-requires
-is-settled-requires c κs = search needs
-
-returns : tie.Need-returns
-returns c = (settled-passes (c .if1 .taken) (c .before .is-settled .ensures), after-carried (c .before .before .before .before .before .before .before .before .before .pre .1 .1 .1 .1))
-
-carry-out-requires : tie.Need-carry-out-requires
-carry-out-requires c κs = let p = (c .before .before .before .before .before .before .before .before .before .before .before .before .before .pre) in (p .0, (p .1 .0, (p .1 .1 .0, (p .1 .1 .1 .0, p .1 .1 .1 .1))))
+is-idle-requires : tie.Need-is-idle-requires
+is-idle-requires c κs = let p = (c .before .before .before .before .before .before .before .before .before .before .pre) in (p .0, (p .1 .0, (search needs, p .1 .1 .1 .1 .1)))
 
 same-length : tie.Need-same-length
 same-length c = search needs
+
+returns : tie.Need-returns
+returns c = (settled-passes (c .before .is-idle .ensures) (c .if1 .taken), after-carried (c .before .before .before .before .before .before .before .before .before .before .before .before .pre .1 .1 .1 .1 .0))
+
+carry-out-requires : tie.Need-carry-out-requires
+carry-out-requires c κs = let p = (c .before .before .before .before .before .before .before .before .before .before .before .before .before .before .before .before .pre) in (p .0, (p .1 .0, (p .1 .1 .0, (p .1 .1 .1 .0, p .1 .1 .1 .1 .0))))
 
 same-length-2 : tie.Need-same-length-2
 same-length-2 c = search needs
@@ -23,17 +23,21 @@ same-length-2 c = search needs
 same-length-3 : tie.Need-same-length-3
 same-length-3 c = search needs
 
+same-length-4 : tie.Need-same-length-4
+same-length-4 c = search needs
+
 returns-2 : tie.Need-returns-2
-returns-2 c = (settled-carries (c .before .before .before .before .before .before .carry-out .ensures .0), c .before .before .before .before .before .before .carry-out .ensures .1)
+returns-2 c = (settled-carries (c .before .before .before .before .before .before .before .before .before .before .before .before .is-idle .ensures) (c .before .before .before .before .before .before .carry-out .ensures .0), (c .before .before .before .before .before .before .carry-out .ensures .1))
 
 pub carry-command-spec : {M : Type 1} → statement M
 carry-command-spec =
     tie.close
     (tie.spec
-    is-settled-requires
+    is-idle-requires
+    same-length
     returns
     carry-out-requires
-    same-length
     same-length-2
     same-length-3
+    same-length-4
     returns-2)

@@ -1,0 +1,5 @@
+pub mod Barring
+pub mod Verdicts
+pub mod Asking
+pub mod Watching
+pub mod Blocking

@@ -1,0 +1,161 @@
+-- Parts are watched: those of a range, and those of all ranges that do not hold.
+use mathlib.Core.Path.{_≡_, refl, sym, _∙_}
+use mathlib.Core.Bool.{Bool, true, false, true≢false, false≢true}
+use mathlib.Core.List.{List}
+use Prim.Native.Nat.{ℕ, _+_, _<_, _≤_}
+use native.Mathlib.Omega.{arith}
+use lib.Dec.{eqb, ltb}
+use lib.ListN.{length, getD, set, length-set}
+use lib.Seq.{getD-set-same, getD-set-other}
+use borrow.Author.Tests.{eqb-true, eqb-false, ltb-true}
+use Rattle.rules.specs.Lists.{any, all, upTo}
+use Rattle.rules.specs.Called.{_∈_}
+use Rattle.rules.specs.Catalogue.{Catalogue}
+use Rattle.rules.specs.Candidates.{matching}
+use Rattle.rules.proofs.Bools.{by-cases}
+use Rattle.rules.proofs.Member.{all-out, all-in, none-out, filter-out, filter-in, upTo-out, upTo-in}
+use Rattle.tables.specs.declared.Counts.{Counts}
+use Rattle.cache.specs.declared.Choice.the-variants.{Matching}
+use Rattle.cache.specs.Areas.{catalogue}
+use Rattle.cache.specs.Lists.{chosen, choice}
+use Rattle.cache.proofs.Laws.{parts-held, ranges-held}
+use Rattle.cache.proofs.Lists.{matching-is}
+use Rattle.index.specs.Chains.{Skips}
+use Rattle.index.proofs.Walking.{walk}
+use Rattle.entries.specs.Deferred.{isHeld, isFree}
+use Rattle.blocking.specs.Blocking.{fails, allWatched, Unmet, RangeWatched, Watched}
+use Rattle.blocking.proofs.Verdicts.{fails-in, fails-out}
+
+-- ---- one flag more
+
+module _ (flags : List ℕ) (p : ℕ) where
+  held-there : p < length flags → isHeld (set flags p 1) p ≡ true
+  unfolding isHeld isFree
+  held-there h = rw (getD-set-same flags p 1 0 h)
+
+  held-other : (q : ℕ) → (q ≡ p → ⊥) → isHeld (set flags p 1) q ≡ isHeld flags q
+  unfolding isHeld isFree
+  held-other q n = rw (getD-set-other flags p q 1 0 n)
+
+-- ---- the parts of range r
+
+-- the loop at part p
+pub record Watching (c : Catalogue) (r p : ℕ) (watched watched′ : List ℕ) : Type 0 where
+  pub room : length watched ≡ 1024
+  pub long : length watched′ ≡ length watched
+  pub still : (q : ℕ) → isHeld watched q ≡ true → isHeld watched′ q ≡ true
+  pub passed : (q : ℕ) → q < p → chosen c r Matching q ≡ true → isHeld watched′ q ≡ true
+  pub unmet : (f : ℕ → Bool) → any f (matching c r) ≡ false → Unmet f watched → Unmet f watched′
+
+module _ (k : Counts) (m u t : List ℕ) (r : ℕ) where
+  abbrev C : Catalogue
+  C = catalogue k m u t
+
+  is-match : (p : ℕ) → p < k .parts → chosen C r Matching p ≡ true → p ∈ matching C r
+  unfolding choice
+  is-match p h e =
+      rw (← matching-is C r) (filter-in (chosen C r Matching) (upTo 0 (length (C .parts))) p (upTo-in 0 (length (C .parts)) p (omega arith) (omega (arith, parts-held k m u t))) e)
+
+  match-is : (p : ℕ) → p ∈ matching C r → (p < k .parts) × (chosen C r Matching p ≡ true)
+  unfolding choice
+  match-is p h =
+      let q = filter-out (chosen C r Matching) (upTo 0 (length (C .parts))) p (rw (matching-is C r) h) in
+      (omega (arith, parts-held k m u t, upTo-out 0 (length (C .parts)) p (q .0) .1), q .1)
+
+  module _ {w : List ℕ} where
+    -- past a part that does not match
+    watch-next : {w′ : List ℕ} (i : ℕ) → chosen C r Matching i ≡ false → Watching C r i w w′ → Watching C r (i + 1) w w′
+    watch-next i e z =
+        record {
+          room = z .room;
+          long = z .long;
+          still = z .still;
+          passed = λ q l d. by-cases (eqb q i) (λ j. absurd (true≢false (sym d ∙ rw (eqb-true q i j) e))) (λ j. z .passed q (omega (arith, eqb-false q i j)) d);
+          unmet = z .unmet;
+        }
+
+    watch-on : {p x : ℕ} {w′ : List ℕ} → Skips (k .parts) (chosen C r Matching) p x → Watching C r p w w′ → Watching C r x w w′
+    watch-on {p} {x} {w′} s y = walk (λ i. Watching C r i w w′) (λ i h e z. watch-next i e z) s y
+
+    pub watch-first : {x : ℕ} → length w ≡ 1024 → Skips (k .parts) (chosen C r Matching) 0 x → Watching C r x w w
+    watch-first h s =
+        watch-on s (record { room = h; long = refl; still = λ q e. e; passed = λ q l d. let no : ⊥ = omega arith in absurd no; unmet = λ f e o. o })
+
+    module _ {p x : ℕ} {w′ : List ℕ} (y : Watching C r p w w′) (b : Bool) (h : p < k .parts) (e : b ≡ chosen C r Matching p)
+        (s : Skips (k .parts) (chosen C r Matching) (p + 1) x) where
+      pub watch-past : {w″ : List ℕ} → b ≡ false → w″ ≡ w′ → Watching C r x w w″
+      watch-past d v = rw v (watch-on s (watch-next p (sym e ∙ d) y))
+
+      pub watch-flag : {w″ : List ℕ} → k .parts ≤ 1024 → b ≡ true → w″ ≡ set w′ p 1 → Watching C r x w w″
+      watch-flag most d v =
+          rw v (watch-on s (record {
+            room = y .room;
+            long = length-set w′ p 1 ∙ y .long;
+            still = λ q i. by-cases (eqb q p) (λ j. here q j) (λ j. other q j ∙ y .still q i);
+            passed = λ q l c. by-cases (eqb q p) (λ j. here q j) (λ j. other q j ∙ y .passed q (omega (arith, eqb-false q p j)) c);
+            unmet = λ f n o. record {
+              none = λ q i. by-cases (eqb q p) (λ j. rw (eqb-true q p j) (none-out f (matching C r) n p (is-match p h (sym e ∙ d)))) (λ j. y .unmet f n o .none q (sym (other q j) ∙ i));
+            };
+          }))
+        where
+          here : (q : ℕ) → eqb q p ≡ true → isHeld (set w′ p 1) q ≡ true
+          here q j = rw (eqb-true q p j) (held-there w′ p (omega (arith, y .long, y .room)))
+
+          other : (q : ℕ) → eqb q p ≡ false → isHeld (set w′ p 1) q ≡ isHeld w′ q
+          other q j = held-other w′ p q (eqb-false q p j)
+
+    module _ {vs : List ℕ} {p : ℕ} {w′ : List ℕ} (y : Watching C r p w w′) (e : getD vs (256 + r) 0 ≡ 2) where
+      watched-range : (left : ℕ) → (1 ≤ left → allWatched C w′ r ≡ true) → RangeWatched C vs r left w w′
+      watched-range left a = record { long = y .long; still = y .still; all = λ h _. a h; unmet = λ f n o. y .unmet f (n (fails-in vs r e)) o }
+
+      -- not all of them
+      pub watched-some : RangeWatched C vs r 0 w w′
+      watched-some = watched-range 0 (λ h. let no : ⊥ = omega arith in absurd no)
+
+      -- all
+      pub watched-all : (left : ℕ) → k .parts ≤ p → RangeWatched C vs r left w w′
+      unfolding allWatched
+      watched-all left h = watched-range left (λ _. all-in (isHeld w′) (matching C r) (λ q m. let d = match-is q m in y .passed q (omega (arith, d .0)) (d .1)))
+
+    -- it was not asked, or it holds
+    pub watched-none : {vs : List ℕ} (left : ℕ) → (getD vs (256 + r) 0 ≡ 2 → ⊥) → RangeWatched C vs r left w w
+    watched-none {vs} left n = record { long = refl; still = λ q e. e; all = λ h e. absurd (n (fails-out vs r e)); unmet = λ f d o. o }
+
+-- ---- the ranges
+
+-- the loop at range r
+pub record RangesWatched (c : Catalogue) (vs : List ℕ) (r left : ℕ) (watched watched′ : List ℕ) : Type 0 where
+  pub long : length watched′ ≡ length watched
+  pub still : (p : ℕ) → isHeld watched p ≡ true → isHeld watched′ p ≡ true
+  pub all : 1 ≤ left → (i : ℕ) → i < r → fails vs i ≡ true → allWatched c watched′ i ≡ true
+  pub unmet : (f : ℕ → Bool) → ((i : ℕ) → fails vs i ≡ true → any f (matching c i) ≡ false) → Unmet f watched → Unmet f watched′
+
+pub all-more : (c : Catalogue) (w w′ : List ℕ) → ((p : ℕ) → isHeld w p ≡ true → isHeld w′ p ≡ true) → (r : ℕ) → allWatched c w r ≡ true → allWatched c w′ r ≡ true
+unfolding allWatched
+all-more c w w′ h r e = all-in (isHeld w′) (matching c r) (λ p m. h p (all-out (isHeld w) (matching c r) e p m))
+
+pub ranges-start : (c : Catalogue) (vs : List ℕ) (left : ℕ) {w : List ℕ} → RangesWatched c vs 0 left w w
+ranges-start c vs left = record { long = refl; still = λ p e. e; all = λ h i l. let no : ⊥ = omega arith in absurd no; unmet = λ f n o. o }
+
+module _ {c : Catalogue} {vs : List ℕ} {r left : ℕ} {w w₁ : List ℕ} (y : RangesWatched c vs r left w w₁) where
+  pub ranges-room : length w ≡ 1024 → length w₁ ≡ 1024
+  ranges-room h = y .long ∙ h
+
+  pub ranges-step : {left₂ : ℕ} {w₂ : List ℕ} → (left ≡ 0 → ⊥) → RangeWatched c vs r left₂ w₁ w₂ → RangesWatched c vs (r + 1) left₂ w w₂
+  ranges-step {left₂} {w₂} n d =
+      record {
+        long = d .long ∙ y .long;
+        still = λ p e. d .still p (y .still p e);
+        all = λ h i l e. by-cases (eqb i r) (λ j. let q = eqb-true i r j in rw q (d .all h (rw q at e)))
+            (λ j. all-more c w₁ w₂ (d .still) i (y .all (omega (arith, n)) i (omega (arith, eqb-false i r j)) e));
+        unmet = λ f e o. d .unmet f (e r) (y .unmet f e o);
+      }
+
+  -- nothing is left
+  pub ranges-some : Watched c vs false w w₁
+  ranges-some = record { long = y .long; still = y .still; all = λ h. absurd (false≢true h); unmet = y .unmet }
+
+pub ranges-end : (k : Counts) (m u t : List ℕ) {vs : List ℕ} {r left : ℕ} {w w₁ : List ℕ} → RangesWatched (catalogue k m u t) vs r left w w₁ → k .ranges ≤ r
+    → Watched (catalogue k m u t) vs (ltb 0 left) w w₁
+ranges-end k m u t {left = left} y h =
+    record { long = y .long; still = y .still; all = λ e i l. y .all (ltb-true 0 left e) i (omega (arith, ranges-held k m u t)); unmet = y .unmet }
