@@ -1,10 +1,10 @@
--- An area of zeros with the root's variable, and the clauses' area with install, hold the state at the start.
+-- A state area that was cleared, with the root's variable, and the clauses' area with install, hold the state at the start.
 use mathlib.Core.Path.{_≡_, refl}
 use mathlib.Core.Bool.{false}
 use mathlib.Core.List.{List, [], _∷_}
 use Prim.Native.Nat.{ℕ, _+_, _<_, _≤_, zero-le}
 use native.Mathlib.Omega.{arith}
-use lib.ListN.{length, replicate}
+use lib.ListN.{length}
 use Rattle.rules.specs.Lists.{snoc, any, filter, upTo, sum}
 use Rattle.rules.specs.Clause.{conditionLiterals}
 use Rattle.rules.specs.Catalogue.{Catalogue}
@@ -14,9 +14,8 @@ use Rattle.rules.proofs.Each.{Each}
 use Rattle.rules.proofs.Forgotten.{forget}
 use Rattle.tables.specs.Tables as tables
 use Rattle.state.specs.declared.Limits.{Limits}
-use Rattle.state.specs.Changed.{Blank}
+use Rattle.state.specs.Changed.{Blank, Cleared}
 use Rattle.state.specs.Layout.{held, Fits}
-use Rattle.state.proofs.Changed.{held-blank}
 use Rattle.variable_map.specs.Mapping.{variables, Grown}
 use Rattle.decision_tracker.specs.Tracking.{decisions}
 use Rattle.decision_tracker.proofs.Laws.{kept-none, kept-kept}
@@ -30,9 +29,8 @@ use Rattle.encoder.specs.declared.Counters.{Counters}
 use Rattle.encoder.specs.Held.{Reading, clauseIn, clausesIn, conflictIf, conflictsFrom, openingOf, stateOf, GoodState, GoodClauses}
 use Rattle.carried.specs.Carrying.{Started}
 
--- the slots of an area of zeros
-pub slots-blank : (l : Limits) (b : List ℕ) → b ≡ replicate (length b) 0 → Blank 0 (held l b)
-slots-blank l b e = rw e (held-blank l (length b) 0)
+pub slots-blank : {st : ℕ → List ℕ} → Cleared st → Blank 0 st
+slots-blank z = z .first 0 (omega arith)
 
 -- the counters at the start
 abbrev counters : (variables clauses : ℕ) → Counters
@@ -56,20 +54,20 @@ counters v k =
       full = 0;
     }
 
-module _ (l : Limits) (size v : ℕ) {st : ℕ → List ℕ} (f : Fits l size) (g : Grown l v (start .variables) (held l (replicate size 0)) st) where
+module _ (l : Limits) (b : List ℕ) (v : ℕ) {st : ℕ → List ℕ} (f : Fits l (length b)) (z : Cleared (held l b)) (g : Grown l v (start .variables) (held l b) st) where
   start-state : (c : Catalogue) (k : ℕ) → GoodState c l (counters v k) st
   unfolding any listed trackedOf filter
   start-state c k =
       record {
         mapped = g .mapped;
-        kept = kept-kept (g .rest) refl refl (kept-none l _ (held-blank l size 17));
-        owners = marked-same (owners-start l size f) (g .rest) refl refl;
-        names = marked-same (names-start l size f) (g .rest) refl refl;
+        kept = kept-kept (g .rest) refl refl (kept-none l _ (z .values));
+        owners = marked-same (owners-start l b f z) (g .rest) refl refl;
+        names = marked-same (names-start l b f z) (g .rest) refl refl;
         several = zero-le;
-        added = marked-same (added-start l size f) (g .rest) refl refl;
-        named = marked-same (named-start l size f) (g .rest) refl refl;
-        tracked = marked-same (tracked-start l size f) (g .rest) refl refl;
-        counted = λ m _. rw (g .rest .same 12 refl) (held-blank l size 12 .zeros m);
+        added = marked-same (added-start l b f z) (g .rest) refl refl;
+        named = marked-same (named-start l b f z) (g .rest) refl refl;
+        tracked = marked-same (tracked-start l b f z) (g .rest) refl refl;
+        counted = λ m _. rw (g .rest .same 12 refl) (z .first 12 (omega arith) .zeros m);
         literals = zero-le;
         before = zero-le;
         room = zero-le;
@@ -77,7 +75,7 @@ module _ (l : Limits) (size v : ℕ) {st : ℕ → List ℕ} (f : Fits l size) (
 
   start-hand : Marked 14 15 0 st
   unfolding any
-  start-hand = marked-same (marked-blank l size 14 15 (omega arith) (omega arith) (λ e. omega arith) (omega arith) (omega arith) f) (g .rest) refl refl
+  start-hand = marked-same (marked-blank l b 14 15 (omega arith) (omega arith) (λ e. omega arith) (omega arith) (omega arith) f (z .ranges)) (g .rest) refl refl
 
   module _ (k : ℕ) (cl : List ℕ) (e : rows k cl ≡ noRow ∷ []) (c : Catalogue) where
     start-clauses : k ≤ l .clauses → GoodClauses c l (counters v k) st cl
@@ -107,16 +105,15 @@ only-row k cl cl′ x e q = rw q at e
 abbrev install : Stored
 install = record { kind = 0; first = 0; second = 0; start = 0; count = 0; form = 0; number = 0; conflict = 0 }
 
-pub started : (l : Limits) (b b′ cl cl′ : List ℕ) (v k : ℕ) → Fits l (length b) → b ≡ replicate (length b) 0 → 0 < l .clauses
+pub started : (l : Limits) (b b′ cl cl′ : List ℕ) (v k : ℕ) → Fits l (length b) → Cleared (held l b) → 0 < l .clauses
     → Grown l v (start .variables) (held l b) (held l b′) → k ≡ 0 + 1 → rows k cl′ ≡ snoc (rows 0 cl) (rowOf install) → Started l (counters v k) (held l b′) cl′
 started l b b′ cl cl′ v k f z h g e r =
-    let y : Grown l v (start .variables) (held l (replicate (length b) 0)) (held l b′) = rw z at g in
     let q = only-row k cl cl′ install r (unfold rowOf in refl) in
     record {
       holds = λ c wt. record {
-        good = record { state = start-state l (length b) v f y c k; clauses = start-clauses l (length b) v f y k cl′ q c (omega arith); entries = zero-le };
-        hand = start-hand l (length b) v f y;
+        good = record { state = start-state l b v f z g c k; clauses = start-clauses l b v f z g k cl′ q c (omega arith); entries = zero-le };
+        hand = start-hand l b v f z g;
         room = refl;
-        is = start-is l (length b) v f y k cl′ q c wt;
+        is = start-is l b v f z g k cl′ q c wt;
       };
     }

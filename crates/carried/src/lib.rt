@@ -9,13 +9,14 @@ use state::Limits;
 use tables::Counts;
 ghost use mathlib.Core.Path.{_≡_};
 ghost use Prim.Native.Nat.{_*_, _<_, _≤_};
-ghost use lib.ListN.{length, set, replicate};
+ghost use lib.ListN.{length, set};
 ghost use Rattle.rules.specs.Records as rules;
 ghost use Rattle.rules.specs.State.{start};
 ghost use Rattle.rules.proofs.Reached.{Given};
 ghost use Rattle.cache.specs.Areas.{catalogue};
 ghost use Rattle.catalogue.specs.Walking.{UpToSheet};
 ghost use Rattle.reader.specs.Reading.{commandOf};
+ghost use Rattle.state.specs.Changed.{Cleared};
 ghost use Rattle.state.specs.Layout.{held, Fits};
 ghost use Rattle.variable_map.specs.Mapping.{variables, Mapped};
 ghost use Rattle.decision_tracker.specs.Tracking.{decisions, Kept};
@@ -26,10 +27,10 @@ ghost use Rattle.serving.specs.Flags.{Flagged};
 ghost use Rattle.sheet.specs.Sheet.{FlaggedAfter};
 ghost use Rattle.carried.specs.Carrying.{Started, Meets, Unblocks, Idles, Notes, SettledDid, StepDid, FlaggedNext, SheetDid};
 
-// Variable 0 is the root; clause 0, install, is stored at the start. The state area is zero.
+// Variable 0 is the root; clause 0, install, is stored at the start. The state area was cleared.
 pub fn start(s: &mut [u8], clauses: &mut [u8], l: Limits) -> Counters
     requires { ⌜ Fits l (length (now s)) ⌝ }
-    requires { ⌜ now s ≡ replicate (length (now s)) 0 ⌝ }
+    requires { ⌜ Cleared (held l (now s)) ⌝ }
     requires { ⌜ (0 < l .variables) × (0 < l .clauses) × (l .clauses * 20 ≤ length (now clauses)) ⌝ }
     ensures { λ n. ⌜ Started l n (held l (now (s .exit))) (now (clauses .exit)) ⌝ }
 {

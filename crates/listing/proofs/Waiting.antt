@@ -7,7 +7,7 @@ use Prim.Native.Nat.{ℕ, _<_}
 use native.Mathlib.Omega.{arith}
 use lib.ListN.{length, getD}
 use borrow.Author.Tests.{eqb-true, eq-eqb}
-use Rattle.rules.specs.Lists.{filter, concatMap}
+use Rattle.rules.specs.Lists.{filter, concatMap, upTo}
 use Rattle.rules.specs.Catalogue.{Requirement, Catalogue, noRequirement, requirementAt, conditionAt}
 use Rattle.rules.specs.Conditions.{disjuncts, disjunctsIf, isCondition, disjunctsOf, disjunctAt}
 use Rattle.rules.specs.Items as items
@@ -15,7 +15,7 @@ use Rattle.rules.specs.Listing.{ascii, decimal, line, ownerField, goalFields, w
 use Rattle.rules.proofs.Each.{Each, each-at}
 use Rattle.rules.proofs.Valid.{Entry}
 use Rattle.text.specs.Text.{Wrote, fields}
-use Rattle.text.proofs.Written.{fields-first, fields-then, line-is}
+use Rattle.text.proofs.Written.{fields-first, fields-then, line-is, nothing}
 use Rattle.requirement.specs.declared.ConditionalRequirement.{ConditionalRequirement}
 use Rattle.requirement.specs.Requirements.{goalOf, requirementIs, formOf, numberOf}
 use Rattle.requirement.proofs.Laws.{goal-from-parts}
@@ -28,7 +28,7 @@ use Rattle.entries.specs.declared.Entry as entries
 use Rattle.entries.specs.Entries.{noEntry, entryOf, waitingIn}
 use Rattle.encoder.proofs.Frames.{waiting-counted}
 use Rattle.goals.specs.Goals.{AllGiven}
-use Rattle.line_fields.specs.Listed.{ownerBut, entryFields, entryText}
+use Rattle.line_fields.specs.Listed.{ownerBut, entryFields, entryText, conditionText, texts}
 use Rattle.listing.specs.Chains.{isUnder}
 
 -- ---- an entry's fields and its line
@@ -115,3 +115,16 @@ module _ (c : Catalogue) (l : Limits) (n : ℕ) (w : List ℕ) (i : ℕ) (x : en
 pub no-line : (c : Catalogue) (es : List (ℕ × ℕ)) (k i : ℕ) → isUnder c es k i ≡ false → entryText c es k i ≡ []
 unfolding isUnder entryText
 no-line c es k i e = no-entry c k (getD es i noEntry .0) (getD es i noEntry .1) e
+
+-- ---- no entry
+
+no-lines : (c : Catalogue) (es : List (ℕ × ℕ)) (ks : List ℕ) → concatMap (conditionText c es 0) ks ≡ []
+unfolding concatMap conditionText texts upTo
+no-lines c es [] = refl
+no-lines c es (k ∷ ks) = no-lines c es ks
+
+-- where none waits nothing is printed
+pub none-waiting : (c : Catalogue) (es : List (ℕ × ℕ)) (n conditions : ℕ) {at room : ℕ} {o : List ℕ} → n ≡ 0
+    → Wrote at at (texts (conditionText c es n) conditions) room o o
+unfolding texts
+none-waiting c es n conditions {at} {room} {o} e = rw (e, no-lines c es (upTo 0 conditions)) (nothing room at o)

@@ -210,7 +210,7 @@ fn chained_lines(
     a
 }
 
-// The same, after making the chains.
+// The same, after making the chains; nothing where no entry waits.
 fn waiting_lines(
     marks: &[u8],
     unions: &[u8],
@@ -230,6 +230,9 @@ fn waiting_lines(
     requires { ⌜ AllGiven (catalogue k (now marks) (now unions) (now t)) (waitingIn l (n .waiting) (now w)) ⌝ }
     ensures { λ r. ⌜ Wrote at r (texts (conditionText (catalogue k (now (marks .entry)) (now (unions .entry)) (now (t .entry))) (waitingIn l (n .waiting) (now (w .entry))) (n .waiting)) (k .conditions)) room (now (out .entry)) (now (out .exit)) ⌝ }
 {
+    if n.waiting == 0 {
+        return at;
+    }
     let mut heads = [n.waiting as u16; 256];
     let mut links = [0; 2048];
     chains::link_entries(marks, unions, t, k, w, l, n, &mut heads, &mut links);

@@ -8,7 +8,7 @@ use native.Mathlib.Numerals.{add-one}
 use native.Mathlib.Decide.{decLt}
 use native.Mathlib.Omega.{arith}
 use lib.Dec.{eqb}
-use lib.ListN.{length, getD, take, set, replicate, length-replicate, List·getD-eq-default}
+use lib.ListN.{length, getD, take, set, List·getD-eq-default}
 use lib.Seq.{length-take-le, take-suc, take-suc-set, take-all, getD-take, getD-set-same, getD-set-other}
 use borrow.Author.Tests.{eqb-true, eqb-false, eq-eqb}
 use Rattle.rules.specs.Lists.{any, elem, snoc}
@@ -21,8 +21,8 @@ use Rattle.rules.proofs.HelperCounts.{few-below}
 use Rattle.regions.specs.Regions.{stored}
 use Rattle.state.specs.declared.Limits.{Limits}
 use Rattle.state.specs.Layout.{held, Fits}
-use Rattle.state.specs.Changed.{Changed, Blank}
-use Rattle.state.proofs.Changed.{stored-here, stored-other, changed-stored, changed-then, held-blank}
+use Rattle.state.specs.Changed.{Changed, Blank, Cleared}
+use Rattle.state.proofs.Changed.{stored-here, stored-other, changed-stored, changed-then}
 use Rattle.state.proofs.Laws.{fixed}
 use Rattle.state.proofs.Sizes.{length-fixed, length-stored, zero-stored}
 use Rattle.marked.specs.Marked.{listed, isMarked, Marked, Free, Pushed, Emptied}
@@ -232,31 +232,29 @@ pub marked-start : {r m : ℕ} {st : ℕ → List ℕ} → (r ≡ m → ⊥) →
 unfolding listed any
 marked-start a s h z = record { apart = a; short = s; room = h; most = zero-le; once = empty; marks = z .zeros }
 
--- at the start of a job, in any two of the regions 0 to 15 that are long enough
-pub marked-blank : (l : Limits) (k r m : ℕ) → r < 16 → m < 16 → (r ≡ m → ⊥) → getD fixed r 0 ≤ 1025 → getD fixed m 0 ≤ getD fixed r 0
-    → Fits l k → Marked r m 0 (held l (replicate k 0))
-marked-blank l k r m h g a s q f =
-    let area : List ℕ = replicate k 0 in
-    let fits : Fits l (length area) = rw length-replicate f in
-    let p = length-fixed l area r h fits in
-    let t = length-fixed l area m g fits in
-    marked-start a (omega arith) (omega arith) (held-blank l k m)
+-- at the start of a sheet, in any two of the regions 0 to 15 that are long enough
+pub marked-blank : (l : Limits) (b : List ℕ) (r m : ℕ) → r < 16 → m < 16 → (r ≡ m → ⊥) → getD fixed r 0 ≤ 1025 → getD fixed m 0 ≤ getD fixed r 0
+    → Fits l (length b) → Blank m (held l b) → Marked r m 0 (held l b)
+marked-blank l b r m h g a s q f z =
+    let p = length-fixed l b r h f in
+    let t = length-fixed l b m g f in
+    marked-start a (omega arith) (omega arith) z
 
-module _ (l : Limits) (k : ℕ) (f : Fits l k) where
-  pub owners-start : Marked 1 2 0 (held l (replicate k 0))
-  owners-start = marked-blank l k 1 2 (omega arith) (omega arith) (λ e. omega arith) (omega arith) (omega arith) f
+module _ (l : Limits) (b : List ℕ) (f : Fits l (length b)) (z : Cleared (held l b)) where
+  pub owners-start : Marked 1 2 0 (held l b)
+  owners-start = marked-blank l b 1 2 (omega arith) (omega arith) (λ e. omega arith) (omega arith) (omega arith) f (z .first 2 (omega arith))
 
-  pub names-start : Marked 3 4 0 (held l (replicate k 0))
-  names-start = marked-blank l k 3 4 (omega arith) (omega arith) (λ e. omega arith) (omega arith) (omega arith) f
+  pub names-start : Marked 3 4 0 (held l b)
+  names-start = marked-blank l b 3 4 (omega arith) (omega arith) (λ e. omega arith) (omega arith) (omega arith) f (z .first 4 (omega arith))
 
-  pub added-start : Marked 6 7 0 (held l (replicate k 0))
-  added-start = marked-blank l k 6 7 (omega arith) (omega arith) (λ e. omega arith) (omega arith) (omega arith) f
+  pub added-start : Marked 6 7 0 (held l b)
+  added-start = marked-blank l b 6 7 (omega arith) (omega arith) (λ e. omega arith) (omega arith) (omega arith) f (z .first 7 (omega arith))
 
-  pub named-start : Marked 8 9 0 (held l (replicate k 0))
-  named-start = marked-blank l k 8 9 (omega arith) (omega arith) (λ e. omega arith) (omega arith) (omega arith) f
+  pub named-start : Marked 8 9 0 (held l b)
+  named-start = marked-blank l b 8 9 (omega arith) (omega arith) (λ e. omega arith) (omega arith) (omega arith) f (z .first 9 (omega arith))
 
-  pub tracked-start : Marked 10 11 0 (held l (replicate k 0))
-  tracked-start = marked-blank l k 10 11 (omega arith) (omega arith) (λ e. omega arith) (omega arith) (omega arith) f
+  pub tracked-start : Marked 10 11 0 (held l b)
+  tracked-start = marked-blank l b 10 11 (omega arith) (omega arith) (λ e. omega arith) (omega arith) (omega arith) f (z .first 11 (omega arith))
 
 -- a number can have a mark in one of those regions
 pub mark-room : (l : Limits) (bytes : List ℕ) (m x : ℕ) → m < 16 → x < getD fixed m 0 → Fits l (length bytes) → x < length (held l bytes m)

@@ -1,11 +1,11 @@
 -- The definitions' walk over a job, cut where the catalogue ends and where the sheet does.
-use mathlib.Core.Path.{_≡_, refl, sym, _∙_, ap}
+use mathlib.Core.Path.{_≡_, refl, _∙_, ap}
 use mathlib.Core.List.{List, []}
 use mathlib.Core.Logic.{_⊎_, inl, inr}
 use Prim.Native.Nat.{ℕ, _+_}
 use native.Mathlib.Omega.{arith}
 use native.Mathlib.Decide.{decLt}
-use lib.ListN.{length, getD, drop, replicate}
+use lib.ListN.{length, getD, drop}
 use Rattle.rules.specs.Catalogue.{Catalogue, emptyCatalogue}
 use Rattle.rules.specs.Refusals.{numberAndPlace}
 use Rattle.rules.specs.State.{start}
@@ -158,7 +158,3 @@ module _ {c : Catalogue} {l : Limits} {job : List ℕ} {from : ℕ} {st′ : ℕ
 
 pub long-both : {l : Limits} {m n i j : ℕ} → m ≡ n → i ≡ j → LongEnough l n j → LongEnough l m i
 long-both e d f = rw (e, d) f
-
--- an area that was cleared is zero
-pub zero-still : {xs : List ℕ} {n : ℕ} → xs ≡ replicate n 0 → length xs ≡ n → xs ≡ replicate (length xs) 0
-zero-still e d = e ∙ ap (λ (n : ℕ). replicate n 0) (sym d)

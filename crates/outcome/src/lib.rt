@@ -40,7 +40,7 @@ fn run_sheet(
     requires { ⌜ (0 < l .variables) × (0 < l .clauses) ⌝ }
     ensures { λ r. ⌜ RunsFrom l (now (job .entry)) from (reading (catalogue k (now (marks .entry)) (now (unions .entry)) (now (t .entry)))) r (now (out .entry)) (now (out .exit)) ⌝ }
 {
-    words::clear(s);
+    state::clear(s, l);
     let n = carried::start(s, clauses, l);
     match carried::carry_sheet(job, from, marks, unions, t, k, s, clauses, w, l, n) {
         Sheet::Carried(m) => ending::finish(marks, unions, t, k, s, clauses, w, l, m, out),

@@ -1,24 +1,25 @@
--- What is unchanged after no step, one store, or two steps; and a region after a store.
+-- What is unchanged after no step, one store, or two steps; a region after a store; and regions that were cleared.
 use mathlib.Core.Path.{_≡_, refl, sym, _∙_, ap}
 use mathlib.Core.Bool.{true, false, true≢false}
 use mathlib.Core.List.{List, [], _∷_, _++_}
-use Prim.Native.Nat.{ℕ, zero, suc, _+_, _*_}
+use Prim.Native.Nat.{ℕ, _+_, _*_, _<_, _≤_}
 use native.Mathlib.Omega.{arith}
 use native.Mathlib.Decide.{decLt}
 use lib.Dec.{eqb}
-use lib.ListN.{length, getD, set, take, drop, replicate, length-take, length-drop, List·getD-eq-default}
-use lib.Seq.{getD-take, getD-drop, length-take-le}
+use lib.ListN.{length, getD, set, drop, length-drop}
+use lib.Seq.{length-take-le}
 use borrow.Author.Tests.{eq-eqb, ne-eqb, eqb-true}
 use Rattle.rules.specs.Lists.{any, all, elem, sum}
 use Rattle.rules.specs.Called.{_∈_}
 use Rattle.rules.proofs.Bools.{by-cases}
 use Rattle.rules.proofs.Member.{any-out, all-out, contrary}
+use Rattle.words.specs.Words as words
 use Rattle.words.specs.Words.{words, length-words}
 use Rattle.regions.specs.Regions.{startOf, sizeOf, part, regions, stored}
-use Rattle.regions.proofs.Laws.{ends-within}
+use Rattle.regions.proofs.Laws.{at-in, at-past, follows, ends-within}
 use Rattle.state.specs.declared.Limits.{Limits}
 use Rattle.state.specs.Layout.{sizes, held, Fits}
-use Rattle.state.specs.Changed.{Changed, Blank}
+use Rattle.state.specs.Changed.{Changed, Blank, Zeroed, Cleared}
 
 -- ---- one store
 
@@ -90,22 +91,42 @@ module _ (l : Limits) (bytes : List ℕ) where
   pub length-decisions : Fits l (length bytes) → length (held l bytes 18) ≡ 4 * l .variables
   length-decisions f = length-held 18 f ∙ unfold sizeOf sizes in refl
 
--- ---- an area of zeros
+-- ---- regions of zeros
 
-zero-words : (n i : ℕ) → getD (words (replicate n 0)) i 0 ≡ 0
-unfolding words
-zero-words zero i = refl
-zero-words (suc zero) i = refl
-zero-words (suc (suc n)) zero = refl
-zero-words (suc (suc n)) (suc i) = zero-words n i
+module _ (w w′ : List ℕ) (from to : ℕ) (z : words.Zeroed from to w w′) where
+  -- a 0 stays a 0
+  zero-still : (i : ℕ) → getD w i 0 ≡ 0 → getD w′ i 0 ≡ 0
+  zero-still i e = elim (decLt i from) [
+    | yes h ↦ z .others i (λ p q. omega arith) ∙ e
+    | no h ↦ elim (decLt i to) [ yes k ↦ z .zeros i (omega arith) k | no k ↦ z .others i (λ p q. omega arith) ∙ e ]
+  ]
 
-zero-part : (a b : ℕ) (w : List ℕ) → ((i : ℕ) → getD w i 0 ≡ 0) → (i : ℕ) → getD (part a b w) i 0 ≡ 0
-unfolding part
-zero-part a b w h i = elim (decLt i b) [
-  | yes k ↦ rw (getD-take b (drop a w) i 0 k, getD-drop) (h (a + i))
-  | no k ↦ List·getD-eq-default (take b (drop a w)) 0 (rw length-take (omega arith))
-]
+part-blank : (a b : ℕ) (w : List ℕ) → ((i : ℕ) → i < b → getD w (a + i) 0 ≡ 0) → (i : ℕ) → getD (part a b w) i 0 ≡ 0
+part-blank a b w h i = elim (decLt i b) [ yes k ↦ sym (at-in w a b i 0 k (sym (h i k))) | no k ↦ sym (at-past w a b i (omega arith)) ]
 
-pub held-blank : (l : Limits) (n j : ℕ) → Blank j (held l (replicate n 0))
-unfolding held regions
-held-blank l n j = record { zeros = zero-part (startOf (sizes l) j) (sizeOf (sizes l) j) (words (replicate n 0)) (zero-words n) }
+module _ (l : Limits) (b b′ : List ℕ) (from to x y : ℕ) (e : x ≡ startOf (sizes l) from) (d : y ≡ startOf (sizes l) to) (z : words.Zeroed x y (words b) (words b′)) where
+  part-of : (j i : ℕ) → i < sizeOf (sizes l) j → getD (held l b j) i 0 ≡ getD (words b) (startOf (sizes l) j + i) 0
+  unfolding held regions
+  part-of j i h = sym (at-in (words b) (startOf (sizes l) j) (sizeOf (sizes l) j) i _ h refl)
+
+  -- the regions between two starts
+  pub regions-zeroed : Zeroed from to (held l b) (held l b′)
+  unfolding held regions
+  regions-zeroed = record {
+    blank = λ j p q. record { zeros = part-blank (startOf (sizes l) j) (sizeOf (sizes l) j) (words b′) (λ i h. z .zeros (startOf (sizes l) j + i) (later j i p) (earlier j i h q)) };
+    still = λ j f. record { zeros = part-blank (startOf (sizes l) j) (sizeOf (sizes l) j) (words b′) (λ i h. zero-still (words b) (words b′) x y z _ (sym (part-of j i h) ∙ f .zeros i)) };
+  }
+    where
+      later : (j i : ℕ) → from ≤ j → x ≤ startOf (sizes l) j + i
+      later j i p = elim (decLt from j) [ yes h ↦ omega (arith, follows (sizes l) from j h) | no h ↦ let q : from ≡ j = omega arith in rw (e, q) (omega arith) ]
+
+      earlier : (j i : ℕ) → i < sizeOf (sizes l) j → j < to → startOf (sizes l) j + i < y
+      earlier j i h q = omega (arith, follows (sizes l) j to q)
+
+pub cleared : {s₀ s₁ s₂ s₃ : ℕ → List ℕ} → Zeroed 0 13 s₀ s₁ → Zeroed 15 16 s₁ s₂ → Zeroed 17 18 s₂ s₃ → Cleared s₃
+cleared f g h =
+    record {
+      first = λ j p. h .still j (g .still j (f .blank j (omega arith) p));
+      ranges = h .still 15 (g .blank 15 (omega arith) (omega arith));
+      values = h .blank 17 (omega arith) (omega arith);
+    }

@@ -14,7 +14,7 @@ use Rattle.rules.specs.Compute.{computing}
 use Rattle.rules.proofs.Member.{all-out, upTo-in}
 use Rattle.words.specs.Words.{words}
 use Rattle.regions.specs.Regions.{Layout, startOf, sizeOf, part, setIn, regions, stored}
-use Rattle.regions.proofs.Laws.{ends-within, store-in}
+use Rattle.regions.proofs.Laws.{follows, ends-within, store-in}
 use Rattle.state.specs.declared.Limits.{Limits}
 use Rattle.state.specs.Layout.{sizes, held, Fits}
 
@@ -96,6 +96,13 @@ module _ (l : Limits) where
     where
       whole : sum (sizes l) ≡ 20614 + 8 * l .variables + l .literals + l .waiting
       whole = unfold sizes sum in omega arith
+
+  -- from one region's start to a later one's
+  pub span-rises : (i j a b : ℕ) → i < j → a ≡ startOf (sizes l) i → b ≡ startOf (sizes l) j → a ≤ b
+  span-rises i j a b h e d = omega (arith, follows (sizes l) i j h)
+
+  pub span-fits : (j b n : ℕ) → Fits l n → b ≡ startOf (sizes l) j → b * 2 ≤ n
+  span-fits j b n f d = omega (arith, region-fits j b (sizeOf (sizes l) j) n f d refl)
 
   pub got : (bytes : List ℕ) (j i a b r : ℕ) → a ≡ startOf (sizes l) j → b ≡ sizeOf (sizes l) j → r ≡ getD (part a b (words bytes)) i 0
       → r ≡ getD (held l bytes j) i 0

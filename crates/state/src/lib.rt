@@ -3,6 +3,7 @@ ghost use mathlib.Core.Path.{_≡_};
 ghost use Prim.Native.Nat.{_+_, _*_, _<_, _≤_};
 ghost use lib.ListN.{length, getD};
 ghost use Rattle.regions.specs.Regions.{startOf, sizeOf, stored};
+ghost use Rattle.state.specs.Changed.{Zeroed, Cleared};
 ghost use Rattle.state.specs.Layout.{sizes, held, Fits};
 
 // The four limits of a job.
@@ -143,4 +144,22 @@ pub fn set(s: &mut [u8], l: Limits, region: usize, i: usize, v: u16)
     ensures { λ r. ⌜ held l (now (s .exit)) ≡ stored (held l (now (s .entry))) region i v ⌝ }
 {
     regions::put(s, start(l, region), size(l, region), i, v);
+}
+
+// The regions from number `from` up to `to` become 0.
+fn clear_regions(s: &mut [u8], l: Limits, from: usize, to: usize)
+    requires { ⌜ Fits l (length (now s)) × (from < to) ⌝ }
+    ensures { λ r. ⌜ Zeroed from to (held l (now (s .entry))) (held l (now (s .exit))) ⌝ }
+{
+    words::clear_part(s, start(l, from), start(l, to));
+}
+
+// The regions that are read before they are written become 0, and some between them.
+pub fn clear(s: &mut [u8], l: Limits)
+    requires { ⌜ Fits l (length (now s)) ⌝ }
+    ensures { λ r. ⌜ Cleared (held l (now (s .exit))) ⌝ }
+{
+    clear_regions(s, l, SLOTS, FIRED);
+    clear_regions(s, l, RANGE_MARKS, VARIABLES);
+    clear_regions(s, l, VALUES, DECISIONS);
 }

@@ -1,4 +1,4 @@
--- `carried::start` puts the state at the start into areas of zeros.
+-- `carried::start` puts the state at the start into areas that were cleared.
 use borrow.Author.Needs.{needs}
 use Rattle.carried.proofs.Starting.{slots-blank, started}
 use Rattle.carried.proofs.start.Statement.{statement}

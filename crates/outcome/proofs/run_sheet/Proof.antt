@@ -3,7 +3,7 @@ use mathlib.Core.Path.{_∙_}
 use borrow.Author.Needs.{needs}
 use Rattle.state.proofs.Sizes.{fits-same}
 use Rattle.encoder.proofs.Steps.{long-same}
-use Rattle.outcome.proofs.Walked.{zero-still, sheet-reaches, sheet-finished, sheet-refused, long-both}
+use Rattle.outcome.proofs.Walked.{sheet-reaches, sheet-finished, sheet-refused, long-both}
 use Rattle.outcome.proofs.run_sheet.Statement.{statement}
 use Rattle.outcome.proofs.run_sheet.Tie as tie
 
@@ -11,7 +11,7 @@ clear-requires : tie.Need-clear-requires
 clear-requires c κs = search needs
 
 start-requires : tie.Need-start-requires
-start-requires c κs = (fits-same (c .before .before .before .before .clear .kept .0) (c .before .before .before .before .before .before .before .before .before .before .before .before .before .before .pre .1 .1 .1 .1 .0), (zero-still (c .before .before .before .before .clear .ensures) (c .before .before .before .before .clear .kept .0), ((c .before .before .before .before .before .before .before .before .before .before .before .before .before .before .pre .1 .1 .1 .1 .1 .1 .0), (c .before .before .before .before .before .before .before .before .before .before .before .before .before .before .pre .1 .1 .1 .1 .1 .1 .1), (c .before .before .before .before .before .before .before .before .before .before .before .before .before .before .pre .1 .1 .1 .1 .1 .0 .clauses))))
+start-requires c κs = (fits-same (c .before .before .before .before .clear .kept .0) (c .before .before .before .before .before .before .before .before .before .before .before .before .before .before .pre .1 .1 .1 .1 .0), ((c .before .before .before .before .clear .ensures), ((c .before .before .before .before .before .before .before .before .before .before .before .before .before .before .pre .1 .1 .1 .1 .1 .1 .0), (c .before .before .before .before .before .before .before .before .before .before .before .before .before .before .pre .1 .1 .1 .1 .1 .1 .1), (c .before .before .before .before .before .before .before .before .before .before .before .before .before .before .pre .1 .1 .1 .1 .1 .0 .clauses))))
 
 carry-sheet-requires : tie.Need-carry-sheet-requires
 carry-sheet-requires c κs = ((c .before .before .before .before .before .before .before .before .before .before .before .before .before .before .before .before .before .before .before .before .before .before .pre .0), ((c .before .before .before .before .before .before .before .before .before .before .before .before .before .before .before .before .before .before .before .before .before .before .pre .1 .0), ((c .before .before .before .before .before .before .before .before .before .before .before .before .before .before .before .before .before .before .before .before .before .before .pre .1 .1 .0), ((c .before .before .before .before .before .before .before .before .before .before .before .before .before .before .before .before .before .before .before .before .before .before .pre .1 .1 .1 .0), (fits-same ((c .before .before .before .before .before .before .before .start .kept .0) ∙ (c .before .before .before .before .before .before .before .before .before .before .before .before .clear .kept .0)) (c .before .before .before .before .before .before .before .before .before .before .before .before .before .before .before .before .before .before .before .before .before .before .pre .1 .1 .1 .1 .0), (long-same (c .before .before .before .before .before .before .before .start .kept .1 .0) (c .before .before .before .before .before .before .before .before .before .before .before .before .before .before .before .before .before .before .before .before .before .before .pre .1 .1 .1 .1 .1 .0), (c .before .before .before .before .before .before .before .start .ensures .holds) _ _))))))
