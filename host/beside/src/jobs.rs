@@ -1,6 +1,10 @@
 //! The jobs of `bench`: plain ones, jobs built to be slow to run, and families of rising size.
 
-use std::{fs, iter::repeat_n, ops::Range};
+use std::{
+    fs,
+    iter::repeat_n,
+    ops::{Range, RangeInclusive},
+};
 
 use compare::{generate::edges, paths};
 use job::{
@@ -172,6 +176,7 @@ fn slow_jobs() -> Vec<Job> {
         draws_of_many_members(&[decide(1)], &[Record::Undo { level: 0 }]),
     ));
     jobs.push(job("draws of a deep condition", draws_of_a_deep_condition()));
+    jobs.push(job("draws of watched parts", draws_of_watched_parts()));
     jobs.push(job("waiting of all conditions", waiting_of_all_conditions()));
     // What follows makes no clause: a branch's limits do.
     let empty_runs = job_of(vec![Record::Run { level: 1 }; 21_845]);
@@ -544,9 +549,9 @@ fn filled_up(mut records: Vec<Record>, round: Vec<Record>) -> Vec<Record> {
     records
 }
 
-/// 64 entries wait, each on sixteen ranges: one of 64 that never hold and then fifteen times one that is
-/// decided to hold, drawn and taken back.
-fn draws_of_a_deep_condition() -> Vec<Record> {
+/// 64 entries wait, each on sixteen ranges of one part: one of the first 64 and then fifteen times the
+/// last. The parts of these ranges get the variables from 1 on. Also the number of the condition.
+fn deep_condition(ranges: RangeInclusive<u16>) -> (Vec<Record>, u16) {
     let mut records = vec![Record::Name { flags: 1 }; 2];
     records.extend(repeat_n(part(0, 0), 64));
     records.push(part(1, 0));
@@ -561,10 +566,27 @@ fn draws_of_a_deep_condition() -> Vec<Record> {
     records.push(and(joined));
     let condition = leaf + 15;
     records.extend((leaf + 1..condition).map(and));
-    // The part of the last range gets variable 1.
-    records.push(requirement(ROOT, 64));
+    records.extend(ranges.map(|range| requirement(ROOT, range)));
     records.push(Record::Requirement { owner: ROOT, form: 0, number: 64, condition });
     records.extend(run_of_root());
-    let decide = Record::Decide { variable: 1, value: 1, level: 1 };
-    filled_up(records, vec![decide, Record::Draw { condition }, Record::Undo { level: 0 }])
+    (records, condition)
+}
+
+/// The last range is decided to hold, drawn and taken back: no entry's first range ever holds.
+fn draws_of_a_deep_condition() -> Vec<Record> {
+    let (records, condition) = deep_condition(64..=64);
+    filled_up(records, drawn_and_undone(1, condition).into())
+}
+
+/// The last range is decided to hold, drawn and taken back, and then one of the first: each decision is
+/// one that the draw before it waited for.
+fn draws_of_watched_parts() -> Vec<Record> {
+    let (records, condition) = deep_condition(0..=64);
+    let both = |first| [65, first].map(|variable| drawn_and_undone(variable, condition));
+    filled_up(records, (1..=64).flat_map(both).flatten().collect())
+}
+
+fn drawn_and_undone(variable: u16, condition: u16) -> [Record; 3] {
+    let decide = Record::Decide { variable, value: 1, level: 1 };
+    [decide, Record::Draw { condition }, Record::Undo { level: 0 }]
 }
