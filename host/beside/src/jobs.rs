@@ -550,7 +550,8 @@ fn filled_up(mut records: Vec<Record>, round: Vec<Record>) -> Vec<Record> {
 }
 
 /// 64 entries wait, each on sixteen ranges of one part: one of the first 64 and then fifteen times the
-/// last. The parts of these ranges get the variables from 1 on. Also the number of the condition.
+/// last. The root requires `ranges`, whose parts get the variables from 1 on. The records, and the
+/// condition's number.
 fn deep_condition(ranges: RangeInclusive<u16>) -> (Vec<Record>, u16) {
     let mut records = vec![Record::Name { flags: 1 }; 2];
     records.extend(repeat_n(part(0, 0), 64));
