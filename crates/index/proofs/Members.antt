@@ -1,21 +1,24 @@
 -- Chains of the members of unions: rows are linked last to first, then idle rows are passed over.
 use mathlib.Core.Path.{_≡_, refl, sym, ap, _∙_}
+use mathlib.Core.Bool.{Bool, true, false, not, true≢false}
 use mathlib.Core.List.{List}
 use Prim.Native.Nat.{ℕ, _+_, _*_, _-_, _<_, _≤_}
 use native.Mathlib.Nat.{le-refl}
 use native.Mathlib.Omega.{arith}
 use native.Mathlib.Decide.{ℕ-discrete, decLt}
+use lib.Dec.{eqb}
 use lib.ListN.{length, getD, set, take, drop, replicate, length-set, length-replicate, getD-replicate}
 use lib.Seq.{getD-set-same, getD-set-other}
+use borrow.Author.Tests.{eqb-true}
 use Rattle.words.specs.Words.{words, words-in}
 use Rattle.tables.specs.declared.Counts.{Counts}
 use Rattle.tables.specs.Tables.{tables, Laid}
 use Rattle.unions.specs.declared.Member.{Member}
-use Rattle.unions.specs.Unions.{Row, noRow, rows, rowOf, rangesOf, before}
-use Rattle.unions.proofs.Laws.{length-rows, row-of-none, rows-linked, before-here, before-more, range-low}
+use Rattle.unions.specs.Unions.{Row, noRow, rowIn, rows, rowOf, rangesOf, before}
+use Rattle.unions.proofs.Laws.{length-rows, row-at, row-of-none, rows-linked, before-here, before-more, range-low}
 use Rattle.kept.specs.Kept.{Given}
 use Rattle.index.specs.Chains.{Chains, Chained}
-use Rattle.index.specs.Members.{times, Idle, Passes, Links, Threaded, UnionOf, RangeOf, unionHeads, HeadsOnly, Unlinked, Threading, Relinked, Seen, Shortened, Passed, Built}
+use Rattle.index.specs.Members.{times, Idle, Passes, Links, Threaded, UnionOf, RangeOf, SameRow, Repeated, unionHeads, HeadsOnly, Unlinked, Threading, Relinked, Seen, Shortened, Passed, Built}
 use Rattle.index.specs.Indexed.{Indexed}
 use Rattle.index.proofs.Chaining.{only-none, only-then, only-head, linked-beside}
 use Rattle.index.proofs.Places as places
@@ -82,6 +85,54 @@ union-of-row k u i m g h e =
       | no l ↦ absurd (row-of-none i (rows (k .members) u) inside (g .none-yet _ (let q = is in omega arith)))
     ]
 
+-- ---- a row that is repeated
+
+was-true : (b : Bool) → not b ≡ false → b ≡ true
+was-true true e = refl
+was-true false e = absurd (true≢false e)
+
+-- the same word is the same row
+pub same-words : (n : ℕ) (u : List ℕ) (i j v w : ℕ) → i < n → j < n → v ≡ getD (words u) (2 * i) 0 → w ≡ getD (words u) (2 * j) 0
+    → SameRow (rows n u) i j (eqb v w)
+unfolding rowIn
+same-words n u i j v w h l e d =
+    record { same = λ q. rw (row-at n u i h, row-at n u j l, ← e, ← d, eqb-true v w q) }
+
+module _ (rs : List Row) (i : ℕ) (h : i < length rs) where
+  abbrev union : ℕ
+  union = (getD rs i noRow) .union
+
+  abbrev range : ℕ
+  range = (getD rs i noRow) .range
+
+  -- one like it
+  one-like : (j : ℕ) → j < i → getD rs i noRow ≡ getD rs j noRow → times range (before union (j + 1) rs) ≡ times range (before union j rs) + 1
+  one-like j l e =
+      let same : (getD rs j noRow) .range ≡ range = ap (λ (r : Row). r .range) (sym e) in
+      rw (before-here union j rs (omega arith) (ap (λ (r : Row). r .union) (sym e)), same) (times-snoc range (before union j rs))
+
+  pub four-like : {a b c d : Bool} → 4 ≤ i → SameRow rs i (i - 1) a → not a ≡ false → SameRow rs i (i - 2) b → not b ≡ false → SameRow rs i (i - 3) c → not c ≡ false → SameRow rs i (i - 4) d
+      → Repeated rs i d
+  four-like {d = d} l p p′ q q′ r r′ s = record { idle = idle }
+    where
+      idle : d ≡ true → Idle rs union i
+      idle s′ =
+          let e1 : i - 4 + 1 ≡ i - 3 = omega arith in
+          let e2 : i - 3 + 1 ≡ i - 2 = omega arith in
+          let e3 : i - 2 + 1 ≡ i - 1 = omega arith in
+          let e4 : i - 1 + 1 ≡ i = omega arith in
+          let n1 = rw e1 at (one-like (i - 4) (omega arith) (s .same s′)) in
+          let n2 = rw e2 at (one-like (i - 3) (omega arith) (r .same (was-true _ r′))) in
+          let n3 = rw e3 at (one-like (i - 2) (omega arith) (q .same (was-true _ q′))) in
+          let n4 = rw e4 at (one-like (i - 1) (omega arith) (p .same (was-true _ p′))) in
+          record { often = omega arith }
+
+pub inside-rows : (n : ℕ) (u : List ℕ) (i : ℕ) → i < n → i < length (rows n u)
+inside-rows n u i h = rw length-rows h
+
+pub not-repeated : {rs : List Row} {i : ℕ} → Repeated rs i false
+not-repeated = record { idle = λ e. absurd (true≢false (sym e)) }
+
 -- ---- heads
 
 heads-none : (k : Counts) (t : List ℕ) → HeadsOnly k t t
@@ -134,17 +185,11 @@ chains-beside {k} {m} {t} {u} l h c =
 link-place : (n : ℕ) (u : List ℕ) (i : ℕ) → n ≤ 13107 → 52428 ≤ length u → i < n → 2 * i + 1 < length (words u)
 link-place n u i l f h = words-in u (2 * i + 1) (omega arith)
 
-module _ (k : Counts) (t u : List ℕ) (i : ℕ) (t′ u′ : List ℕ) (x first : ℕ) (laid : Laid k (length t)) (fit : 52428 ≤ length u) (here : i < k .members)
+module _ (k : Counts) (t u : List ℕ) (i : ℕ) (u′ : List ℕ) (x first : ℕ) (laid : Laid k (length t)) (fit : 52428 ≤ length u) (here : i < k .members)
     (o : UnionOf k (rows (k .members) u) i x) (d : Threaded k (rows (k .members) u) (i + 1) (words t) (words u))
-    (f : first ≡ getD (words t) (11652 + 3 * x) 0) (e : words u′ ≡ set (words u) (2 * i + 1) first) (g : words t′ ≡ set (words t) (11652 + 3 * x) i) where
+    (f : first ≡ getD (words t) (11652 + 3 * x) 0) (e : words u′ ≡ set (words u) (2 * i + 1) first) where
   abbrev all : List Row
   all = rows (k .members) u
-
-  more-heads : (y : ℕ) → y < k .unions → Passes k all y i (getD (words t′) (11652 + 3 * y) 0)
-  more-heads y h = elim (ℕ-discrete y x) [
-    | yes q ↦ rw (q, g, getD-set-same (words t) (11652 + 3 * x) i 0 (head-place k t x laid (o .low))) (passes-here (let z = here in omega arith) (λ _. sym (o .is)))
-    | no q ↦ rw (g, getD-set-other (words t) (11652 + 3 * x) (11652 + 3 * y) i 0 (λ r. q (omega arith))) (passes-earlier (λ r. q (sym r ∙ sym (o .is))) (d .heads y h))
-  ]
 
   more-links : (j : ℕ) → i ≤ j → j < k .members → Passes k all ((getD all j noRow) .union) (j + 1) (getD (words u′) (2 * j + 1) 0)
   more-links j b h = elim (ℕ-discrete j i) [
@@ -155,13 +200,42 @@ module _ (k : Counts) (t u : List ℕ) (i : ℕ) (t′ u′ : List ℕ) (x first
       behind : (j : ℕ) → i ≤ j → (j ≡ i → ⊥) → i + 1 ≤ j
       behind j a q = omega arith
 
-  pub row-linked : Threading k i u t u′ t′
-  row-linked =
-      record {
-        heads = head-set k x i t t′ laid (o .low) g;
-        kept = rows-linked (k .members) u u′ i first e;
-        threaded = record { heads = more-heads; links = record { next = more-links } };
-      }
+  -- the row itself, and a row of another union
+  to-row-i : Passes k all x i i
+  to-row-i = passes-here (let z = here in omega arith) (λ _. sym (o .is))
+
+  past-other : (y : ℕ) → y < k .unions → (y ≡ x → ⊥) → Passes k all y i (getD (words t) (11652 + 3 * y) 0)
+  past-other y h q = passes-earlier (λ r. q (sym r ∙ sym (o .is))) (d .heads y h)
+
+  module _ (t′ : List ℕ) (g : words t′ ≡ set (words t) (11652 + 3 * x) i) where
+    more-heads : (y : ℕ) → y < k .unions → Passes k all y i (getD (words t′) (11652 + 3 * y) 0)
+    more-heads y h = elim (ℕ-discrete y x) [
+      | yes q ↦ rw (q, g, getD-set-same (words t) (11652 + 3 * x) i 0 (head-place k t x laid (o .low))) to-row-i
+      | no q ↦ rw (g, getD-set-other (words t) (11652 + 3 * x) (11652 + 3 * y) i 0 (λ r. q (omega arith))) (past-other y h q)
+    ]
+
+    pub row-linked : Threading k i u t u′ t′
+    row-linked =
+        record {
+          heads = head-set k x i t t′ laid (o .low) g;
+          kept = rows-linked (k .members) u u′ i first e;
+          threaded = record { heads = more-heads; links = record { next = more-links } };
+        }
+
+  module _ {b : Bool} (z : Repeated (rows (k .members) u) i b) (p : not b ≡ false) where
+    same-heads : (y : ℕ) → y < k .unions → Passes k all y i (getD (words t) (11652 + 3 * y) 0)
+    same-heads y h = elim (ℕ-discrete y x) [
+      | yes q ↦ rw q (passes-over to-row-i (rw (o .is) (z .idle (was-true _ p))) (d .heads x (o .low)))
+      | no q ↦ past-other y h q
+    ]
+
+    pub row-repeated : Threading k i u t u′ t
+    row-repeated =
+        record {
+          heads = heads-none k t;
+          kept = rows-linked (k .members) u u′ i first e;
+          threaded = record { heads = same-heads; links = record { next = more-links } };
+        }
 
 -- ---- all rows
 

@@ -1,5 +1,6 @@
 -- Chains of the members of unions: for each union its first row, and for each row the next one of its union. Rows that cannot matter are passed over.
 use mathlib.Core.Path.{_≡_}
+use mathlib.Core.Bool.{Bool, true}
 use mathlib.Core.List.{List}
 use Prim.Native.Nat.{ℕ, _+_, _*_, _<_, _≤_}
 use lib.Dec.{eqb}
@@ -48,6 +49,14 @@ pub record UnionOf (k : Counts) (rs : List Row) (i x : ℕ) : Type 0 where
 pub record RangeOf (rs : List Row) (i r : ℕ) : Type 0 where
   pub is : r ≡ (getD rs i noRow) .range
   pub low : r < 512
+
+-- if b is true, rows i and j are the same
+pub record SameRow (rs : List Row) (i j : ℕ) (b : Bool) : Type 0 where
+  pub same : b ≡ true → getD rs i noRow ≡ getD rs j noRow
+
+-- if b is true, row i is idle in its union
+pub record Repeated (rs : List Row) (i : ℕ) (b : Bool) : Type 0 where
+  pub idle : b ≡ true → Idle rs ((getD rs i noRow) .union) i
 
 -- ---- steps on the way
 

@@ -49,6 +49,8 @@ ghost use Rattle.index.specs.Members.{
   Threaded,
   UnionOf,
   RangeOf,
+  SameRow,
+  Repeated,
   Unlinked,
   Threading,
   Relinked,
@@ -387,7 +389,35 @@ fn union_of(unions: &[u8], k: Counts, i: usize) -> usize
     m.union as usize
 }
 
-// Row i, those behind it being linked.
+// Do rows i and j have the same union and range?
+fn same_row(unions: &[u8], k: Counts, i: usize, j: usize) -> bool
+    requires { ⌜ (k .members ≤ 13107) × (52428 ≤ length (now unions)) × (i < k .members) × (j < k .members) ⌝ }
+    ensures { λ b. ⌜ SameRow (rows (k .members) (now (unions .entry))) i j b ⌝ }
+{
+    words::get(unions, 2 * i) == words::get(unions, 2 * j)
+}
+
+// Has row i the union and range of the four rows before it?
+fn is_repeated(unions: &[u8], k: Counts, i: usize) -> bool
+    requires { ⌜ (k .members ≤ 13107) × (52428 ≤ length (now unions)) × (i < k .members) ⌝ }
+    ensures { λ b. ⌜ Repeated (rows (k .members) (now (unions .entry))) i b ⌝ }
+{
+    if i < 4 {
+        return false;
+    }
+    if !same_row(unions, k, i, i - 1) {
+        return false;
+    }
+    if !same_row(unions, k, i, i - 2) {
+        return false;
+    }
+    if !same_row(unions, k, i, i - 3) {
+        return false;
+    }
+    same_row(unions, k, i, i - 4)
+}
+
+// Row i, those behind it being linked. One that is repeated is idle: no row leads to it.
 fn link_member(unions: &mut [u8], t: &mut [u8], k: Counts, i: usize)
     requires { ⌜ Laid k (length (now t)) × (52428 ≤ length (now unions)) ⌝ }
     requires { ⌜ Given (k .unions) (rows (k .members) (now unions)) ⌝ }
@@ -395,9 +425,12 @@ fn link_member(unions: &mut [u8], t: &mut [u8], k: Counts, i: usize)
     ensures { λ _. ⌜ Threading k i (now (unions .entry)) (now (t .entry)) (now (unions .exit)) (now (t .exit)) ⌝ }
 {
     let union = union_of(unions, k, i);
+    let idle = is_repeated(unions, k, i);
     let first = words::get(t, 11652 + 3 * union);
     unions::set_next(unions, i, first);
-    words::put(t, 11652 + 3 * union, i as u16);
+    if !idle {
+        words::put(t, 11652 + 3 * union, i as u16);
+    }
 }
 
 // All rows by their unions.
