@@ -21,8 +21,7 @@ use Rattle.entries.specs.declared.Entry.{Entry}
 use Rattle.entries.specs.Entries.{noEntry, entryOf, rowAt, drawnIn}
 use Rattle.encoder.specs.declared.Counters.{Counters}
 use Rattle.encoder.specs.Held.{Reading, taskIn, GoodAlone}
-use Rattle.encoder.specs.Did.{Widens, onOpening, StateDid}
-use Rattle.encoder.proofs.Widening.{Lengthens, lengthens-same, lengthens-then, openNames-lengthens, queue-lengthens, widens-opening}
+use Rattle.encoder.specs.Did.{onOpening, StateDid}
 use Rattle.encoder.proofs.Steps.{state-same, state-none, state-then, alone-after}
 use Rattle.goals.specs.Goals.{AllGiven}
 use Rattle.firing.specs.Firing.{queued}
@@ -40,15 +39,6 @@ pub drawn-passed : (l : Limits) (k : ℕ) (wt : List ℕ) {e : ℕ} → k ≤ e 
 drawn-passed l k wt h = rw (drawn-counted l k wt) h
 
 module _ (c : Catalogue) (v : Reading) where
-  from-lengthens : (e : ℕ) (ds : List (ℕ × ℕ)) (o : Opening) → Lengthens o (fireFrom c v e ds o)
-  unfolding fireFrom queued
-  from-lengthens e [] o = lengthens-same
-  from-lengthens e (x ∷ xs) o = lengthens-then (lengthens-then (openNames-lengthens c _ o) (queue-lengthens _ _)) (from-lengthens (suc e) xs _)
-
-  pub drawn-widens : (ds : List (ℕ × ℕ)) (s : State) → Widens s (onOpening (fireDrawn c v ds) s)
-  unfolding fireDrawn
-  drawn-widens ds s = widens-opening (fireFrom c v 0 ds) (from-lengthens 0 ds) s
-
   -- one more behind the others
   from-snoc : (e : ℕ) (ds : List (ℕ × ℕ)) (x : ℕ × ℕ) (o : Opening)
       → queued c (x .0) (taskIn c v (3649 + (e + length ds))) (fireFrom c v e ds o) ≡ fireFrom c v e (ds ++ (x ∷ [])) o

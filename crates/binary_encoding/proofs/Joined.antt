@@ -14,7 +14,6 @@ use Rattle.rules.specs.State.{State, Run}
 use Rattle.rules.specs.Opening.{endRun, trackedOf}
 use Rattle.rules.specs.Run.{joinAll}
 use Rattle.rules.proofs.WellFormed.{WellFormed}
-use Rattle.rules.proofs.Membership.{Once}
 use Rattle.rules.proofs.Grows.{joinAll-grows}
 use Rattle.rules.proofs.Line.{joinAll-opening}
 use Rattle.tables.specs.declared.Counts.{Counts}

@@ -1,9 +1,8 @@
 -- Names by their flags: those that are not flagged have no part that joins, so that they may be left out.
 use mathlib.Core.Path.{_≡_, refl, sym, _∙_, ap}
-use mathlib.Core.Logic.{⊎-elim}
-use mathlib.Core.Bool.{Bool, true, false, cond, not, _||_, false≢true}
-use mathlib.Core.List.{List, [], _∷_, _++_, map, append-nil}
-use Prim.Native.Nat.{ℕ, zero, suc, _+_, _<_, _≤_}
+use mathlib.Core.Bool.{Bool, true, false, cond, not, false≢true}
+use mathlib.Core.List.{List, [], _∷_, _++_, append-nil}
+use Prim.Native.Nat.{ℕ, suc, _+_, _<_, _≤_}
 use native.Mathlib.Omega.{arith}
 use lib.Dec.{eqb}
 use lib.ListN.{length, getD, set}
@@ -13,7 +12,6 @@ use Rattle.rules.specs.Lists.{filter, elem, snoc, any, concatMap, fold, distinc
 use Rattle.rules.specs.Catalogue.{noPart}
 use Rattle.rules.proofs.Bools.{by-cases}
 use Rattle.rules.proofs.Each.{Each}
-use Rattle.rules.proofs.ListLaws.{any-snoc}
 use Rattle.rules.proofs.MemberLaws.{filter-append}
 use Rattle.tables.specs.declared.Counts.{Counts}
 use Rattle.tables.specs.Tables.{tables}

@@ -7,7 +7,7 @@ use native.Mathlib.Decide.{decLt}
 use native.Mathlib.Omega.{arith}
 use lib.ListN.{length, getD}
 use Rattle.rules.specs.Catalogue.{Range, noPart, partAt, noRange, rangeAt, nameOf, rangeName, severalAllowed}
-use Rattle.rules.specs.Catalogue.{noCondition, noRequirement, requirementAt, noConstraint, constraintAt, union}
+use Rattle.rules.specs.Catalogue.{noRequirement, requirementAt, noConstraint, constraintAt, union}
 use Rattle.rules.specs.Candidates.{goalRanges}
 use Rattle.tables.specs.declared.Counts.{Counts}
 use Rattle.tables.specs.Tables.{tables}
@@ -64,9 +64,6 @@ module _ (k : Counts) (m u t : List ℕ) where
   pub conditions-same : catalogue k m u t .conditions ≡ tables k t .conditions
   unfolding catalogue assembled
   conditions-same = refl
-
-  pub condition-held : (c : ℕ) → getD (catalogue k m u t .conditions) c noCondition ≡ getD (tables k t .conditions) c noCondition
-  condition-held c = rw conditions-same
 
   pub requirement-held : (q : ℕ) → requirementAt (catalogue k m u t) q ≡ getD (tables k t .requirements) q noRequirement
   unfolding catalogue assembled requirementAt

@@ -3,7 +3,7 @@ use mathlib.Core.Bool.{Bool}
 use mathlib.Core.List.{List}
 use Prim.Native.Nat.{ℕ, _≤_}
 use lib.ListN.{length, getD}
-use Rattle.rules.specs.Catalogue.{Range, Catalogue}
+use Rattle.rules.specs.Catalogue.{Catalogue}
 use Rattle.tables.specs.declared.Counts.{Counts}
 use Rattle.tables.specs.Tables.{Tables, listed, tables, Laid}
 use Rattle.marks.specs.Marks.{isMarked}

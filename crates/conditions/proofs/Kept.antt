@@ -1,6 +1,5 @@
 -- For callers: refusal 6 by sizes, and what keeps tables sized: a condition put with its right size, and whatever touches no condition.
 use mathlib.Core.Path.{_≡_, refl, sym, ap, _∙_}
-use mathlib.Core.Bool.{Bool, true, false}
 use mathlib.Core.List.{List, [], _∷_}
 use Prim.Native.Nat.{ℕ, _+_, _<_, _≤_}
 use native.Mathlib.Nat.{mul-le-mul}
@@ -9,23 +8,20 @@ use native.Mathlib.Decide.{decLt}
 use native.Mathlib.Omega.{arith}
 use lib.Dec.{ltb}
 use lib.ListN.{length}
-use borrow.Author.Tests.{lt-ltb, le-ltb}
 use Rattle.rules.specs.Lists.{snoc}
-use Rattle.rules.specs.Catalogue.{Operator, and, or, Part, Condition, leaf, joined, noCondition, Requirement, Constraint}
+use Rattle.rules.specs.Catalogue.{Operator, and, or, Condition, leaf, joined, noCondition}
 use Rattle.rules.specs.Conditions.{Disjunct, combined, disjuncts, tooWide, tooManyDisjuncts}
-use Rattle.rules.specs.Items.{operatorOf}
 use Rattle.rules.proofs.ListLaws.{length-snoc, each-snoc, no-element}
 use Rattle.rules.proofs.DisjunctLaws.{disjuncts-old, disjuncts-new-leaf, disjuncts-new-joined, length-or, length-and}
 use Rattle.tables.specs.declared.Counts.{Counts}
-use Rattle.tables.specs.declared.Condition as C
 use Rattle.tables.specs.declared.Size as S
-use Rattle.tables.specs.Tables.{Size, Tables, tables, sizeIs, sizeFrom, conditionIs, Added}
-use Rattle.tables.specs.Tables.{withName, withPart, withRange, withUnion, withCondition, withRequirement, withConstraint}
+use Rattle.tables.specs.Tables.{Size, Tables, tables, sizeIs}
+use Rattle.tables.specs.Tables.{withCondition}
 use Rattle.tables.proofs.Listed.{listed-more, listed-same, listed-length}
 use Rattle.tables.proofs.Laws.{conditions-counted, sizes-counted}
 use Rattle.conditions.specs.Sizes.{longest, sizeOf, sizesOf, Allowed, Earlier, Sized}
 use Rattle.conditions.proofs.Longest.{too-wide, too-many}
-use Rattle.conditions.proofs.Sizing.{count-is, longest-is, row-leaf, row-joined}
+use Rattle.conditions.proofs.Sizing.{count-is, longest-is}
 
 -- ---- refusal 6
 
@@ -36,52 +32,11 @@ module _ (z : S.Size) (ds : List Disjunct) (e : sizeIs z ≡ sizeOf ds) where
   pub too-wide-by : tooWide ds ≡ ltb 16 (z .longest)
   too-wide-by = rw (longest-is z ds e) (too-wide ds)
 
-  pub disjuncts-over : 64 < z .count → tooManyDisjuncts ds ≡ true
-  disjuncts-over h = too-many-by ∙ lt-ltb 64 (z .count) h
-
-  pub disjuncts-within : z .count ≤ 64 → tooManyDisjuncts ds ≡ false
-  disjuncts-within h = too-many-by ∙ le-ltb 64 (z .count) h
-
-  pub ranges-over : 16 < z .longest → tooWide ds ≡ true
-  ranges-over h = too-wide-by ∙ lt-ltb 16 (z .longest) h
-
-  pub ranges-within : z .longest ≤ 16 → tooWide ds ≡ false
-  ranges-within h = too-wide-by ∙ le-ltb 16 (z .longest) h
-
 -- ---- no condition more
 
 pub sized-same : (t t′ : Tables) → t′ .conditions ≡ t .conditions → t′ .sizes ≡ t .sizes → Sized t → Sized t′
 sized-same t t′ e f s =
     record { sizes = rw (e, f) (s .sizes); allowed = λ c h. rw e (s .allowed c (rw e at h)); earlier = λ c h. rw e (s .earlier c (rw e at h)) }
-
--- the tables after a put, by those that it says it leaves
-pub sized-put : {k r : Counts} {b : List ℕ} {t : Tables} → Added k r b t → Sized t → Sized (tables r b)
-sized-put a s = rw (a .is) s
-
-module _ (t : Tables) (s : Sized t) where
-  pub sized-name : (x : Bool) → Sized (withName t x)
-  unfolding withName
-  sized-name x = sized-same t (withName t x) refl refl s
-
-  pub sized-part : (x : Part) → Sized (withPart t x)
-  unfolding withPart
-  sized-part x = sized-same t (withPart t x) refl refl s
-
-  pub sized-range : (x : ℕ) → Sized (withRange t x)
-  unfolding withRange
-  sized-range x = sized-same t (withRange t x) refl refl s
-
-  pub sized-union : Sized (withUnion t)
-  unfolding withUnion
-  sized-union = sized-same t (withUnion t) refl refl s
-
-  pub sized-requirement : (x : Requirement) → Sized (withRequirement t x)
-  unfolding withRequirement
-  sized-requirement x = sized-same t (withRequirement t x) refl refl s
-
-  pub sized-constraint : (x : Constraint) → Sized (withConstraint t x)
-  unfolding withConstraint
-  sized-constraint x = sized-same t (withConstraint t x) refl refl s
 
 length-sizes : (cs : List Condition) → length (sizesOf cs) ≡ length cs
 unfolding sizesOf
@@ -142,20 +97,3 @@ module _ (t : Tables) (s : Sized t) where
       let most = rw (ap (λ (y : Size). y .count) e) at m in
       let narrow = rw (ap (λ (y : Size). y .longest) e) at n in
       sized-more (joined o l r) z e (record { some = some; most = most; narrow = narrow }) (h, g)
-
--- ---- one condition more, as the code puts it
-
-module _ (k r : Counts) (b b′ : List ℕ) (s : Sized (tables k b)) where
-  pub sized-leaf-put : (x : C.Condition) → x .operator ≡ 2
-      → Added k r b′ (withCondition (tables k b) (conditionIs x) (sizeIs (record { count = 1; longest = 1 }))) → Sized (tables r b′)
-  unfolding sizeIs sizeFrom
-  sized-leaf-put x e a = rw (a .is, row-leaf x e) (sized-leaf (tables k b) s (x .left))
-
-  pub sized-joined-put : (x : C.Condition) (z : S.Size) → x .operator ≤ 1 → x .left < k .conditions → x .right < k .conditions
-      → sizeIs z ≡ sizeOf (disjuncts (snoc (tables k b .conditions) (joined (operatorOf (x .operator)) (x .left) (x .right))) (length (tables k b .conditions)))
-      → z .count ≤ 64 → z .longest ≤ 16
-      → Added k r b′ (withCondition (tables k b) (conditionIs x) (sizeIs z)) → Sized (tables r b′)
-  unfolding sizeIs sizeFrom
-  sized-joined-put x z f h g e m n a =
-      rw (a .is, row-joined x (λ q. omega arith))
-      (sized-joined (tables k b) s (operatorOf (x .operator)) (x .left) (x .right) (sizeIs z) (rw (conditions-counted k b) h) (rw (conditions-counted k b) g) e m n)

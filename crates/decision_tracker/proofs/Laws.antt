@@ -56,10 +56,6 @@ pub kept-none : (l : Limits) (st : ℕ → List ℕ) → Blank 17 st → Kept l 
 unfolding decisions upTo evaluate seen numberOf
 kept-none l st z = record { room = omega arith; values = z .zeros; below = Each.nil; once = Pairwise.nil }
 
-pub decisions-none : (st : ℕ → List ℕ) → decisions 0 st ≡ []
-unfolding decisions upTo
-decisions-none st = refl
-
 -- the clause i, as a row has it
 pub clause-some : (i : ℕ) → clauseBy (i + 1) ≡ some i
 unfolding clauseBy
@@ -68,13 +64,6 @@ clause-some i = rw add-one
 pub clause-none : clauseBy 0 ≡ none
 unfolding clauseBy
 clause-none = refl
-
--- one step after another
-pub told-then : {l : Limits} {d e : ℕ} {ds es : List Decision} {st st′ st″ : ℕ → List ℕ} → Told l d ds st st′ → Told l e es st′ st″ → Told l e es st st″
-told-then g h = record { kept = h .kept; is = h .is; rest = changed-then (g .rest) (h .rest) }
-
-pub told-count : {l : Limits} {d : ℕ} {ds : List Decision} {st st′ : ℕ → List ℕ} → Told l d ds st st′ → d ≡ length ds
-told-count {d = d} {st′ = st′} g = sym (count d st′) ∙ ap length (g .is)
 
 -- while a variable below n is undecided, there are fewer than n decisions
 pub fewer : (n x : ℕ) {ds : List Decision} → Each (λ (e : Decision). e .variable < n) ds → Pairwise (λ (e f : Decision). e .variable ≢ f .variable) ds
@@ -95,11 +84,6 @@ room-for {l} {d} {x} {st} f = rw (count d st) at (fewer (l .variables) x (f .kep
 -- a literal is undecided where its variable is
 pub variable-free : (ds : List Decision) (k : Literal) → isUndecided (evaluate ds k) ≡ true → isUndecided (evaluate ds (pos (k .variable))) ≡ true
 variable-free ds k u = ap isUndecided (undecided-in ds (pos (k .variable)) (undecided-out ds k u))
-
--- what was read as undecided can be decided
-pub read-free : {l : Limits} {d x : ℕ} {st : ℕ → List ℕ} {v : Value} → Kept l d st → x < l .variables → v ≡ seen (evaluate (decisions d st) (pos x))
-    → v ≡ values.Undecided → Free l d x st
-read-free {d = d} {x = x} {st = st} {v = v} k h e q = record { kept = k; exists = h; free = reads-undecided (decisions d st) (pos x) v e q }
 
 pub literal-free : {l : Limits} {d y : ℕ} {st : ℕ → List ℕ} {v : Value} (x : clause.Literal) → Kept l d st → y ≡ (literalOf x) .variable
     → (literalOf x) .variable < l .variables → v ≡ seen (evaluate (decisions d st) (literalOf x)) → v ≡ values.Undecided → Free l d y st

@@ -92,11 +92,6 @@ unfolding when
 widens-when true f h s = h s
 widens-when false f h s = widens-same
 
-pub widens-unless : (b : Bool) (f : State → State) → ((s : State) → Widens s (f s)) → (s : State) → Widens s (unless b f s)
-unfolding unless
-widens-unless true f h s = widens-same
-widens-unless false f h s = h s
-
 pub queue-widens : (t : Task) (s : State) → Widens s (onOpening (queue t) s)
 queue-widens t s = widens-opening (queue t) (queue-lengthens t) s
 
@@ -105,9 +100,6 @@ openOwner-widens w s = widens-opening (openOwner w) (openOwner-lengthens w) s
 
 pub openName-widens : (n : ℕ) (s : State) → Widens s (onOpening (openName n) s)
 openName-widens n s = widens-opening (openName n) (openName-lengthens n) s
-
-pub openNames-widens : (c : Catalogue) (rs : List ℕ) (s : State) → Widens s (onOpening (openNames c rs) s)
-openNames-widens c rs s = widens-opening (openNames c rs) (openNames-lengthens c rs) s
 
 pub nameForTracking-widens : (c : Catalogue) (p : ℕ) (s : State) → Widens s (onOpening (nameForTracking c p) s)
 nameForTracking-widens c p s = widens-opening (nameForTracking c p) (nameForTracking-lengthens c p) s

@@ -6,7 +6,7 @@ use mathlib.Core.List.{List, [], _∷_, _++_, map}
 use Prim.Native.Nat.{ℕ}
 use lib.Dec.{eqb}
 use borrow.Author.Tests.{eq-eqb}
-use Rattle.rules.specs.Lists.{filter, any, elem, fold, concatMap, distinct}
+use Rattle.rules.specs.Lists.{filter, any, elem, distinct}
 use Rattle.rules.specs.Catalogue.{Catalogue, nameOf}
 use Rattle.rules.specs.Variables.{partOrigin}
 use Rattle.rules.specs.Opening.{Opening, setAdded, setDrawn, openOwner, fire, beginRun, joining, endRun}
@@ -23,7 +23,7 @@ use Rattle.state.specs.declared.Limits.{Limits}
 use Rattle.encoder.specs.declared.Counters.{Counters}
 use Rattle.encoder.specs.Held.{Good}
 use Rattle.encoder.specs.Did.{ClausesDid}
-use Rattle.naming.specs.Settled.{Noted, Settled, AllSettled, Settles}
+use Rattle.naming.specs.Settled.{Noted, AllSettled, Settles}
 use Rattle.naming.proofs.Settled.{Stands, settled-stands, other-areas}
 use Rattle.naming.proofs.AlikeDid.{did-alike, settles-by}
 use Rattle.beginning.specs.Beginning.{readingOf, Reaches, Begins}

@@ -1,11 +1,10 @@
 -- Entries against their code: a row of two numbers, and one entry more at the end of either list.
 use mathlib.Core.Path.{_≡_, refl, sym, _∙_}
-use mathlib.Core.List.{List, map}
-use Prim.Native.Nat.{ℕ, zero, suc, _+_, _*_, _<_, _≤_}
+use mathlib.Core.List.{List}
+use Prim.Native.Nat.{ℕ, _+_, _*_, _<_}
 use native.Mathlib.Omega.{arith}
 use lib.ListN.{length, getD, set, length-set}
 use lib.Seq.{getD-set-same, getD-set-other}
-use Rattle.rules.specs.Lists.{upTo}
 use Rattle.words.specs.Words.{words, words-in}
 use Rattle.state.specs.declared.Limits.{Limits}
 use Rattle.state.proofs.Rows.{row-at, rows-more, rows-same}

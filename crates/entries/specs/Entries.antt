@@ -1,7 +1,7 @@
 -- The waiting area: the entries that wait and those that were drawn, each a requirement and the index of one of its disjuncts, in order.
 use mathlib.Core.Path.{_≡_}
 use mathlib.Core.List.{List, map}
-use Prim.Native.Nat.{ℕ, _+_, _*_, _<_, _≤_}
+use Prim.Native.Nat.{ℕ, _+_, _*_, _≤_}
 use lib.ListN.{getD}
 use Rattle.rules.specs.Lists.{snoc, upTo}
 use Rattle.words.specs.Words.{words}

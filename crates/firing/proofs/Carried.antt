@@ -1,11 +1,11 @@
 -- The list of indices that the code carries.
-use mathlib.Core.Path.{_≡_, refl, sym, _∙_, ap}
+use mathlib.Core.Path.{_≡_, refl}
 use mathlib.Core.List.{List, [], _∷_, _++_}
 use Prim.Native.Nat.{ℕ, _+_, _<_}
 use native.Mathlib.Numerals.{add-one}
 use native.Mathlib.Omega.{arith}
-use lib.ListN.{length, getD, set, take, length-append}
-use lib.Seq.{take-suc-set, length-take-le, getD-take}
+use lib.ListN.{length, set, take, length-append}
+use lib.Seq.{take-suc-set, length-take-le}
 use Rattle.firing.specs.declared.Indices.{Indices}
 use Rattle.firing.specs.Firing.{indicesIn, Lists}
 
@@ -30,8 +30,3 @@ lists-more is i h e =
 -- one alone
 pub lists-one : {is r : Indices} (i : ℕ) → Lists is [] → Lists r (indicesIn is ++ (i ∷ [])) → Lists r (i ∷ [])
 lists-one i e x = rw (e .is) at x
-
--- read one by one
-pub index-at : {is : Indices} {js : List ℕ} → Lists is js → (j : ℕ) → j < is .len → getD (is .at) j 0 ≡ getD js j 0
-unfolding indicesIn
-index-at {is} x j h = sym (getD-take (is .len) (is .at) j 0 h) ∙ ap (λ (l : List ℕ). getD l j 0) (x .is)

@@ -1,11 +1,11 @@
 -- The clauses of a requirement are added to alike states alike; so a requirement handled with the first candidate of each range named, where all are
 -- settled, gives a state alike to that in which its task was served.
-use mathlib.Core.Path.{_≡_, refl, sym, _∙_, ap}
+use mathlib.Core.Path.{_≡_, refl, _∙_, ap}
 use mathlib.Core.Bool.{Bool, true, false, not}
 use mathlib.Core.List.{List, [], _∷_}
 use Prim.Native.Nat.{ℕ}
 use Rattle.rules.specs.Lists.{fold, when, distinct}
-use Rattle.rules.specs.Clause.{gated, anyGate}
+use Rattle.rules.specs.Clause.{anyGate}
 use Rattle.rules.specs.Catalogue.{Catalogue, rangeName, ownerAt, goalAt}
 use Rattle.rules.specs.Candidates.{nonMatching, goalRanges}
 use Rattle.rules.specs.Conditions.{disjunctAt}
@@ -16,7 +16,7 @@ use Rattle.rules.specs.State.{State, setOpening, Run}
 use Rattle.rules.proofs.Capped.{addVariable}
 use Rattle.rules.proofs.ClauseByClause.{addClause}
 use Rattle.parts.specs.declared.Naming.the-variants.{Tracked}
-use Rattle.naming.specs.Naming.{nameCandidates, nameParts, nameRange, nameDisjuncts}
+use Rattle.naming.specs.Naming.{nameParts, nameRange, nameDisjuncts}
 use Rattle.naming.specs.Settled.{AllSettled}
 use Rattle.naming.specs.Alike.{AlikeIn}
 use Rattle.naming.proofs.Alike.{in-fold, in-step, variable-alone, clause-alone}

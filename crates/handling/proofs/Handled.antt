@@ -14,7 +14,7 @@ use Rattle.rules.specs.Catalogue.{Owner, root, part, Goal, Catalogue, rangeName
 use Rattle.rules.specs.Candidates.{sorted, nonMatching, goalRanges, candidates}
 use Rattle.rules.specs.Conditions.{disjunctsIf, disjunctsOf, disjunctAt}
 use Rattle.rules.specs.Variables.{Origin, chosen, gate, known, variableOf, withVariable, withVariables, partOrigin, partVariable}
-use Rattle.rules.specs.Opening.{requirement, owner, Opening, setOwners, setHandled, setFired, setNamed, setLine}
+use Rattle.rules.specs.Opening.{requirement, owner, Opening, setOwners, setHandled, setFired, setLine}
 use Rattle.rules.specs.Opening.{queue, openOwner, firedParts, nameForTracking, openReady, serveRequirement, serve}
 use Rattle.rules.specs.Encoding.{Shape, direct, throughGate, onFiring, shapeBy, shape, shapeOf}
 use Rattle.rules.specs.Encoding.{rangeOrigins, disjunctOrigins, disjunctLiterals, shapeOrigins, taskOrigins, requirementClauses, taskClauses, served, origins, clauses}
@@ -28,7 +28,7 @@ use Rattle.rules.proofs.Places.{keeps-variable}
 use Rattle.rules.proofs.Known.{known-or-named}
 use Rattle.rules.proofs.Capped.{addVariable}
 use Rattle.rules.proofs.ClauseByClause.{addClause, emit-one-by-one}
-use Rattle.rules.proofs.DistinctEnough.{fold-append, fold-map, fold-concatMap, candidates-enough, variables-once, tracking-once, ready-once, passedOver}
+use Rattle.rules.proofs.DistinctEnough.{fold-append, fold-map, fold-concatMap, candidates-enough, variables-once, tracking-once, ready-once}
 use Rattle.rules.proofs.Forgotten.{erased, fold-commutes, when-commutes, handleAlone, requirement-erased, emit-forgets}
 use Rattle.rules.proofs.Bools.{same-test}
 use Rattle.encoder.specs.Did.{onOpening}

@@ -10,7 +10,7 @@ use Rattle.rules.specs.Lists.{fold, concatMap, distinct}
 use Rattle.rules.specs.Catalogue.{Owner, root, part, Catalogue, ownerAt, goalAt, conditionAt}
 use Rattle.rules.specs.Candidates.{sorted, goalRanges, candidates}
 use Rattle.rules.specs.Conditions.{isNone, disjunctAt, unconditional}
-use Rattle.rules.specs.Variables.{Origin, chosen, one, known, withVariables, partOrigin}
+use Rattle.rules.specs.Variables.{Origin, chosen, known, withVariables, partOrigin}
 use Rattle.rules.specs.Encoding.{shapeBy, shape, shapeOf, disjunctOrigins}
 use Rattle.rules.specs.State.{State, Run}
 use Rattle.rules.specs.Called.{_∈_}

@@ -9,7 +9,7 @@ use Rattle.rules.specs.Catalogue.{Catalogue, noRequirement, ownerAt, goalAt}
 use Rattle.rules.specs.Candidates.{goalRanges}
 use Rattle.rules.specs.Variables.{chosen}
 use Rattle.rules.specs.Opening.{requirement}
-use Rattle.rules.specs.State.{State, Run}
+use Rattle.rules.specs.State.{Run}
 use Rattle.requirement.specs.declared.ConditionalRequirement.{ConditionalRequirement}
 use Rattle.requirement.specs.Requirements.{goalOf, requirementIs}
 use Rattle.tables.specs.declared.Counts.{Counts}

@@ -4,17 +4,16 @@ use mathlib.Core.Bool.{Bool, true, false, _&&_, false≢true}
 use mathlib.Core.List.{List}
 use Prim.Native.Nat.{ℕ, _+_, _*_, _-_, _<_, _≤_}
 use native.Mathlib.Omega.{arith}
-use native.Mathlib.Decide.{decLt, ℕ-discrete}
+use native.Mathlib.Decide.{ℕ-discrete}
 use lib.Dec.{eqb}
 use lib.ListN.{length, getD, set, length-set}
 use lib.Seq.{getD-set-same, getD-set-other}
 use borrow.Author.Tests.{eqb-true}
-use Rattle.rules.specs.Catalogue.{noPart, nameOf, rangeName, partAt}
-use Rattle.rules.specs.Candidates.{member}
+use Rattle.rules.specs.Catalogue.{noPart}
 use Rattle.rules.proofs.Bools.{by-cases, and-left, and-right}
 use Rattle.words.specs.Words.{words}
 use Rattle.tables.specs.declared.Counts.{Counts}
-use Rattle.tables.specs.Tables.{Tables, tablesIn, tables, Laid}
+use Rattle.tables.specs.Tables.{Tables, tables, Laid}
 use Rattle.index.specs.Chains.{Chain, partsByName, keyOf, Keyed, Key, Only, favouredBounds, isFavoured, Favoured, FavouredBounded, favouredOf, Chains, Favouring, Skips}
 use Rattle.index.proofs.Chaining.{Beside, only-none, only-then, only-head, only-link, key-beside, keyed-beside}
 use Rattle.index.proofs.Places as places

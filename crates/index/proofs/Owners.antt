@@ -8,7 +8,7 @@ use native.Mathlib.Nat.{add-zero}
 use lib.Dec.{eqb}
 use lib.ListN.{length, getD}
 use borrow.Author.Tests.{eqb-true}
-use Rattle.rules.specs.Catalogue.{Owner, root, part, Requirement, Constraint, Catalogue, nameOf, noRequirement, noConstraint, requirementAt, constraintAt, ownerAt, sameOwner}
+use Rattle.rules.specs.Catalogue.{Owner, root, part, Requirement, Constraint, Catalogue, nameOf, noRequirement, noConstraint, constraintAt, ownerAt, sameOwner}
 use Rattle.rules.specs.Items.{ownerOf}
 use Rattle.rules.proofs.WellFormed.{OwnerGiven, WellFormed}
 use Rattle.words.specs.Words.{words}
@@ -17,7 +17,7 @@ use Rattle.tables.specs.Tables.{tablesIn, tables, field, requirementRow, requir
 use Rattle.tables.proofs.Listed.{listed-at}
 use Rattle.cache.specs.Areas.{catalogue}
 use Rattle.cache.proofs.Laws.{names-held, parts-held, requirements-held, constraints-held, requirement-held, constraint-held}
-use Rattle.index.specs.Chains.{First, ownerRow, rowOf, partsByName, requirementsByOwner, constraintsByOwner, keyOf, Keys, Skips}
+use Rattle.index.specs.Chains.{First, ownerRow, rowOf, requirementsByOwner, constraintsByOwner, keyOf, Keys, Skips}
 use Rattle.index.proofs.Selecting.{name-is-key}
 
 -- ---- rows

@@ -1,5 +1,5 @@
 -- Walks along a chain or along the members of a range pass none of the parts that are chosen of it.
-use mathlib.Core.Path.{_≡_, refl, sym, ap, _∙_}
+use mathlib.Core.Path.{_≡_, refl, sym, _∙_}
 use mathlib.Core.Bool.{Bool, true, false, _&&_, false≢true}
 use mathlib.Core.List.{List}
 use Prim.Native.Nat.{ℕ, _+_, _<_, _≤_}
@@ -8,7 +8,7 @@ use native.Mathlib.Decide.{decLt, ℕ-discrete}
 use lib.Dec.{eqb}
 use lib.ListN.{getD}
 use borrow.Author.Tests.{ne-eqb}
-use Rattle.rules.specs.Catalogue.{noPart, nameOf, rangeName, partAt}
+use Rattle.rules.specs.Catalogue.{nameOf, rangeName, partAt}
 use Rattle.rules.specs.Candidates.{member}
 use Rattle.words.specs.Words.{words}
 use Rattle.tables.specs.declared.Counts.{Counts}

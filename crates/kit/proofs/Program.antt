@@ -1,11 +1,9 @@
 -- The demands of the program: what follows from the contracts of `run` and `check` and the theorems on the definitions.
-use mathlib.Core.Path.{_≡_, refl, sym, _∙_, ap}
-use mathlib.Core.List.{List, [], _∷_, _++_}
+use mathlib.Core.Path.{_≡_, refl, sym, _∙_}
+use mathlib.Core.List.{List, _++_}
 use Prim.Native.Nat.{ℕ}
 use lib.ListN.{length, take, drop}
 use lib.Seq.{take-at, drop-at}
-use Rattle.rules.specs.Catalogue.{Catalogue}
-use Rattle.rules.specs.State.{State}
 use Rattle.rules.specs.Limits as rules
 use Rattle.rules.specs.Listing.{listing}
 use Rattle.rules.specs.Job.{Outcome, accepted, refused, outcome, accepts, refuses, answer, printed, listingArea}
@@ -15,9 +13,7 @@ use Rattle.rules.proofs.ReadBack.{read-back}
 use Rattle.rules.proofs.Demand3Read.{demand3-read}
 use Rattle.rules.proofs.CheckRun.{check-agrees, numbered, placed}
 use Rattle.terms.specs.declared.Answer.{Answer}
-use Rattle.terms.specs.Terms.{termsOf}
 use Rattle.terms.specs.Answers.{answerOf}
-use Rattle.kit.specs.Checking.{Served}
 use Rattle.kit.specs.Running.{Ran}
 use Rattle.kit.specs.Program.{terms, Accepts, Program, Refuses, Refusing, Agreeing}
 

@@ -1,7 +1,7 @@
 -- What `run` gives: the definitions' answer and listing, and work areas that are zero.
 use mathlib.Core.Path.{_≡_}
 use mathlib.Core.List.{List, [], _∷_}
-use Prim.Native.Nat.{ℕ, _≤_}
+use Prim.Native.Nat.{ℕ}
 use lib.ListN.{length}
 use Rattle.rules.specs.Limits as rules
 use Rattle.rules.specs.Job.{answer, listingArea, workArea}

@@ -57,10 +57,6 @@ module _ {r m n : ℕ} {st : ℕ → List ℕ} (k : Marked r m n st) where
   pub at-low : (i a : ℕ) → i < n → a ≡ getD (listed n r st) i 0 → a < length (st m)
   at-low i a h e = rw e (listed-low (getD (listed n r st) i 0) (at-member (listed n r st) i 0 (rw length-listed h)))
 
-  -- no more are listed than can have a mark
-  pub marked-few : n ≤ length (st m)
-  marked-few = omega (arith, few-below (length (st m)) (k .once) listed-low, length-listed)
-
 -- a caller that has asked `contains`
 pub free-after : {r m n x : ℕ} {st : ℕ → List ℕ} (b : Bool) → Marked r m n st → x < length (st m) → b ≡ isMarked m x st → b ≡ false → Free r m n x st
 free-after {x = x} b k h e f = record { marked = k; low = h; new = sym (marked-is k x) ∙ sym e ∙ f }

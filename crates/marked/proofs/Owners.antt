@@ -8,7 +8,7 @@ use lib.Dec.{eqb}
 use borrow.Author.Tests.{eqb-true, eqb-false, eq-eqb, ne-eqb}
 use Rattle.rules.specs.Lists.{any, elem, snoc}
 use Rattle.rules.specs.Catalogue.{Owner, root, part, sameOwner}
-use Rattle.marked.specs.Marked.{listed, isMarked, Marked, ownerBy, ownerOf, numberOf}
+use Rattle.marked.specs.Marked.{listed, isMarked, Marked, ownerBy, ownerOf}
 use Rattle.marked.proofs.Laws.{marked-is}
 
 -- ---- one owner
@@ -20,14 +20,6 @@ root-is = refl
 pub part-is : (p : ℕ) → p < 1024 → ownerOf p ≡ part p
 unfolding ownerOf ownerBy
 part-is p h = rw (ne-eqb p 1024 (λ e. omega arith))
-
-pub number-owner : (x : ℕ) → numberOf (ownerOf x) ≡ x
-unfolding numberOf ownerOf
-number-owner x = go (eqb x 1024) refl
-  where
-    go : (b : Bool) → eqb x 1024 ≡ b → numberOf (ownerBy b x) ≡ x
-    go true e = unfold numberOf ownerBy in sym (eqb-true x 1024 e)
-    go false e = unfold numberOf ownerBy in refl
 
 same-by : (a b : Bool) (x y : ℕ) → eqb x 1024 ≡ a → eqb y 1024 ≡ b → sameOwner (ownerBy a x) (ownerBy b y) ≡ eqb x y
 unfolding ownerBy

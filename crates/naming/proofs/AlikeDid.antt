@@ -1,11 +1,11 @@
 -- A step that gives what G gives, or a state alike: what G settles, and what G leaves settled, is settled after it.
-use mathlib.Core.Path.{_≡_, sym, _∙_, ap}
-use mathlib.Core.Bool.{Bool, true, false, _||_}
+use mathlib.Core.Path.{_≡_, ap}
+use mathlib.Core.Bool.{true, false}
 use mathlib.Core.List.{List}
 use Prim.Native.Nat.{ℕ}
-use Rattle.rules.specs.Lists.{any, elem}
-use Rattle.rules.specs.Catalogue.{part, Catalogue, nameOf, sameOwner}
-use Rattle.rules.specs.Variables.{known, partOrigin}
+use Rattle.rules.specs.Lists.{elem}
+use Rattle.rules.specs.Catalogue.{Catalogue, nameOf}
+use Rattle.rules.specs.Variables.{known}
 use Rattle.rules.specs.Opening.{Opening}
 use Rattle.rules.specs.State.{State}
 use Rattle.rules.proofs.Bools.{by-cases}

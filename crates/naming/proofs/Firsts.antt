@@ -12,7 +12,7 @@ use Rattle.rules.specs.Lists.{fold, unless}
 use Rattle.rules.specs.Catalogue.{Catalogue, rangeName}
 use Rattle.rules.specs.Candidates.{matching}
 use Rattle.rules.specs.Opening.{Opening, nameForTracking}
-use Rattle.rules.specs.State.{State, setOpening}
+use Rattle.rules.specs.State.{setOpening}
 use Rattle.rules.proofs.DistinctEnough.{fold-append}
 use Rattle.tables.specs.declared.Counts.{Counts}
 use Rattle.tables.specs.Tables.{tables}

@@ -1,10 +1,9 @@
 -- A walk along an owner's chain takes a rule for each of its records: those that are passed are others'.
-use mathlib.Core.Path.{_≡_, refl, sym, _∙_, ap}
-use mathlib.Core.Bool.{Bool, true, false, _&&_}
+use mathlib.Core.Path.{_≡_, sym, _∙_}
+use mathlib.Core.Bool.{false}
 use mathlib.Core.List.{List}
 use Prim.Native.Nat.{ℕ, zero, suc, _+_, _-_, _<_, _≤_}
 use native.Mathlib.Omega.{arith}
-use native.Mathlib.Numerals.{add-one}
 use Rattle.rules.specs.Lists.{fold, when, upTo}
 use Rattle.rules.specs.Catalogue.{Owner, Catalogue}
 use Rattle.rules.specs.Opening.{Opening}

@@ -1,5 +1,5 @@
 -- The number and place of each case.
-use mathlib.Core.Path.{_≡_, refl}
+use mathlib.Core.Path.{_≡_}
 use Prim.Native.Nat.{ℕ}
 use Rattle.rules.specs.Refusals.{numberAndPlace}
 use Rattle.refusal.specs.declared.Thing.{Thing}

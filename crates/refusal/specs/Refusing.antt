@@ -1,5 +1,4 @@
 -- What the enums stand for in the definitions.
-use Prim.Native.Nat.{ℕ}
 use Rattle.rules.specs.Refusals as rules
 use Rattle.refusal.specs.declared.Thing.{Thing}
 use Rattle.refusal.specs.declared.Thing.the-variants as Thing

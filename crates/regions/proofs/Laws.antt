@@ -2,13 +2,13 @@
 use mathlib.Core.Path.{_≡_, refl, sym, _∙_, ap, fun-ext}
 use mathlib.Core.Bool.{Bool, true, false, cond}
 use mathlib.Core.List.{List, [], _∷_}
-use Prim.Native.Nat.{ℕ, zero, suc, _+_, _-_, _*_, _<_, _≤_}
+use Prim.Native.Nat.{ℕ, zero, suc, _+_, _-_, _<_, _≤_}
 use native.Mathlib.Omega.{arith}
 use native.Mathlib.Decide.{decLt}
 use lib.Dec.{eqb, ltb}
-use lib.ListN.{length, getD, set, take, drop, length-take, length-drop, List·getD-eq-default}
+use lib.ListN.{length, getD, set, take, drop, length-take, List·getD-eq-default}
 use lib.Seq.{take-set-le, take-set-lt, drop-set-lt, drop-set-add, getD-take, getD-drop, set-out}
-use borrow.Author.Tests.{lt-ltb, le-ltb, eq-eqb, ne-eqb, eqb-true, eqb-false, ltb-true, ltb-false}
+use borrow.Author.Tests.{lt-ltb, le-ltb, eqb-true, eqb-false, ltb-true, ltb-false}
 use Rattle.rules.specs.Lists.{sum}
 use Rattle.words.specs.Words.{words}
 use Rattle.regions.specs.Regions.{Layout, startOf, sizeOf, part, setIn, regions, stored}

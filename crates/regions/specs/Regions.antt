@@ -1,7 +1,7 @@
 -- A lent area as regions: region j of a layout is a list of two-byte numbers, and a store changes one number of one region.
-use mathlib.Core.Bool.{Bool, true, false, cond}
+use mathlib.Core.Bool.{cond}
 use mathlib.Core.List.{List}
-use Prim.Native.Nat.{ℕ, suc, _+_, _*_, _≤_}
+use Prim.Native.Nat.{ℕ, _+_}
 use lib.Dec.{eqb, ltb}
 use lib.ListN.{getD, take, drop, set}
 use Rattle.rules.specs.Lists.{sum}

@@ -13,7 +13,7 @@ use Rattle.rules.specs.Variables.{Origin, chosen, one, violation, gate, 
 use Rattle.rules.specs.Opening.{Task, owner, name, requirement, constraint}
 use Rattle.rules.specs.Encoding.{Shape, direct, throughGate, onFiring, shapeOf, few, rangeOrigins, disjunctOrigins, shapeOrigins, constraintOrigins, taskOrigins, requirementClauses, constraintClauses, taskClauses}
 use Rattle.rules.specs.Called.{_∈_, constraintRange}
-use Rattle.rules.proofs.MemberLaws.{of-listIf, of-concatMap, map-same}
+use Rattle.rules.proofs.MemberLaws.{of-listIf, of-concatMap}
 
 -- ---- what a task asks for
 

@@ -6,7 +6,7 @@ use mathlib.Core.Bool.{false}
 use mathlib.Core.List.{List, List·Memᴰ·not-nil}
 use Prim.Native.Nat.{ℕ}
 use Rattle.rules.specs.Clause.{Clause}
-use Rattle.rules.specs.Catalogue.{Owner, root, Catalogue, unknownOwner}
+use Rattle.rules.specs.Catalogue.{Owner, root, Catalogue}
 use Rattle.rules.specs.Candidates.{requirementsOf}
 use Rattle.rules.specs.Conditions.{indices, unconditional}
 use Rattle.rules.specs.Variables.{chosen}
@@ -15,7 +15,7 @@ use Rattle.rules.specs.Limits.{Limits, Terms}
 use Rattle.rules.specs.Job.{accepted, outcome}
 use Rattle.rules.specs.Called.{_∈_, Called}
 use Rattle.rules.specs.Keeps.{Demand3}
-use Rattle.rules.proofs.Reached.{Given, Reached, Accepted, accepted-job}
+use Rattle.rules.proofs.Reached.{Given, Reached, accepted-job}
 use Rattle.rules.proofs.MemberLaws.{all-in}
 use Rattle.rules.proofs.WellFormed.{well-formed}
 use Rattle.rules.proofs.Valid.{valid}

@@ -1,17 +1,13 @@
 -- Every job has a history: a list of served tasks that the opening's books and the stored clauses both go by.
-use mathlib.Core.Path.{_≡_, refl, sym, _∙_, ap}
-use mathlib.Core.Bool.{Bool}
+use mathlib.Core.Path.{_≡_, refl}
 use mathlib.Core.List.{List, [], _∷_, _++_}
 use Prim.Native.Nat.{ℕ}
 use lib.ListN.{length}
 use Rattle.rules.specs.Catalogue.{Catalogue}
 use Rattle.rules.specs.Records.{Command}
 use Rattle.rules.specs.Items.{ownerOf}
-use Rattle.rules.specs.Clause.{Clause}
-use Rattle.rules.specs.Variables.{Origin}
-use Rattle.rules.specs.Decisions.{upToLevel}
-use Rattle.rules.specs.Opening.{Task, Opening, setLine, add, draw, serve, beginRun, endRun}
-use Rattle.rules.specs.State.{State, setDecisions, decidedTrue, Run}
+use Rattle.rules.specs.Opening.{Task, add, draw, serve, beginRun, endRun}
+use Rattle.rules.specs.State.{State, decidedTrue, Run}
 use Rattle.rules.specs.Run.{serveTask, lineTaken, runOnce}
 use Rattle.rules.specs.Limits.{Limits}
 use Rattle.rules.specs.Sheet.{decide, carriedOut}

@@ -1,7 +1,7 @@
 -- What holds at the start and is kept by every record holds of every job: the catalogues that items give (`Given`), the states that
 -- commands reach (`Reached`), and the proof that a job's bytes lead to nothing else.
-use mathlib.Core.Path.{_≡_, refl, sym, _∙_, ap}
-use mathlib.Core.Bool.{Bool, true, false, not, _&&_, true≢false, false≢true}
+use mathlib.Core.Path.{_≡_, refl}
+use mathlib.Core.Bool.{Bool, true, false, not, _&&_, false≢true}
 use mathlib.Core.List.{List, [], _∷_}
 use mathlib.Core.Logic.{_⊎_, inl, inr}
 use mathlib.Core.Option.{Option, none, some}
@@ -14,14 +14,13 @@ use Rattle.rules.specs.Lists.{all}
 use Rattle.rules.proofs.Bools.{and-left, and-right}
 use Rattle.rules.proofs.KindTable.{not-one, looked-up}
 use Rattle.rules.specs.Catalogue.{Catalogue, emptyCatalogue}
-use Rattle.rules.specs.Refusals.{Refusal, unfit, overlong, notRun, listingFull, numberAndPlace, _if_, Result, ok, refuse, unlessAny}
+use Rattle.rules.specs.Refusals.{Refusal, unfit, overlong, notRun, listingFull, _if_, Result, ok, refuse, unlessAny}
 use Rattle.rules.specs.Records.{Kind, kinds, lookUp, kindOf, ofSheet, Item, Command, Record, catalogue, sheet, recordOf, readBody, readKind, read}
 use Rattle.rules.specs.Items.{itemRefusals, withItem, addItem}
 use Rattle.rules.specs.State.{State, start}
 use Rattle.rules.specs.Limits.{Limits, Terms, fits}
 use Rattle.rules.specs.Sheet.{commandRefusals, carriedOut, carryOut}
-use Rattle.rules.specs.Listing.{listing}
-use Rattle.rules.specs.Job.{Progress, reading, carrying, stopped, bodyOf, walk, afterItem, afterCommand, afterRecord, runStep, begunWith, progress, Outcome, accepted, refused, isEmpty, ending, endedBy, ended, outcome}
+use Rattle.rules.specs.Job.{Progress, reading, carrying, stopped, bodyOf, walk, afterItem, afterCommand, afterRecord, runStep, begunWith, progress, accepted, isEmpty, ending, endedBy, ended, outcome}
 use Rattle.rules.specs.Job.{startsSheet, checkBy, checkStep}
 
 -- ---- a step that refuses nothing

@@ -1,30 +1,30 @@
 -- The stored clauses are exactly those that the opening calls for: no rule is lost, none is invented, for every job.
-use mathlib.Core.Path.{_≡_, refl, sym, _∙_, ap}
-use mathlib.Core.Logic.{_↔_, _⊎_, inl, inr, ⊎-elim}
-use mathlib.Core.Bool.{Bool, true, false, not, true≢false, false≢true}
-use mathlib.Core.List.{List, [], _∷_, _++_, map, List·Memᴰ·head, List·Memᴰ·tail, List·Memᴰ·append-cases, List·Memᴰ·eq-of-singleton, List·Memᴰ·not-nil, Memᴰ·append-left, Memᴰ·append-right, Memᴰ·map, Memᴰ·of-map}
+use mathlib.Core.Path.{_≡_, refl, sym}
+use mathlib.Core.Logic.{⊎-elim}
+use mathlib.Core.Bool.{Bool, true, false}
+use mathlib.Core.List.{List, [], _∷_, map, List·Memᴰ·head, List·Memᴰ·tail, List·Memᴰ·append-cases, List·Memᴰ·eq-of-singleton, List·Memᴰ·not-nil, Memᴰ·append-left, Memᴰ·append-right, Memᴰ·map, Memᴰ·of-map}
 use mathlib.Core.Option.{Option, none, some}
-use Prim.Native.Nat.{ℕ, _<_}
+use Prim.Native.Nat.{ℕ}
 use lib.ListN.{length}
 use Rattle.rules.specs.Lists.{any, listIf}
-use Rattle.rules.specs.Clause.{Clause, install, requires, gated, excluded, constrains, auxOut, auxOwner, lock, anyGate, anyOne, exclusion, unknownDependencies}
-use Rattle.rules.specs.Catalogue.{Owner, root, part, Catalogue, partAt, constraintAt, rangeName, ownerAt, goalAt, conditionAt, unknownOwner}
+use Rattle.rules.specs.Clause.{Clause, gated, excluded, auxOut, lock, exclusion}
+use Rattle.rules.specs.Catalogue.{Owner, root, part, Catalogue, constraintAt, rangeName, ownerAt, goalAt, unknownOwner}
 use Rattle.rules.specs.Candidates.{nonMatching, candidates, requirementsOf, constraintsOf, lockedOut, excludedParts}
 use Rattle.rules.specs.Conditions.{disjunctAt, isNone, unconditional}
-use Rattle.rules.specs.Variables.{Origin, chosen, one, violation, gate, known, variableOf, partOrigin, partVariable}
+use Rattle.rules.specs.Variables.{Origin, one, violation, known, variableOf, partOrigin, partVariable}
 use Rattle.rules.specs.Opening.{Task, owner, name, condition, requirement, constraint, Opening}
-use Rattle.rules.specs.Encoding.{Shape, direct, throughGate, onFiring, shape, shapeOf, few, rangeOrigins, disjunctOrigins, shapeOrigins, taskOrigins, disjunctLiterals, requirementClauses, constraintClauses, taskClauses}
+use Rattle.rules.specs.Encoding.{Shape, direct, throughGate, onFiring, shape, shapeOf, few, rangeOrigins, disjunctOrigins, shapeOrigins, taskOrigins, requirementClauses, constraintClauses, taskClauses}
 use Rattle.rules.specs.State.{State}
-use Rattle.rules.specs.Called.{_∈_, NeedsOne, constraintRange, candidateVariables, Called, installed, unknownPart, excludedPart, otherThanLocked, fewNonMatching, partViolates, ownerForbidsViolation, required, gateRequires, ownerNeedsGate, firedRequires, bitAgrees, partIsOne}
+use Rattle.rules.specs.Called.{_∈_, NeedsOne, constraintRange, Called, installed, unknownPart, excludedPart, otherThanLocked, fewNonMatching, partViolates, ownerForbidsViolation, required, gateRequires, ownerNeedsGate, firedRequires, bitAgrees, partIsOne}
 use Rattle.rules.proofs.KindTable.{not-one}
 use Rattle.rules.proofs.WellFormed.{WellFormed}
 use Rattle.rules.proofs.MemberLaws.{of-listIf, in-listIf, in-concatMap, all-in}
 use Rattle.rules.proofs.Valid.{requirementsOf-given, constraintsOf-given}
 use Rattle.rules.proofs.OwnerTasks.{requirement-owner, constraint-owner}
 use Rattle.rules.proofs.Books.{Books, owner-opened, name-opened, requirement-from, constraint-from, fired-of}
-use Rattle.rules.proofs.Booked.{Booked, all-served, unconditional-served, constraint-served}
-use Rattle.rules.proofs.Asked.{Asks, for-owner, for-gate, for-violation, for-one, asks}
-use Rattle.rules.proofs.Encoded.{Encoded, Source, of-start, of-task, of-bit, of-one, by-task, one-from, one-stored}
+use Rattle.rules.proofs.Booked.{all-served, unconditional-served, constraint-served}
+use Rattle.rules.proofs.Asked.{Asks, for-owner, for-gate, for-violation, for-one}
+use Rattle.rules.proofs.Encoded.{Source, of-start, of-task, of-bit, of-one, by-task, one-from, one-stored}
 use Rattle.rules.proofs.History.{History}
 
 -- only a requirement without a condition has another shape than "on firing"

@@ -1,10 +1,10 @@
 -- The clauses that an opening calls for: the encoding rules once more, without order, task line or storing. A job stores exactly these (proofs/Stored.antt).
 use mathlib.Core.Path.{_≡_}
 use mathlib.Core.List.{List·Memᴰ}
-use Rattle.rules.specs.Base.{Bool, true, false, List, [], map, ℕ, _<_, length, getD}
+use Rattle.rules.specs.Base.{true, false, List, [], map, ℕ, _<_, length, getD}
 use Rattle.rules.specs.Clause.{Clause, install, requires, gated, excluded, constrains, auxOut, auxOwner, lock, anyGate, anyOne, exclusion, unknownDependencies}
 use Rattle.rules.specs.AtMostOne.{bit, helpersFor, agrees}
-use Rattle.rules.specs.Catalogue.{Owner, root, part, Catalogue, partAt, constraintAt, rangeName, goalAt}
+use Rattle.rules.specs.Catalogue.{Owner, part, Catalogue, partAt, constraintAt, rangeName, goalAt}
 use Rattle.rules.specs.Candidates.{nonMatching, candidates, requirementsOf, constraintsOf, lockedOut, excludedParts}
 use Rattle.rules.specs.Conditions.{disjunctAt}
 use Rattle.rules.specs.Variables.{Origin, chosen, one, violation, gate, variableOf, partVariable}

@@ -1,7 +1,6 @@
 -- States alike stay so where what was handled and fired is forgotten, where the line is taken, and behind other tasks; they agree in what is decided true and in the line.
 use mathlib.Core.Path.{_≡_, refl, ap}
-use mathlib.Core.List.{List, [], _++_}
-use Prim.Native.Nat.{ℕ}
+use mathlib.Core.List.{List, []}
 use Rattle.rules.specs.Catalogue.{Catalogue}
 use Rattle.rules.specs.Opening.{Task, Opening, setLine}
 use Rattle.rules.specs.State.{State, setOpening, decidedTrue}

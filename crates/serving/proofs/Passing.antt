@@ -10,7 +10,7 @@ use Rattle.rules.specs.Lists.{any}
 use Rattle.rules.specs.Catalogue.{Catalogue}
 use Rattle.rules.specs.Opening.{Task}
 use Rattle.rules.specs.State.{State, decidedTrue, Run}
-use Rattle.rules.specs.Run.{lineTaken, serveTask, runOnce}
+use Rattle.rules.specs.Run.{serveTask, runOnce}
 use Rattle.rules.specs.Limits.{above}
 use Rattle.rules.proofs.WellFormed.{well-formed}
 use Rattle.rules.proofs.Line.{stateAfter, serves, runFrom}

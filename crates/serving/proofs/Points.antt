@@ -1,5 +1,5 @@
 -- A point of a run: what is decided true there is what was when the run began, and the line has places for what its next task queues.
-use mathlib.Core.Path.{_≡_, refl, fun-ext}
+use mathlib.Core.Path.{_≡_, fun-ext}
 use mathlib.Core.List.{List, _∷_}
 use Prim.Native.Nat.{ℕ, suc, _+_, _≤_}
 use native.Mathlib.Nat.{le-refl}

@@ -1,8 +1,7 @@
 -- Goals that are flagged stay so over a command: one that is no run loses no variable, no opened owner and no part that is named or tracked.
-use mathlib.Core.Path.{_≡_, refl}
+use mathlib.Core.Path.{_≡_}
 use mathlib.Core.List.{List}
 use Prim.Native.Nat.{ℕ}
-use Rattle.rules.specs.Lists.{snoc}
 use Rattle.rules.specs.Catalogue.{Catalogue}
 use Rattle.rules.specs.Refusals.{ok}
 use Rattle.rules.specs.Records.{Command}
@@ -24,7 +23,7 @@ use Rattle.encoder.specs.declared.Counters.{Counters}
 use Rattle.encoder.specs.Did.{limitsOf}
 use Rattle.naming.specs.Settled.{AllSettled, Settles}
 use Rattle.naming.proofs.Settled.{Stands, stands-same, settled-stands, other-areas}
-use Rattle.beginning.specs.Beginning.{Holds, Reaches}
+use Rattle.beginning.specs.Beginning.{Reaches}
 use Rattle.serving.specs.Flags.{Flagged}
 use Rattle.commands.specs.declared.Outcome.{Outcome}
 use Rattle.commands.specs.declared.Outcome.the-variants.{Carried, Refused}

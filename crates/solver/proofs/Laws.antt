@@ -1,14 +1,14 @@
 -- Rows of stored clauses: reading one and appending one.
-use mathlib.Core.Path.{_≡_, refl, ap, sym, _∙_}
+use mathlib.Core.Path.{_≡_, ap, _∙_}
 use mathlib.Core.List.{List, [], _∷_, _++_}
-use Prim.Native.Nat.{ℕ, zero, suc, _+_, _-_, _*_, _<_, _≤_}
+use Prim.Native.Nat.{ℕ, suc, _+_, _-_, _*_, _<_, _≤_}
 use native.Mathlib.Omega.{arith}
 use lib.ListN.{length, getD, set, take, drop}
 use lib.Seq.{sets}
 use Rattle.rules.specs.Lists.{snoc}
 use Rattle.words.specs.Words.{words, length-words}
 use Rattle.words.proofs.Parts.{stored-behind}
-use Rattle.tables.specs.Tables.{listed, field}
+use Rattle.tables.specs.Tables.{field}
 use Rattle.tables.proofs.Listed.{listed-at, listed-more, listed-same}
 use Rattle.tables.proofs.Stores.{Stored, stored-outside, stored-inside}
 use Rattle.solver.specs.declared.Stored as declared

@@ -1,6 +1,6 @@
 -- Rows of stored clauses: ten numbers each, the last two left for what later requests bring.
-use mathlib.Core.List.{List, [], _∷_, map}
-use Prim.Native.Nat.{ℕ, _+_, _*_}
+use mathlib.Core.List.{List, [], _∷_}
+use Prim.Native.Nat.{ℕ}
 use Rattle.words.specs.Words.{words}
 use Rattle.tables.specs.Tables.{listed, field}
 use Rattle.solver.specs.declared.Stored.{Stored}

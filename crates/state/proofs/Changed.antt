@@ -19,7 +19,7 @@ use Rattle.regions.specs.Regions.{startOf, sizeOf, part, regions, stored}
 use Rattle.regions.proofs.Laws.{at-in, at-past, follows, ends-within}
 use Rattle.state.specs.declared.Limits.{Limits}
 use Rattle.state.specs.Layout.{sizes, held, Fits}
-use Rattle.state.specs.Changed.{Changed, Blank, Zeroed, Cleared}
+use Rattle.state.specs.Changed.{Changed, Zeroed, Cleared}
 
 -- ---- one store
 
@@ -49,14 +49,6 @@ none-left : (j : ℕ) (js ks : List ℕ) → elem j (js ++ ks) ≡ false → ele
 unfolding any
 none-left j [] ks e = refl
 none-left j (i ∷ js) ks e = by-cases (eqb j i) (λ q. absurd (true≢false (rw q at e))) (λ q. rw q (none-left j js ks (rw q at e)))
-
-none-right : (j : ℕ) (js ks : List ℕ) → elem j (js ++ ks) ≡ false → elem j ks ≡ false
-unfolding any
-none-right j [] ks e = e
-none-right j (i ∷ js) ks e = by-cases (eqb j i) (λ q. absurd (true≢false (rw q at e))) (λ q. none-right j js ks (rw q at e))
-
-pub changed-both : {js ks : List ℕ} {st st′ st″ : ℕ → List ℕ} → Changed js st st′ → Changed ks st′ st″ → Changed (js ++ ks) st st″
-changed-both {js} {ks} p q = record { same = λ j o. q .same j (none-right j js ks o) ∙ p .same j (none-left j js ks o) }
 
 -- in a longer list of regions
 pub changed-within : {js : List ℕ} (ks : List ℕ) {st st′ : ℕ → List ℕ} → all (λ j. elem j ks) js ≡ true → Changed js st st′ → Changed ks st st′

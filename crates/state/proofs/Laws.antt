@@ -1,19 +1,18 @@
 -- The code's starts and sizes are the layout's, and a number read or stored is one of the region that was asked for.
-use mathlib.Core.Path.{_≡_, refl, sym, _∙_, ap}
-use mathlib.Core.Bool.{Bool, true, false}
+use mathlib.Core.Path.{_≡_, refl, sym}
 use mathlib.Core.List.{List, [], _∷_}
-use Prim.Native.Nat.{ℕ, zero, suc, _+_, _*_, _<_, _≤_}
+use Prim.Native.Nat.{ℕ, suc, _+_, _*_, _<_, _≤_}
 use native.Mathlib.Omega.{arith}
 use native.Mathlib.Decide.{decLt}
 use lib.Dec.{eqb}
-use lib.ListN.{length, getD, take, List·getD-eq-default}
+use lib.ListN.{getD, List·getD-eq-default}
 use lib.Seq.{take-all}
 use borrow.Author.Tests.{eqb-true}
 use Rattle.rules.specs.Lists.{upTo, sum}
 use Rattle.rules.specs.Compute.{computing}
 use Rattle.rules.proofs.Member.{all-out, upTo-in}
 use Rattle.words.specs.Words.{words}
-use Rattle.regions.specs.Regions.{Layout, startOf, sizeOf, part, setIn, regions, stored}
+use Rattle.regions.specs.Regions.{startOf, sizeOf, part, setIn, regions, stored}
 use Rattle.regions.proofs.Laws.{follows, ends-within, store-in}
 use Rattle.state.specs.declared.Limits.{Limits}
 use Rattle.state.specs.Layout.{sizes, held, Fits}

@@ -1,7 +1,6 @@
 -- The regions of a run's state area, in order; docs/LIMITS.md, "Work areas".
 use mathlib.Core.List.{List, [], _∷_}
 use Prim.Native.Nat.{ℕ, _+_, _*_, _≤_}
-use Rattle.rules.specs.Lists.{sum}
 use Rattle.regions.specs.Regions.{Layout, regions}
 use Rattle.state.specs.declared.Limits.{Limits}
 

@@ -265,7 +265,3 @@ module _ (k : Counts) (t : List ℕ) where
   pub constraints-counted : length (tables k t .constraints) ≡ k .constraints
   unfolding tables tablesIn
   constraints-counted = listed-length (k .constraints) (constraintRow (words t))
-
-  pub elsewhere-kept : (t′ : List ℕ) (at x : ℕ) → words t′ ≡ set (words t) at x → Free k at (at + 1) → tables k t′ ≡ tables k t
-  unfolding tables
-  elsewhere-kept t′ at x e f = free-kept k (first x e) f

@@ -1,7 +1,7 @@
 -- The tables of the catalogue's area as the things they stand for. A row is some two-byte numbers; docs/LIMITS.md, "Work areas", has their order.
 use mathlib.Core.Path.{_≡_}
 use mathlib.Core.Bool.{Bool, true, false}
-use mathlib.Core.List.{List, [], _∷_, map}
+use mathlib.Core.List.{List, map}
 use Prim.Native.Nat.{ℕ, suc, _+_, _*_, _≤_}
 use lib.Dec.{eqb}
 use lib.ListN.{length, getD}

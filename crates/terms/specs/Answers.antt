@@ -1,7 +1,6 @@
 -- What a call's answer stands for.
 use mathlib.Core.Path.{_≡_}
 use mathlib.Core.Bool.{Bool, true, false}
-use Prim.Native.Nat.{ℕ}
 use lib.Dec.{eqb}
 use Rattle.rules.specs.Job.{accepts, refuses}
 use Rattle.rules.specs.Job as job

@@ -1,7 +1,7 @@
 -- What it is to have written bytes into an area with so much room, and a line's fields behind its first.
 use mathlib.Core.Path.{_≡_}
 use mathlib.Core.Bool.{Bool}
-use mathlib.Core.List.{List, [], _∷_, _++_}
+use mathlib.Core.List.{List, _∷_, _++_}
 use Prim.Native.Nat.{ℕ, suc, _+_, _-_, _<_}
 use lib.ListN.{length, take}
 use lib.Seq.{sets}

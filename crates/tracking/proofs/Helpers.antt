@@ -2,13 +2,13 @@
 use mathlib.Core.Path.{_≡_, refl, sym, _∙_}
 use mathlib.Core.Bool.{true}
 use mathlib.Core.List.{List, [], _∷_, _++_, map, map-append}
-use Prim.Native.Nat.{ℕ, zero, suc, _+_, _*_, _-_, _/_, _%_, _^_, _<_, _≤_, zero-le}
+use Prim.Native.Nat.{ℕ, zero, suc, _+_, _*_, _/_, _%_, _^_, _<_, _≤_, zero-le}
 use native.Mathlib.Nat.{div-div-eq-div-mul, div-one, pow-suc, mul-comm, not-suc-le-zero}
 use native.Mathlib.Numerals.{add-one}
 use native.Mathlib.Decide.{decLt}
 use native.Mathlib.Omega.{arith}
 use lib.Dec.{eqb}
-use lib.ListN.{length, getD, take, set, replicate, length-map, length-append}
+use lib.ListN.{length, take, set, replicate, length-map, length-append}
 use lib.Seq.{take-suc-set, length-take-le}
 use borrow.Author.Tests.{eqb-true, lt-ltb}
 use Rattle.rules.specs.Lists.{snoc, upTo}

@@ -41,18 +41,8 @@ module _ {js : List ℕ} {st st′ : ℕ → List ℕ} (c : Changed js st st′)
   pub mapped-kept : {l : Limits} {n : ℕ} → elem 0 js ≡ false → elem 16 js ≡ false → Mapped l n st → Mapped l n st′
   mapped-kept {l} {n} e f m = record { room = m .room; slots = λ o h. rw (c .same 0 e, variables-kept n f) (m .slots o h) }
 
--- one step after another
-pub grown-then : {l : Limits} {n m : ℕ} {vs ws : List Origin} {st st′ st″ : ℕ → List ℕ} → Grown l n vs st st′ → Grown l m ws st′ st″ → Grown l m ws st st″
-grown-then g h = record { mapped = h .mapped; is = h .is; rest = changed-then (g .rest) (h .rest) }
-
 pub grown-count : {l : Limits} {n : ℕ} {vs : List Origin} {st st′ : ℕ → List ℕ} → Grown l n vs st st′ → n ≡ length vs
 grown-count {n = n} {st′ = st′} g = sym (count n st′) ∙ ap length (g .is)
-
--- a new origin had room: `Full` is given only where there is none
-pub made-room : {l : Limits} {n c x : ℕ} {o : Origin} {st st′ : ℕ → List ℕ} → Made l n o c x st st′ → known (variables n st) o ≡ false → n < l .variables
-made-room {n = n} {o = o} {st = st} m u =
-    let e = grown-count (m .grown) ∙ (ap length (with-new (variables n st) o u) ∙ (length-snoc (variables n st) o ∙ ap suc (count n st))) in
-    omega (arith, e, m .grown .mapped .room)
 
 -- what `name` gives, by its answer
 pub named-made : {l : Limits} {n c x : ℕ} {o : Origin} {st st′ : ℕ → List ℕ} {r : Named} → Naming l n o st st′ r → r ≡ Variable c x → Made l n o c x st st′

@@ -1,7 +1,7 @@
 -- A part of an area that was lent and has come back: numbers stored at its start are numbers stored behind those before it.
 use mathlib.Core.Path.{_≡_, refl, ap, sym, _∙_}
 use mathlib.Core.List.{List, [], _∷_, _++_, append-nil}
-use Prim.Native.Nat.{ℕ, zero, suc, _+_, _-_, _*_, _<_, _≤_}
+use Prim.Native.Nat.{ℕ, zero, suc, _+_, _-_, _*_, _≤_}
 use native.Mathlib.Omega.{arith}
 use lib.ListN.{length, take, drop, set, drop-of-length-le, length-drop}
 use lib.Seq.{take-all, sets}

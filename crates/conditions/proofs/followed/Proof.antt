@@ -4,7 +4,6 @@ use Rattle.tables.specs.Tables.{tables}
 use Rattle.conditions.proofs.Laws.{Following, following-given, following-start, following-step}
 use Rattle.conditions.proofs.followed.Statement.{statement}
 use Rattle.conditions.proofs.followed.Tie as tie
-use Rattle.conditions.proofs.half.Reads as half-reads
 
 abbrev Inv-loop : tie.InvT-loop
 Inv-loop t k c i condition₀ index₀ next₀ condition index next = Following (tables k t .conditions) c i condition index (next .condition) (next .index)

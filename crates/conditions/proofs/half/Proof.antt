@@ -3,7 +3,6 @@ use borrow.Author.Needs.{needs}
 use Rattle.conditions.proofs.Laws.{follows-same, follows-half}
 use Rattle.conditions.proofs.half.Statement.{statement}
 use Rattle.conditions.proofs.half.Tie as tie
-use Rattle.conditions.proofs.source_of.Reads as source-of-reads
 
 source-of-requires : tie.Need-source-of-requires
 source-of-requires c κs = search needs

@@ -3,8 +3,6 @@ use borrow.Author.Needs.{needs}
 use Rattle.conditions.proofs.Laws.{follows-given, follows-from}
 use Rattle.conditions.proofs.source_past_or.Statement.{statement}
 use Rattle.conditions.proofs.source_past_or.Tie as tie
-use Rattle.conditions.proofs.followed.Reads as followed-reads
-use Rattle.conditions.proofs.source_of.Reads as source-of-reads
 
 followed-requires : tie.Need-followed-requires
 followed-requires c κs = search needs

@@ -1,6 +1,6 @@
 use borrow.Author.Needs.{needs}
 use mathlib.Core.Path.{_≡_}
-use Prim.Native.Nat.{_+_, _-_}
+use Prim.Native.Nat.{_-_}
 use lib.ListN.{length}
 use Rattle.index.specs.Chains.{partsByName, Heading}
 use Rattle.index.proofs.Laws.{parts-start, parts-headed, parts-all-headed}

@@ -1,7 +1,5 @@
 -- `naming::name_candidates` names all candidates, or the first of each range.
 use borrow.Author.Needs.{needs}
-use mathlib.Core.Path.{refl}
-use Rattle.encoder.proofs.Steps.{state-same}
 use Rattle.naming.specs.Naming.{nameCandidates}
 use Rattle.naming.proofs.name_candidates.Statement.{statement}
 use Rattle.naming.proofs.name_candidates.Tie as tie

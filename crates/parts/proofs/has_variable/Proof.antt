@@ -3,8 +3,6 @@ use borrow.Author.Needs.{needs}
 use Rattle.parts.proofs.Names.{part-fits, variable-some}
 use Rattle.parts.proofs.has_variable.Statement.{statement}
 use Rattle.parts.proofs.has_variable.Tie as tie
-use Rattle.variable_map.proofs.part.Reads as part-reads
-use Rattle.variable_map.proofs.variable.Reads as variable-reads
 
 part-requires : tie.Need-part-requires
 part-requires c κs = search needs

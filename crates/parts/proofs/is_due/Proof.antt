@@ -3,8 +3,6 @@ use borrow.Author.Needs.{needs}
 use Rattle.parts.proofs.Names.{due-settled, due-selected}
 use Rattle.parts.proofs.is_due.Statement.{statement}
 use Rattle.parts.proofs.is_due.Tie as tie
-use Rattle.parts.proofs.is_settled.Reads as is-settled-reads
-use Rattle.parts.proofs.selected.Reads as selected-reads
 
 cast-is-settled : tie.Need-cast-is-settled
 cast-is-settled c = search needs

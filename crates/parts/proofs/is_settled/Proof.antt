@@ -3,9 +3,6 @@ use borrow.Author.Needs.{needs}
 use Rattle.parts.proofs.Names.{not-said, settled-open, settled-closed}
 use Rattle.parts.proofs.is_settled.Statement.{statement}
 use Rattle.parts.proofs.is_settled.Tie as tie
-use Rattle.marked.proofs.contains.Reads as contains-reads
-use Rattle.parts.proofs.has_variable.Reads as has-variable-reads
-use Rattle.tables.proofs.ready.Reads as ready-reads
 
 has-variable-requires : tie.Need-has-variable-requires
 has-variable-requires c κs = search needs

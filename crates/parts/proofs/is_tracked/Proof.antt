@@ -3,9 +3,6 @@ use borrow.Author.Needs.{needs}
 use Rattle.parts.proofs.Names.{tracked-again, tracked-several}
 use Rattle.parts.proofs.is_tracked.Statement.{statement}
 use Rattle.parts.proofs.is_tracked.Tie as tie
-use Rattle.marked.proofs.contains.Reads as contains-reads
-use Rattle.opening.proofs.is_several.Reads as is-several-reads
-use Rattle.tables.proofs.part_name.Reads as part-name-reads
 
 contains-requires : tie.Need-contains-requires
 contains-requires c κs = search needs

@@ -6,10 +6,6 @@ use Rattle.cache.specs.Areas.{catalogue}
 use Rattle.parts.proofs.Names.{NamedSoFar, naming-first, naming-due, naming-idle, naming-end}
 use Rattle.parts.proofs.name_each.Statement.{statement}
 use Rattle.parts.proofs.name_each.Tie as tie
-use Rattle.parts.proofs.first.Reads as first-reads
-use Rattle.parts.proofs.is_due.Reads as is-due-reads
-use Rattle.parts.proofs.name_part.Reads as name-part-reads
-use Rattle.parts.proofs.next.Reads as next-reads
 
 abbrev Inv-loop : tie.InvT-loop
 Inv-loop marks unions t k s₀ l which naming m₀ p₀ s m p = NamedSoFar (catalogue k marks unions t) l which naming (k .parts) m₀ s₀ m s p

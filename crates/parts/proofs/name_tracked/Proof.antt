@@ -3,10 +3,6 @@ use borrow.Author.Needs.{needs}
 use Rattle.parts.proofs.Names.{part-fits, several-after, named-after, tracked-named, tracked-known}
 use Rattle.parts.proofs.name_tracked.Statement.{statement}
 use Rattle.parts.proofs.name_tracked.Tie as tie
-use Rattle.opening.proofs.name_for_tracking.Reads as name-for-tracking-reads
-use Rattle.opening.proofs.name_variable.Reads as name-variable-reads
-use Rattle.parts.proofs.has_variable.Reads as has-variable-reads
-use Rattle.variable_map.proofs.part.Reads as part-reads
 
 has-variable-requires : tie.Need-has-variable-requires
 has-variable-requires c κs = (search needs, ((c .before .before .before .before .before .pre .1 .1 .0 .good .state .mapped), search needs))

@@ -3,7 +3,6 @@ use borrow.Author.Needs.{needs}
 use Rattle.reader.proofs.Laws.{length-first, length-between, length-second, length-past}
 use Rattle.reader.proofs.body_length.Statement.{statement}
 use Rattle.reader.proofs.body_length.Tie as tie
-use Rattle.reader.proofs.length_at.Reads as length-at-reads
 
 length-at-requires : tie.Need-length-at-requires
 length-at-requires c κs = search needs

@@ -3,8 +3,6 @@ use borrow.Author.Needs.{needs}
 use Rattle.reader.proofs.Laws.{word-in, word-past}
 use Rattle.reader.proofs.word.Statement.{statement}
 use Rattle.reader.proofs.word.Tie as tie
-use Rattle.reader.proofs.byte.Reads as byte-reads
-use Rattle.words.proofs.wide.Reads as wide-reads
 
 add-if1 : tie.Need-add-if1
 add-if1 c = search needs

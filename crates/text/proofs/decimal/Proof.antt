@@ -3,10 +3,6 @@ use borrow.Author.Needs.{needs}
 use Rattle.text.proofs.Laws.{decimal-at, decimal-counted}
 use Rattle.text.proofs.decimal.Statement.{statement}
 use Rattle.text.proofs.decimal.Tie as tie
-use Rattle.text.proofs.bytes_of.Reads as bytes-of-reads
-use Rattle.text.proofs.digits.Reads as digits-reads
-use Rattle.text.proofs.free.Reads as free-reads
-use Rattle.text.proofs.width.Reads as width-reads
 
 free-requires : tie.Need-free-requires
 free-requires c κs = search needs
