@@ -5,5 +5,6 @@ pub mod checking;
 pub mod clock;
 pub mod jobs;
 pub mod measure;
+pub mod search;
 pub mod side;
 pub mod slow;
