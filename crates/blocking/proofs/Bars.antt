@@ -87,9 +87,6 @@ module _ (k : Counts) (m u t : List ℕ) {l : Limits} {n : Counters} {s : List �
 pub row-there : {most : ℕ} {lists : List ℕ} {i : ℕ} → Row most lists i → (j : ℕ) → j < getD lists (1024 + i) 0 → getD lists (16 * i + j) 0 < most
 row-there r j h = r .given j h
 
-pub row-inside : {lists : List ℕ} {i : ℕ} → Row 512 lists i → (j : ℕ) → j < getD lists (1024 + i) 0 → 256 + getD lists (16 * i + j) 0 < 768
-row-inside r j h = omega (arith, r .given j h)
-
 -- it has a blocked range
 pub row-bars : {lists blocked : List ℕ} {i : ℕ} (j : ℕ) → j < getD lists (1024 + i) 0 → getD blocked (256 + getD lists (16 * i + j) 0) 0 ≡ 1 → RowBars lists blocked i true
 row-bars {lists} {blocked} {i} j h e =

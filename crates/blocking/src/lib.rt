@@ -182,7 +182,7 @@ fn watch(
 fn list_disjunct(t: &[u8], k: Counts, c: usize, lists: &mut [u16; 1091], i: usize)
     requires { ⌜ Laid k (length (now t)) ⌝ }
     requires { ⌜ Sized (tables k (now t)) ⌝ }
-    requires { ⌜ (c < k .conditions) × (length (now lists) ≡ 1091) ⌝ }
+    requires { ⌜ (c < k .conditions) × (i < 64) × (length (now lists) ≡ 1091) ⌝ }
     requires { ⌜ i < length (disjuncts (tables k (now t) .conditions) c) ⌝ }
     ensures { λ _. ⌜ Lists (tables k (now (t .entry)) .conditions) c i (now (lists .entry)) (now (lists .exit)) ⌝ }
 {

@@ -6,6 +6,7 @@ use Rattle.variable_map.specs.Mapping.{variables}
 use Rattle.decision_tracker.specs.Tracking.{decisions}
 use Rattle.goals.specs.Goals.{trueOf}
 use Rattle.blocking.specs.Blocking.{Grows}
+use native.Mathlib.Omega.{arith}
 use Rattle.blocking.proofs.Bars.{row-there, grows-same, some-room, some-step, disjunct-here, disjunct-not}
 use Rattle.blocking.proofs.bar_some.Statement.{statement}
 use Rattle.blocking.proofs.bar_some.Tie as tie
@@ -44,7 +45,7 @@ element-copy-out-r : tie.Need-element-copy-out-r Inv-loop μ-loop
 element-copy-out-r c = search needs
 
 cast-r : tie.Need-cast-r Inv-loop μ-loop
-cast-r c = search needs
+cast-r c = let p = (c .before .before .before .before .before .before .before .before .pre) in omega (arith, p .1 .0 .given (c .before .before .loop .j) (c .before .loop-test .taken), p .0 .catalogued .kept .held .laid .ranges)
 
 bar-range-requires : tie.Need-bar-range-requires Inv-loop μ-loop
 bar-range-requires c κs = (search needs, (search (needs, row-there), search (needs, some-room)))

@@ -1,6 +1,7 @@
 use borrow.Author.Needs.{needs}
 use Prim.Native.Nat.{_-_}
-use Rattle.blocking.proofs.Bars.{row-inside, row-bars, row-bars-not}
+use native.Mathlib.Omega.{arith}
+use Rattle.blocking.proofs.Bars.{row-bars, row-bars-not}
 use Rattle.blocking.proofs.some_barred.Statement.{statement}
 use Rattle.blocking.proofs.some_barred.Tie as tie
 
@@ -38,13 +39,13 @@ element-copy-out-r : tie.Need-element-copy-out-r Inv-loop μ-loop
 element-copy-out-r c = search needs
 
 cast-r : tie.Need-cast-r Inv-loop μ-loop
-cast-r c = search needs
+cast-r c = omega (arith, c .before .before .before .before .pre .given (c .before .before .loop .j) (c .before .loop-test .taken))
 
 add-if1 : tie.Need-add-if1 Inv-loop μ-loop
-add-if1 c = search needs
+add-if1 c = omega (arith, c .before .before .before .before .pre .given (c .before .before .loop .j) (c .before .loop-test .taken))
 
 element-copy-out-if1 : tie.Need-element-copy-out-if1 Inv-loop μ-loop
-element-copy-out-if1 c = search needs
+element-copy-out-if1 c = omega (arith, c .before .before .before .before .pre .given (c .before .before .loop .j) (c .before .loop-test .taken))
 
 returns : tie.Need-returns Inv-loop μ-loop
 returns c = search (needs, row-bars)
