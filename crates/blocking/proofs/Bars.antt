@@ -1,13 +1,13 @@
 -- A condition by its list: each disjunct has a blocked range, one that had none gets one.
 use mathlib.Core.Path.{_≡_, refl, sym, _∙_}
 use mathlib.Core.Logic.{⊎-elim}
-use mathlib.Core.Bool.{Bool, true, false, false≢true}
+use mathlib.Core.Bool.{Bool, true, false, not, false≢true}
 use mathlib.Core.List.{List, [], _∷_, List·Memᴰ·head, List·Memᴰ·tail, List·Memᴰ·append-cases, List·Memᴰ·eq-of-singleton, List·Memᴰ·not-nil}
 use Prim.Native.Nat.{ℕ, zero, suc, _+_, _*_, _<_, _≤_}
 use native.Mathlib.Omega.{arith}
 use lib.Dec.{eqb}
 use lib.ListN.{length, getD, set, length-set}
-use borrow.Author.Tests.{eqb-true, eqb-false}
+use borrow.Author.Tests.{eqb-true, eqb-false, not-false}
 use Rattle.rules.specs.Lists.{any}
 use Rattle.rules.specs.Called.{_∈_}
 use Rattle.rules.specs.Catalogue.{Catalogue, Condition, Operator, and, or, leaf, joined, noCondition}
@@ -180,11 +180,11 @@ module _ {c : Catalogue} {f : ℕ → Bool} {lists : List ℕ} {i : ℕ} {b w b�
   each-room h = y .grows .long ∙ h
 
   module _ {a : Bool} {b₂ w₂ : List ℕ} (d : DisjunctBars c f lists i a b₁ w₁ b₂ w₂) where
-    pub each-step : a ≡ true → Each c f lists (i + 1) b w b₂ w₂
+    pub each-step : not a ≡ false → Each c f lists (i + 1) b w b₂ w₂
     each-step e =
         record {
           grows = grows-then (y .grows) (d .grows);
-          passed = λ z h l. by-cases (eqb h i) (λ q. rw (eqb-true h i q) (d .is e (y .grows .room ∙ z)))
+          passed = λ z h l. by-cases (eqb h i) (λ q. rw (eqb-true h i q) (d .is (not-false a e) (y .grows .room ∙ z)))
               (λ q. row-more (d .grows .still) (y .passed z h (omega (arith, eqb-false h i q))));
         }
 
