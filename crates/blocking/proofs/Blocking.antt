@@ -151,6 +151,15 @@ module _ {c : Catalogue} {true? : ℕ → Bool} {blocked watched : List ℕ} (h 
 
 -- ---- condition x
 
+pub bars-room : {c : Catalogue} {true? : ℕ → Bool} {x : ℕ} {b : Bool} {blocked watched blocked₁ watched₁ : List ℕ} → EachBars c true? x b blocked watched blocked₁ watched₁
+    → length watched ≡ 1024 → length watched₁ ≡ 1024
+bars-room d h = d .grows .long ∙ h
+
+-- it is judged then
+pub blocks-judged : {c : Catalogue} {true? : ℕ → Bool} {x : ℕ} {b a : Bool} {blocked watched blocked₁ watched₁ blocked₂ watched₂ : List ℕ}
+    → EachBars c true? x b blocked watched blocked₁ watched₁ → Blocks c true? x a blocked₁ watched₁ blocked₂ watched₂ → Blocks c true? x a blocked watched blocked₂ watched₂
+blocks-judged d j = record { none = λ e h. j .none e (d .grows .keeps h); keeps = λ h. j .keeps (d .grows .keeps h) }
+
 asked-fails : {c : Catalogue} {true? : ℕ → Bool} {x : ℕ} {a : Bool} {vs ws : List ℕ} → Asked c true? x a vs ws → a ≡ false → (d : Disjunct) → d ∈ disjuncts (c .conditions) x
     → holdsNow c true? d ≡ false
 asked-fails {true? = true?} d e = barred-fails true? (d .right .ranges) (d .barred e)
@@ -207,8 +216,3 @@ module _ (k : Counts) (m u t : List ℕ) {l : Limits} {n : Counters} {s : List �
       where
         all-barred : Blocked (catalogue k m u t) true? blocked₁ watched₁ → Barred (catalogue k m u t) (rangeBlocked blocked₁) x → Barred (catalogue k m u t) (allWatched (catalogue k m u t) watched₁) x
         all-barred z i = barred-more (allWatched (catalogue k m u t) watched₁) (λ r e. z .ranges r e .1) i
-
-    -- it is judged then
-    pub blocks-judged : {a : Bool} {blocked₂ watched₂ : List ℕ} → Blocks (catalogue k m u t) true? x a blocked₁ watched₁ blocked₂ watched₂
-        → Blocks (catalogue k m u t) true? x a blocked watched blocked₂ watched₂
-    blocks-judged j = record { none = λ e h. j .none e (d .grows .keeps h); keeps = λ h. j .keeps (d .grows .keeps h) }
