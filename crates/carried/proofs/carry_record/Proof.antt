@@ -1,7 +1,4 @@
--- `carried::carry_record` takes one step of the walk, or gives the refusal of the record.
 use borrow.Author.Needs.{needs}
-use Rattle.carried.proofs.Records.{step-unread, step-item, sheet-whole, step-refused, step-carried}
-use Rattle.carried.proofs.Flags.{next-refused, next-carried}
 use Rattle.carried.proofs.carry_record.Statement.{statement}
 use Rattle.carried.proofs.carry_record.Tie as tie
 
@@ -21,10 +18,10 @@ enum-told-2 : tie.Need-enum-told-2
 enum-told-2 c = search needs
 
 command-at-requires : tie.Need-command-at-requires
-command-at-requires c κs = search (needs, sheet-whole)
+command-at-requires c κs = search needs
 
 carry-command-requires : tie.Need-carry-command-requires
-carry-command-requires c κs = let p = (c .before .before .before .before .before .before .before .before .before .before .before .before .before .before .before .before .before .before .before .pre) in (p .1 .0, (p .1 .1 .0, (p .1 .1 .1 .0, (p .1 .1 .1 .1 .0, (p .1 .1 .1 .1 .1 .0, p .1 .1 .1 .1 .1 .1)))))
+carry-command-requires c κs = search needs
 
 enum-known-counters : tie.Need-enum-known-counters
 enum-known-counters c = search needs
@@ -33,10 +30,10 @@ enum-known-refusal-2 : tie.Need-enum-known-refusal-2
 enum-known-refusal-2 c = search needs
 
 returns : tie.Need-returns
-returns c = (search (needs, step-unread), next-refused)
+returns c = search needs
 
 returns-2 : tie.Need-returns-2
-returns-2 c = (search (needs, step-item), next-refused)
+returns-2 c = search needs
 
 same-length : tie.Need-same-length
 same-length c = search needs
@@ -48,7 +45,7 @@ same-length-3 : tie.Need-same-length-3
 same-length-3 c = search needs
 
 returns-3 : tie.Need-returns-3
-returns-3 c = (step-carried _ _ _ (c .before .before .before .before .before .before .before .before .before .before .before .before .before .before .before .before .before .before .before .before .before .before .before .before .before .before .before .before .before .pre .0 .0) (c .before .before .before .before .before .before .before .before .before .before .before .before .before .before .before .before .before .before .before .record-at .ensures) (search needs) _ (c .before .before .before .before .before .before .before .before .before .before .before .before .before .before .before .before .before .before .before .before .next-at .ensures) _ (c .before .before .before .before .before .before .before .before .before .before .before .before .before .before .before .before .command-at .ensures) (c .before .before .before .before .before .before .before .before .before .carry-command .ensures .0) _ (search needs), next-carried (c .before .before .before .before .before .before .before .before .before .carry-command .ensures .1) (search needs))
+returns-3 c = search needs
 
 same-length-4 : tie.Need-same-length-4
 same-length-4 c = search needs
@@ -60,7 +57,7 @@ same-length-6 : tie.Need-same-length-6
 same-length-6 c = search needs
 
 returns-4 : tie.Need-returns-4
-returns-4 c = (step-refused _ _ _ (c .before .before .before .before .before .before .before .before .before .before .before .before .before .before .before .before .before .before .before .before .before .before .before .before .before .before .before .before .before .pre .0 .0) (c .before .before .before .before .before .before .before .before .before .before .before .before .before .before .before .before .before .before .before .record-at .ensures) (search needs) _ (c .before .before .before .before .before .before .before .before .before .before .before .before .before .before .before .before .before .before .before .before .next-at .ensures) _ (c .before .before .before .before .before .before .before .before .before .before .before .before .before .before .before .before .command-at .ensures) (c .before .before .before .before .before .before .before .before .before .carry-command .ensures .0) _ (search needs), next-refused)
+returns-4 c = search needs
 
 pub carry-record-spec : {M : Type 1} → statement M
 carry-record-spec =
