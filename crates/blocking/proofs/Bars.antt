@@ -10,7 +10,7 @@ use lib.ListN.{length, getD, set, length-set}
 use borrow.Author.Tests.{eqb-true, eqb-false, not-false}
 use Rattle.rules.specs.Lists.{any}
 use Rattle.rules.specs.Called.{_∈_}
-use Rattle.rules.specs.Catalogue.{Catalogue, Condition, Operator, and, or, leaf, joined, noCondition}
+use Rattle.rules.specs.Catalogue.{Catalogue, Condition, and, or, leaf, joined, noCondition}
 use Rattle.rules.specs.Candidates.{matching}
 use Rattle.rules.specs.Conditions.{Disjunct, combined, fromHalves, disjunctsBelow, disjuncts}
 use Rattle.rules.proofs.Bools.{by-cases}
@@ -18,14 +18,12 @@ use Rattle.rules.proofs.Member.{any-in, at-member}
 use Rattle.rules.proofs.WellFormed.{WellFormed, ConditionFits}
 use Rattle.tables.specs.declared.Counts.{Counts}
 use Rattle.tables.specs.Tables.{tables}
-use Rattle.tables.proofs.Laws.{conditions-counted}
 use Rattle.conditions.specs.Sizes.{Counted}
 use Rattle.cache.specs.Areas.{catalogue}
 use Rattle.cache.proofs.Laws.{ranges-held, conditions-held, conditions-same}
 use Rattle.state.specs.declared.Limits.{Limits}
 use Rattle.encoder.specs.declared.Counters.{Counters}
-use Rattle.entries.specs.Deferred.{isHeld}
-use Rattle.blocking.specs.Blocking.{Barred, PartsWatched, rangeBlocked, Blocked, Sees, AllStand, Row, RowBarred, RowBars, Grows, RangeBars, DisjunctBars, EachBars}
+use Rattle.blocking.specs.Blocking.{PartsWatched, rangeBlocked, Blocked, Sees, AllStand, Row, RowBarred, RowBars, Grows, RangeBars, DisjunctBars, EachBars}
 use Rattle.blocking.proofs.Barring.{halves}
 use Rattle.blocking.proofs.Blocking.{one-blocked, range-there, range-more, blocked-more, blocked-range}
 
@@ -77,7 +75,7 @@ module _ (k : Counts) (m u t : List ℕ) {l : Limits} {n : Counters} {s : List �
             let p = z .each i inside in
             let d : Disjunct = getD (disjuncts (tables k t .conditions) x) i [] in
             let q = ranges-given (catalogue k m u t) (y .catalogued .formed) x (rw (conditions-held k m u t) g) d
-                (rw same (at-member (disjuncts (tables k t .conditions) x) i [] inside)) (getD d j 0) (at-member d j 0 (omega (arith, p .len))) in
+            (rw same (at-member (disjuncts (tables k t .conditions) x) i [] inside)) (getD d j 0) (at-member d j 0 (omega (arith, p .len))) in
             omega (arith, p .is j b, ranges-held k m u t, q)
 
   pub row-narrow : {i : ℕ} → Row (k .ranges) lists i → Row 512 lists i

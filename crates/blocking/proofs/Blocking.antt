@@ -60,14 +60,10 @@ unfolding rangeBlocked
 range-there flags r h = one-blocked (set flags (256 + r) 1) (256 + r) (getD-set-same flags (256 + r) 1 0 h)
 
 pub range-more : (flags : List ℕ) (r i : ℕ) → rangeBlocked flags i ≡ true → rangeBlocked (set flags (256 + r) 1) i ≡ true
-unfolding rangeBlocked
 range-more flags r i e =
     by-cases (eqb i r)
-    (λ q. let p : 256 + i ≡ 256 + r = rw (eqb-true i r q) in elim (decLt (256 + r) (length flags)) [ yes h ↦ rw p (range-there-at h) | no h ↦ rw (set-out flags (256 + r) 1 (omega arith)) e ])
-    (λ q. unfold isBlocked in rw (getD-set-other flags (256 + r) (256 + i) 1 0 (λ p. eqb-false i r q (omega arith))) e)
-  where
-    range-there-at : 256 + r < length flags → isBlocked (set flags (256 + r) 1) (256 + r) ≡ true
-    range-there-at h = one-blocked (set flags (256 + r) 1) (256 + r) (getD-set-same flags (256 + r) 1 0 h)
+    (λ q. elim (decLt (256 + r) (length flags)) [ yes h ↦ rw (eqb-true i r q) (range-there flags r h) | no h ↦ rw (set-out flags (256 + r) 1 (omega arith)) e ])
+    (λ q. unfold rangeBlocked isBlocked in rw (getD-set-other flags (256 + r) (256 + i) 1 0 (λ p. eqb-false i r q (omega arith))) (unfold rangeBlocked isBlocked in e))
 
 -- one that is blocked once 1 is put at r was so, or it is r
 range-cases : (flags : List ℕ) (r i : ℕ) → rangeBlocked (set flags (256 + r) 1) i ≡ true → (rangeBlocked flags i ≡ true) ⊎ (i ≡ r)
@@ -191,7 +187,6 @@ module _ (k : Counts) (m u t : List ℕ) {l : Limits} {n : Counters} {s : List �
   there = rw (conditions-held k m u t) g
 
 module _ (k : Counts) (m u t : List ℕ) {l : Limits} {n : Counters} {s : List ℕ} (y : Sees k m u t l n s) {true? : ℕ → Bool} {x : ℕ} {blocked watched : List ℕ} (g : x < k .conditions) where
-
   -- it is blocked
   pub blocks-known : getD blocked x 0 ≡ 1 → Blocks (catalogue k m u t) true? x true blocked watched blocked watched
   blocks-known e = record { none = λ _ h. blocked-fails h x (low-condition k m u t y x g) (one-blocked blocked x e); keeps = λ h. h }

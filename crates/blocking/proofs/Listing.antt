@@ -10,17 +10,10 @@ use borrow.Author.Tests.{eqb-true, eqb-false}
 use Rattle.rules.specs.Catalogue.{Condition}
 use Rattle.rules.specs.Conditions.{disjuncts}
 use Rattle.rules.proofs.Bools.{by-cases}
-use Rattle.tables.specs.declared.Counts.{Counts}
-use Rattle.tables.specs.Tables.{tables}
-use Rattle.tables.proofs.Laws.{conditions-counted}
 use Rattle.conditions.specs.declared.Disjunct.{Disjunct}
-use Rattle.conditions.specs.Sizes.{Sized, Counted, rangesOf, Carries}
+use Rattle.conditions.specs.Sizes.{Counted, rangesOf, Carries}
 use Rattle.judging.proofs.Judging.{zeros}
 use Rattle.blocking.specs.Blocking.{Stands, AllStand, Listed, Lists}
-
--- a disjunct of a condition is one of 64
-pub disjunct-low : (k : Counts) (t : List ℕ) (c i : ℕ) → Sized (tables k t) → c < k .conditions → i < length (disjuncts (tables k t .conditions) c) → i < 64
-disjunct-low k t c i z g h = omega (arith, z .allowed c (omega (arith, conditions-counted k t)) .most)
 
 -- what stands in rows that are alike
 stands-alike : {cs : List Condition} {x i : ℕ} {l l′ : List ℕ} → getD l′ (1024 + i) 0 ≡ getD l (1024 + i) 0 → ((j : ℕ) → j < 16 → getD l′ (16 * i + j) 0 ≡ getD l (16 * i + j) 0)
@@ -137,9 +130,6 @@ listed-beside {cs} {l} p v h y =
     record { long = length-set l p v ∙ y .long; is = λ x e. all-beside p v (omega arith) (y .is x (sym (getD-set-other l p 1088 v 0 (λ q. omega arith)) ∙ e)) }
 
 module _ {cs : List Condition} {l : List ℕ} (y : Listed cs l) where
-  pub listed-long : length l ≡ 1091
-  listed-long = y .long
-
   -- how often
   pub listed-times : (v : ℕ) → Listed cs (set l 1090 v)
   listed-times v = listed-beside 1090 v (omega arith) y

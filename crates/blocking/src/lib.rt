@@ -10,9 +10,9 @@ ghost use Rattle.rules.specs.Conditions.{disjuncts};
 ghost use Rattle.tables.specs.Tables.{tables, Laid};
 ghost use Rattle.conditions.specs.Sizes.{Sized};
 ghost use Rattle.cache.specs.Areas.{catalogue};
-ghost use Rattle.state.specs.Layout.{held, Fits};
-ghost use Rattle.variable_map.specs.Mapping.{variables, Mapped};
-ghost use Rattle.decision_tracker.specs.Tracking.{decisions, Kept};
+ghost use Rattle.state.specs.Layout.{held};
+ghost use Rattle.variable_map.specs.Mapping.{variables};
+ghost use Rattle.decision_tracker.specs.Tracking.{decisions};
 ghost use Rattle.goals.specs.Goals.{Catalogued, trueOf};
 ghost use Rattle.blocking.specs.Blocking.{Tells, toldByLeft, AsksRange, RangeAsked, Asks, Asked, PartsWatched, RangeWatched, Watched, Sees, Blocks, ReleasesRange, ReleasesRanges, ReleasesConditions, Releases, Listed, AllStand, Lists, Row, RowBars, RangeBars, DisjunctBars, EachBars};
 
@@ -342,7 +342,20 @@ fn bar_disjunct(
     if some_barred(blocked, lists, i) {
         return true;
     }
-    bar_some(marks, unions, t, k, s, l, n, blocked, watched, asked, lists, i)
+    bar_some(
+        marks,
+        unions,
+        t,
+        k,
+        s,
+        l,
+        n,
+        blocked,
+        watched,
+        asked,
+        lists,
+        i,
+    )
 }
 
 // Has each disjunct of condition c, which is listed, a blocked range?
@@ -368,7 +381,20 @@ fn each_barred(
     let count = conditions::count(t, k, c);
     let mut i = 0;
     while i < count {
-        if !bar_disjunct(marks, unions, t, k, s, l, n, blocked, watched, &mut asked, lists, i) {
+        if !bar_disjunct(
+            marks,
+            unions,
+            t,
+            k,
+            s,
+            l,
+            n,
+            blocked,
+            watched,
+            &mut asked,
+            lists,
+            i,
+        ) {
             return false;
         }
         i += 1;
@@ -440,13 +466,7 @@ fn release_ranges(marks: &[u8], k: Counts, blocked: &mut [u8; 768], p: usize)
 }
 
 // No condition is blocked any more, and no range that p is a member of; p is not watched any more. What else is blocked or watched stays so.
-pub fn release(
-    marks: &[u8],
-    k: Counts,
-    blocked: &mut [u8; 768],
-    watched: &mut [u8; 1024],
-    p: usize,
-)
+pub fn release(marks: &[u8], k: Counts, blocked: &mut [u8; 768], watched: &mut [u8; 1024], p: usize)
     requires { ⌜ (k .ranges ≤ 512) × (65536 ≤ length (now marks)) × (p < 1024) ⌝ }
     ensures { λ _. ⌜ Releases k (now (marks .entry)) p (now (blocked .entry)) (now (watched .entry)) (now (blocked .exit)) (now (watched .exit)) ⌝ }
 {

@@ -1,3 +1,4 @@
+-- `blocking::bar_disjunct` tells that a disjunct of the lists has a blocked range: it had one, or gets one.
 use borrow.Author.Needs.{needs}
 use Rattle.blocking.proofs.Bars.{row-narrow, disjunct-known}
 use Rattle.blocking.proofs.bar_disjunct.Statement.{statement}

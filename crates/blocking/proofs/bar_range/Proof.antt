@@ -1,3 +1,4 @@
+-- `blocking::bar_range` blocks a range that does not hold, if its matching parts can be watched.
 use borrow.Author.Needs.{needs}
 use Rattle.blocking.proofs.Bars.{range-bars-not, range-bars-some, range-barred}
 use Rattle.blocking.proofs.bar_range.Statement.{statement}

@@ -1,3 +1,4 @@
+-- `blocking::bar_some` asks the ranges of a disjunct of the lists until one is blocked. The invariant: nothing that was blocked is lost.
 use borrow.Author.Needs.{needs}
 use Prim.Native.Nat.{_-_}
 use Rattle.cache.specs.Areas.{catalogue}

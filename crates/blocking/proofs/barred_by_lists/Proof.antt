@@ -1,3 +1,4 @@
+-- `blocking::barred_by_lists` tells that each disjunct of a condition has a blocked range, if the condition is listed.
 use borrow.Author.Needs.{needs}
 use Rattle.blocking.proofs.Bars.{each-unlisted}
 use Rattle.blocking.proofs.Listing.{listed-all}

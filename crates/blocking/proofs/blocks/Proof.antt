@@ -1,3 +1,4 @@
+-- `blocking::blocks` tells that no disjunct of a condition holds: it is blocked, or each disjunct has a blocked range, or it is judged by its halves.
 use borrow.Author.Needs.{needs}
 use Rattle.blocking.proofs.Blocking.{bars-room, blocks-known, blocks-barred, blocks-judged}
 use Rattle.blocking.proofs.blocks.Statement.{statement}

@@ -1,3 +1,4 @@
+-- `blocking::each_barred` tells that each disjunct of a listed condition has a blocked range. The invariant: each one before disjunct i has.
 use borrow.Author.Needs.{needs}
 use Prim.Native.Nat.{_-_}
 use Rattle.cache.specs.Areas.{catalogue}

@@ -1,3 +1,4 @@
+-- `blocking::judge` tells by the halves of a condition that no disjunct of it holds, and blocks it if the parts that it waits for can be watched.
 use borrow.Author.Needs.{needs}
 use native.Mathlib.Omega.{arith}
 use Rattle.blocking.proofs.Blocking.{low-condition, blocks-not, blocks-unwatched, blocks-watched, blocks-some}

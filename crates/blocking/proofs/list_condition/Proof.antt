@@ -1,3 +1,4 @@
+-- `blocking::list_condition` lists a condition. The invariant: its disjuncts before disjunct i stand in the lists.
 use borrow.Author.Needs.{needs}
 use Prim.Native.Nat.{_-_}
 use Rattle.tables.specs.Tables.{tables}

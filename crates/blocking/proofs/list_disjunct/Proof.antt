@@ -1,3 +1,4 @@
+-- `blocking::list_disjunct` puts a disjunct into the lists. The invariant: its ranges before range j stand in its row.
 use borrow.Author.Needs.{needs}
 use Prim.Native.Nat.{_-_}
 use Rattle.blocking.proofs.Listing.{Copying, copy-start, copy-step, copy-end}

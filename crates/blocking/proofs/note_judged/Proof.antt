@@ -1,3 +1,4 @@
+-- `blocking::note_judged` counts how often a condition was judged, and lists it in time: what is listed stands in the lists.
 use borrow.Author.Needs.{needs}
 use Rattle.blocking.proofs.Listing.{listed-times, listed-other}
 use Rattle.blocking.proofs.note_judged.Statement.{statement}

@@ -1,3 +1,4 @@
+-- `blocking::release_conditions` unblocks every condition. The invariant: no condition before x is blocked.
 use borrow.Author.Needs.{needs}
 use Prim.Native.Nat.{_-_}
 use Rattle.blocking.proofs.Releasing.{Conditions, conditions-start, conditions-step, conditions-end}

@@ -1,3 +1,4 @@
+-- `blocking::release_range` unblocks a range that has the part.
 use borrow.Author.Needs.{needs}
 use Rattle.blocking.proofs.Releasing.{release-free, release-member, release-other}
 use Rattle.blocking.proofs.release_range.Statement.{statement}

@@ -1,3 +1,4 @@
+-- `blocking::release_ranges` unblocks every range that has the part. The invariant: none before range r is blocked that has it.
 use borrow.Author.Needs.{needs}
 use Prim.Native.Nat.{_-_}
 use Rattle.blocking.proofs.Releasing.{Ranges, releases-start, releases-step, releases-end}

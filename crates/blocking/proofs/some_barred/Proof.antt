@@ -1,3 +1,4 @@
+-- `blocking::some_barred` tells that a disjunct of the lists has a blocked range.
 use borrow.Author.Needs.{needs}
 use Prim.Native.Nat.{_-_}
 use native.Mathlib.Omega.{arith}

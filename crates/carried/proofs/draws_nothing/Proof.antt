@@ -1,3 +1,4 @@
+-- `carried::draws_nothing` tells that a draw changes nothing: the condition is flagged, or no disjunct of it holds.
 use borrow.Author.Needs.{needs}
 use Rattle.carried.proofs.Blocking.{idles-settled, idles-given, idles-not}
 use Rattle.carried.proofs.draws_nothing.Statement.{statement}

@@ -1,3 +1,4 @@
+-- `carried::is_idle` tells a draw that changes nothing, and gives the flags of what is blocked and of watched parts after the command.
 use borrow.Author.Needs.{needs}
 use Rattle.carried.proofs.Blocking.{idles-add, idles-draw, idles-run, idles-decide, idles-undo}
 use Rattle.carried.proofs.is_idle.Statement.{statement}

@@ -1,3 +1,4 @@
+-- `carried::made_true` gives the only part that a decision can make true.
 use borrow.Author.Needs.{needs}
 use Rattle.carried.proofs.Blocking.{makes-value, makes-other, makes-part}
 use Rattle.carried.proofs.made_true.Statement.{statement}

@@ -1,3 +1,4 @@
+-- `carried::unblock` releases what a decision may make hold, where it makes a watched part true, and else keeps what is blocked.
 use borrow.Author.Needs.{needs}
 use Rattle.carried.proofs.Blocking.{watched-inside, unblocks-part, unblocks-none}
 use Rattle.carried.proofs.unblock.Statement.{statement}
