@@ -24,12 +24,12 @@ use Rattle.conditions.proofs.Sizing.{row-leaf, row-joined, and-when, or-when}
 use Rattle.cache.specs.Areas.{catalogue}
 use Rattle.cache.proofs.Laws.{ranges-held, conditions-held, conditions-same}
 use Rattle.state.specs.declared.Limits.{Limits}
-use Rattle.state.specs.Layout.{held, Fits}
-use Rattle.variable_map.specs.Mapping.{variables, Mapped}
-use Rattle.decision_tracker.specs.Tracking.{decisions, Kept}
+use Rattle.state.specs.Layout.{held}
+use Rattle.variable_map.specs.Mapping.{variables}
+use Rattle.decision_tracker.specs.Tracking.{decisions}
 use Rattle.encoder.specs.declared.Counters.{Counters}
-use Rattle.goals.specs.Goals.{Catalogued, trueOf}
-use Rattle.blocking.specs.Blocking.{Barred, fails, Tells, AsksRange, RangeAsked, toldByLeft, Asks, Asked}
+use Rattle.goals.specs.Goals.{trueOf}
+use Rattle.blocking.specs.Blocking.{Barred, fails, Tells, AsksRange, RangeAsked, toldByLeft, Asks, Asked, Sees}
 use Rattle.blocking.proofs.Barring.{barred-more, barred-leaf, barred-or, barred-left, barred-right}
 use Rattle.blocking.proofs.Verdicts.{verdicts-none, still-then, still-range, range-new, asked-known, asked-told}
 
@@ -71,9 +71,8 @@ module _ (k : Counts) (m u t : List ℕ) (l : Limits) (n : Counters) (s : List �
 
   -- ---- a condition
 
-  pub asked-first : {vs : List ℕ} {x : ℕ} → Catalogued k m u t → Fits l (length s) → Mapped l (n .variables) (held l s) → Kept l (n .decisions) (held l s) → x < k .conditions
-      → vs ≡ replicate 768 0 → Asks k m u t l n s vs x
-  asked-first g h p d b e = record { catalogued = g; fits = h; mapped = p; kept = d; right = verdicts-none e; given = b }
+  pub asked-first : {vs : List ℕ} {x : ℕ} → Sees k m u t l n s → x < k .conditions → vs ≡ replicate 768 0 → Asks k m u t l n s vs x
+  asked-first y b e = record { catalogued = y .catalogued; fits = y .fits; mapped = y .mapped; kept = y .kept; right = verdicts-none e; given = b }
 
   module _ {vs : List ℕ} {x : ℕ} (q : Asks k m u t l n s vs x) where
     pub condition-low : x < 256

@@ -22,7 +22,7 @@ module _ (f : ℕ → Bool) where
   any-right xs ys e = let q = any-out f ys e in any-in f (xs ++ ys) (q .0) (Memᴰ·append-right xs (q .1)) (q .2)
 
 -- a disjunct of an `and` is one of the left half and one of the right half
-halves : (ls rs : List Disjunct) (d : Disjunct) → d ∈ combined and ls rs → (l : Disjunct) × (l ∈ ls) × (r : Disjunct) × (r ∈ rs) × (d ≡ l ++ r)
+pub halves : (ls rs : List Disjunct) (d : Disjunct) → d ∈ combined and ls rs → (l : Disjunct) × (l ∈ ls) × (r : Disjunct) × (r ∈ rs) × (d ≡ l ++ r)
 unfolding combined
 halves ls rs d m =
     let p = concat-out (λ (l : Disjunct). map (λ (r : Disjunct). l ++ r) rs) ls d m in

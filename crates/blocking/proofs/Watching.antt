@@ -4,38 +4,49 @@ use mathlib.Core.Bool.{Bool, true, false, true≢false, false≢true}
 use mathlib.Core.List.{List}
 use Prim.Native.Nat.{ℕ, _+_, _<_, _≤_}
 use native.Mathlib.Omega.{arith}
+use native.Mathlib.Decide.{decLt}
 use lib.Dec.{eqb, ltb}
-use lib.ListN.{length, getD, set, length-set}
+use lib.ListN.{length, getD, set, length-set, List·getD-eq-default}
 use lib.Seq.{getD-set-same, getD-set-other}
 use borrow.Author.Tests.{eqb-true, eqb-false, ltb-true}
 use Rattle.rules.specs.Lists.{any, all, upTo}
 use Rattle.rules.specs.Called.{_∈_}
-use Rattle.rules.specs.Catalogue.{Catalogue}
-use Rattle.rules.specs.Candidates.{matching}
-use Rattle.rules.proofs.Bools.{by-cases}
+use Rattle.rules.specs.Catalogue.{Catalogue, nameOf, rangeName}
+use Rattle.rules.specs.Candidates.{member, matching}
+use Rattle.rules.proofs.Bools.{by-cases, and-right}
 use Rattle.rules.proofs.Member.{all-out, all-in, none-out, filter-out, filter-in, upTo-out, upTo-in}
 use Rattle.tables.specs.declared.Counts.{Counts}
+use Rattle.marks.specs.Marks.{isMarked}
 use Rattle.cache.specs.declared.Choice.the-variants.{Matching}
 use Rattle.cache.specs.Areas.{catalogue}
-use Rattle.cache.specs.Lists.{chosen, choice}
+use Rattle.cache.specs.Lists.{asked, chosen, choice}
 use Rattle.cache.proofs.Laws.{parts-held, ranges-held}
-use Rattle.cache.proofs.Lists.{matching-is}
+use Rattle.cache.proofs.Lists.{member-in, matching-is}
 use Rattle.index.specs.Chains.{Skips}
 use Rattle.index.proofs.Walking.{walk}
 use Rattle.entries.specs.Deferred.{isHeld, isFree}
-use Rattle.blocking.specs.Blocking.{fails, allWatched, Unmet, RangeWatched, Watched}
+use Rattle.blocking.specs.Blocking.{fails, allWatched, Unmet, PartsWatched, RangeWatched, Watched}
 use Rattle.blocking.proofs.Verdicts.{fails-in, fails-out}
 
--- ---- one flag more
+-- ---- one flag more or less
 
 module _ (flags : List ℕ) (p : ℕ) where
   held-there : p < length flags → isHeld (set flags p 1) p ≡ true
   unfolding isHeld isFree
   held-there h = rw (getD-set-same flags p 1 0 h)
 
-  held-other : (q : ℕ) → (q ≡ p → ⊥) → isHeld (set flags p 1) q ≡ isHeld flags q
+  pub held-other : (v q : ℕ) → (q ≡ p → ⊥) → isHeld (set flags p v) q ≡ isHeld flags q
   unfolding isHeld isFree
-  held-other q n = rw (getD-set-other flags p q 1 0 n)
+  held-other v q n = rw (getD-set-other flags p q v 0 n)
+
+  pub held-gone : p < length flags → isHeld (set flags p 0) p ≡ false
+  unfolding isHeld isFree
+  held-gone h = rw (getD-set-same flags p 0 0 h)
+
+  -- a flag that is set is there
+  pub held-inside : isHeld flags p ≡ true → p < length flags
+  unfolding isHeld isFree
+  held-inside e = elim (decLt p (length flags)) [ yes h ↦ h | no h ↦ absurd (false≢true (rw (List·getD-eq-default flags 0 {n = p} (omega arith)) at e)) ]
 
 -- ---- the parts of range r
 
@@ -61,6 +72,11 @@ module _ (k : Counts) (m u t : List ℕ) (r : ℕ) where
   match-is p h =
       let q = filter-out (chosen C r Matching) (upTo 0 (length (C .parts))) p (rw (matching-is C r) h) in
       (omega (arith, parts-held k m u t, upTo-out 0 (length (C .parts)) p (q .0) .1), q .1)
+
+  -- a matching part is marked as a member
+  pub match-marked : (p : ℕ) → r < k .ranges → p ∈ matching C r → isMarked m r p ≡ true
+  unfolding chosen asked
+  match-marked p h i = member-in k m u t r p (isMarked m r p) h refl ∙ and-right (eqb (nameOf C p) (rangeName C r)) (member C r p) (match-is p i .1)
 
   module _ {w : List ℕ} where
     -- past a part that does not match
@@ -102,24 +118,28 @@ module _ (k : Counts) (m u t : List ℕ) (r : ℕ) where
           here q j = rw (eqb-true q p j) (held-there w′ p (omega (arith, y .long, y .room)))
 
           other : (q : ℕ) → eqb q p ≡ false → isHeld (set w′ p 1) q ≡ isHeld w′ q
-          other q j = held-other w′ p q (eqb-false q p j)
+          other q j = held-other w′ p 1 q (eqb-false q p j)
 
-    module _ {vs : List ℕ} {p : ℕ} {w′ : List ℕ} (y : Watching C r p w w′) (e : getD vs (256 + r) 0 ≡ 2) where
-      watched-range : (left : ℕ) → (1 ≤ left → allWatched C w′ r ≡ true) → RangeWatched C vs r left w w′
-      watched-range left a = record { long = y .long; still = y .still; all = λ h _. a h; unmet = λ f n o. y .unmet f (n (fails-in vs r e)) o }
+    module _ {p : ℕ} {w′ : List ℕ} (y : Watching C r p w w′) where
+      watched-parts : (left : ℕ) → (1 ≤ left → allWatched C w′ r ≡ true) → PartsWatched C r left w w′
+      watched-parts left a = record { long = y .long; still = y .still; all = a; unmet = y .unmet }
 
       -- not all of them
-      pub watched-some : RangeWatched C vs r 0 w w′
-      watched-some = watched-range 0 (λ h. let no : ⊥ = omega arith in absurd no)
+      pub watched-some : PartsWatched C r 0 w w′
+      watched-some = watched-parts 0 (λ h. let no : ⊥ = omega arith in absurd no)
 
       -- all
-      pub watched-all : (left : ℕ) → k .parts ≤ p → RangeWatched C vs r left w w′
+      pub watched-all : (left : ℕ) → k .parts ≤ p → PartsWatched C r left w w′
       unfolding allWatched
-      watched-all left h = watched-range left (λ _. all-in (isHeld w′) (matching C r) (λ q m. let d = match-is q m in y .passed q (omega (arith, d .0)) (d .1)))
+      watched-all left h = watched-parts left (λ _. all-in (isHeld w′) (matching C r) (λ q m. let d = match-is q m in y .passed q (omega (arith, d .0)) (d .1)))
 
-    -- it was not asked, or it holds
-    pub watched-none : {vs : List ℕ} (left : ℕ) → (getD vs (256 + r) 0 ≡ 2 → ⊥) → RangeWatched C vs r left w w
-    watched-none {vs} left n = record { long = refl; still = λ q e. e; all = λ h e. absurd (n (fails-out vs r e)); unmet = λ f d o. o }
+-- those of a range that was asked and does not hold
+pub watched-failing : {c : Catalogue} {vs : List ℕ} {r left : ℕ} {w w′ : List ℕ} → getD vs (256 + r) 0 ≡ 2 → PartsWatched c r left w w′ → RangeWatched c vs r left w w′
+watched-failing {vs = vs} {r} e d = record { long = d .long; still = d .still; all = λ h _. d .all h; unmet = λ f n o. d .unmet f (n (fails-in vs r e)) o }
+
+-- it was not asked, or it holds
+pub watched-none : {c : Catalogue} {vs : List ℕ} {r left : ℕ} {w : List ℕ} → (getD vs (256 + r) 0 ≡ 2 → ⊥) → RangeWatched c vs r left w w
+watched-none {vs = vs} {r} n = record { long = refl; still = λ q e. e; all = λ h e. absurd (n (fails-out vs r e)); unmet = λ f d o. o }
 
 -- ---- the ranges
 

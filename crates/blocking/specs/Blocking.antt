@@ -1,17 +1,18 @@
 -- Whether a disjunct of a condition holds, and conditions that are blocked: as long as no watched part is decided true, none of their disjuncts holds.
 use mathlib.Core.Path.{_≡_}
 use mathlib.Core.Bool.{Bool, true, false, not, cond}
-use mathlib.Core.List.{List}
-use Prim.Native.Nat.{ℕ, _+_, _<_, _≤_}
+use mathlib.Core.List.{List, []}
+use Prim.Native.Nat.{ℕ, _+_, _*_, _<_, _≤_}
 use lib.Dec.{eqb}
 use lib.ListN.{length, getD, set}
 use Rattle.rules.specs.Lists.{any, all}
 use Rattle.rules.specs.Called.{_∈_}
-use Rattle.rules.specs.Catalogue.{Catalogue}
+use Rattle.rules.specs.Catalogue.{Catalogue, Condition}
 use Rattle.rules.specs.Candidates.{matching}
 use Rattle.rules.specs.Conditions.{Disjunct, disjuncts}
 use Rattle.rules.specs.Opening.{holdsNow}
 use Rattle.tables.specs.declared.Counts.{Counts}
+use Rattle.marks.specs.Marks.{isMarked}
 use Rattle.cache.specs.Areas.{catalogue}
 use Rattle.state.specs.declared.Limits.{Limits}
 use Rattle.state.specs.Layout.{held, Fits}
@@ -92,7 +93,14 @@ allWatched c watched r = all (isHeld watched) (matching c r)
 pub record Unmet (true? : ℕ → Bool) (watched : List ℕ) : Type 0 where
   pub none : (p : ℕ) → isHeld watched p ≡ true → true? p ≡ false
 
--- if range r was asked and does not hold, matching parts of it are watched besides: all of them, unless nothing is left
+-- matching parts of range r are watched besides: all of them, unless nothing is left
+pub record PartsWatched (c : Catalogue) (r left : ℕ) (watched watched′ : List ℕ) : Type 0 where
+  pub long : length watched′ ≡ length watched
+  pub still : (p : ℕ) → isHeld watched p ≡ true → isHeld watched′ p ≡ true
+  pub all : 1 ≤ left → allWatched c watched′ r ≡ true
+  pub unmet : (f : ℕ → Bool) → any f (matching c r) ≡ false → Unmet f watched → Unmet f watched′
+
+-- the same of a range that was asked and does not hold
 pub record RangeWatched (c : Catalogue) (vs : List ℕ) (r left : ℕ) (watched watched′ : List ℕ) : Type 0 where
   pub long : length watched′ ≡ length watched
   pub still : (p : ℕ) → isHeld watched p ≡ true → isHeld watched′ p ≡ true
@@ -106,20 +114,124 @@ pub record Watched (c : Catalogue) (vs : List ℕ) (b : Bool) (watched watched�
   pub all : b ≡ true → (r : ℕ) → r < length (c .ranges) → fails vs r ≡ true → allWatched c watched′ r ≡ true
   pub unmet : (f : ℕ → Bool) → ((r : ℕ) → fails vs r ≡ true → any f (matching c r) ≡ false) → Unmet f watched → Unmet f watched′
 
--- ---- blocked conditions
+-- ---- what is blocked: condition x at x, range r at 256 + r
 
--- condition x is blocked
+-- what stands at x is blocked
 unfoldable pub isBlocked : List ℕ → ℕ → Bool
 isBlocked blocked x = eqb (getD blocked x 0) 1
 
--- each disjunct of a blocked condition has a range whose matching parts are watched, and none of these is decided true
+unfoldable pub rangeBlocked : List ℕ → ℕ → Bool
+rangeBlocked blocked r = isBlocked blocked (256 + r)
+
+-- each disjunct of a blocked condition has a range whose matching parts are watched, so are those of a blocked range, and no watched part is decided true
 pub record Blocked (c : Catalogue) (true? : ℕ → Bool) (blocked watched : List ℕ) : Type 0 where
+  pub room : length blocked ≡ 768
   pub long : length watched ≡ 1024
-  pub given : (x : ℕ) → isBlocked blocked x ≡ true → x < length (c .conditions)
-  pub barred : (x : ℕ) → isBlocked blocked x ≡ true → Barred c (allWatched c watched) x
+  pub given : (x : ℕ) → x < 256 → isBlocked blocked x ≡ true → x < length (c .conditions)
+  pub barred : (x : ℕ) → x < 256 → isBlocked blocked x ≡ true → Barred c (allWatched c watched) x
+  pub ranges : (r : ℕ) → rangeBlocked blocked r ≡ true → (r < length (c .ranges)) × (allWatched c watched r ≡ true)
   pub unmet : Unmet true? watched
 
--- if b is true no disjunct of condition x holds; the conditions that are blocked stay so
+-- the catalogue and the state are held
+pub record Sees (k : Counts) (m u t : List ℕ) (l : Limits) (n : Counters) (s : List ℕ) : Type 0 where
+  pub catalogued : Catalogued k m u t
+  pub fits : Fits l (length s)
+  pub mapped : Mapped l (n .variables) (held l s)
+  pub kept : Kept l (n .decisions) (held l s)
+
+-- if b is true no disjunct of condition x holds; what is blocked stays so
 pub record Blocks (c : Catalogue) (true? : ℕ → Bool) (x : ℕ) (b : Bool) (blocked watched blocked′ watched′ : List ℕ) : Type 0 where
   pub none : b ≡ true → Blocked c true? blocked watched → (d : Disjunct) → d ∈ disjuncts (c .conditions) x → holdsNow c true? d ≡ false
   pub keeps : Blocked c true? blocked watched → Blocked c true? blocked′ watched′
+
+-- ---- part p is decided true
+
+-- nothing else is blocked than before
+pub record Fewer (blocked blocked′ : List ℕ) : Type 0 where
+  pub room : length blocked′ ≡ length blocked
+  pub before : (x : ℕ) → isBlocked blocked′ x ≡ true → isBlocked blocked x ≡ true
+
+-- no condition is blocked
+pub record ReleasesConditions (blocked blocked′ : List ℕ) : Type 0 where
+  pub fewer : Fewer blocked blocked′
+  pub none : (x : ℕ) → x < 256 → isBlocked blocked′ x ≡ false
+
+-- if p is a member of range r, that is not blocked
+pub record ReleasesRange (m : List ℕ) (p r : ℕ) (blocked blocked′ : List ℕ) : Type 0 where
+  pub fewer : Fewer blocked blocked′
+  pub free : isMarked m r p ≡ true → rangeBlocked blocked′ r ≡ false
+
+-- no range is that p is a member of
+pub record ReleasesRanges (k : Counts) (m : List ℕ) (p : ℕ) (blocked blocked′ : List ℕ) : Type 0 where
+  pub fewer : Fewer blocked blocked′
+  pub free : (r : ℕ) → r < k .ranges → isMarked m r p ≡ true → rangeBlocked blocked′ r ≡ false
+
+-- where no part but p was made true, what is blocked now is so rightly
+pub record Releases (k : Counts) (m : List ℕ) (p : ℕ) (blocked watched blocked′ watched′ : List ℕ) : Type 0 where
+  pub is : (u t : List ℕ) {true? now? : ℕ → Bool} → ((q : ℕ) → (q ≡ p → ⊥) → now? q ≡ true? q)
+      → Blocked (catalogue k m u t) true? blocked watched → Blocked (catalogue k m u t) now? blocked′ watched′
+
+-- ---- the disjuncts of one condition, listed
+
+-- disjunct i of condition x stands in the lists: how many ranges it has at 1024 + i, and range j at 16 i + j
+pub record Stands (cs : List Condition) (lists : List ℕ) (x i : ℕ) : Type 0 where
+  pub len : getD lists (1024 + i) 0 ≡ length (getD (disjuncts cs x) i [])
+  pub short : getD lists (1024 + i) 0 ≤ 16
+  pub is : (j : ℕ) → j < getD lists (1024 + i) 0 → getD lists (16 * i + j) 0 ≡ getD (getD (disjuncts cs x) i []) j 0
+
+-- all disjuncts of condition x do
+pub record AllStand (cs : List Condition) (lists : List ℕ) (x : ℕ) : Type 0 where
+  pub long : length lists ≡ 1091
+  pub few : length (disjuncts cs x) ≤ 64
+  pub each : (i : ℕ) → i < length (disjuncts cs x) → Stands cs lists x i
+
+-- all disjuncts of the condition do that is listed, if one is
+pub record Listed (cs : List Condition) (lists : List ℕ) : Type 0 where
+  pub long : length lists ≡ 1091
+  pub is : (x : ℕ) → getD lists 1088 0 ≡ x + 1 → AllStand cs lists x
+
+-- disjunct i of condition x was put, and those before it stand as they did
+pub record Lists (cs : List Condition) (x i : ℕ) (lists lists′ : List ℕ) : Type 0 where
+  pub long : length lists′ ≡ length lists
+  pub stands : Stands cs lists′ x i
+  pub before : (h : ℕ) → h < i → Stands cs lists x h → Stands cs lists′ x h
+
+-- ---- a condition by its list
+
+-- disjunct i of the lists has a row, and its ranges are below `most`
+pub record Row (most : ℕ) (lists : List ℕ) (i : ℕ) : Type 0 where
+  pub low : i < 64
+  pub short : getD lists (1024 + i) 0 ≤ 16
+  pub given : (j : ℕ) → j < getD lists (1024 + i) 0 → getD lists (16 * i + j) 0 < most
+
+-- range `place` of it is blocked
+pub record RowBarred (lists blocked : List ℕ) (i : ℕ) : Type 0 where
+  pub place : ℕ
+  pub inside : place < getD lists (1024 + i) 0
+  pub is : rangeBlocked blocked (getD lists (16 * i + place) 0) ≡ true
+
+-- if b is true a range of it is
+pub record RowBars (lists blocked : List ℕ) (i : ℕ) (b : Bool) : Type 0 where
+  pub is : b ≡ true → RowBarred lists blocked i
+
+-- ranges are blocked besides
+pub record Grows (c : Catalogue) (true? : ℕ → Bool) (blocked watched blocked′ watched′ : List ℕ) : Type 0 where
+  pub room : length blocked′ ≡ length blocked
+  pub long : length watched′ ≡ length watched
+  pub still : (r : ℕ) → rangeBlocked blocked r ≡ true → rangeBlocked blocked′ r ≡ true
+  pub keeps : Blocked c true? blocked watched → Blocked c true? blocked′ watched′
+
+-- range r is if b is true
+pub record RangeBars (c : Catalogue) (true? : ℕ → Bool) (r : ℕ) (b : Bool) (blocked watched blocked′ watched′ : List ℕ) : Type 0 where
+  pub grows : Grows c true? blocked watched blocked′ watched′
+  pub is : b ≡ true → length blocked ≡ 768 → rangeBlocked blocked′ r ≡ true
+
+-- a range of disjunct i of the lists is
+pub record DisjunctBars (c : Catalogue) (true? : ℕ → Bool) (lists : List ℕ) (i : ℕ) (b : Bool) (blocked watched blocked′ watched′ : List ℕ) : Type 0 where
+  pub grows : Grows c true? blocked watched blocked′ watched′
+  pub is : b ≡ true → length blocked ≡ 768 → RowBarred lists blocked′ i
+
+-- a range of each disjunct of condition x is
+pub record EachBars (c : Catalogue) (true? : ℕ → Bool) (x : ℕ) (b : Bool) (blocked watched blocked′ watched′ : List ℕ) : Type 0 where
+  pub grows : Grows c true? blocked watched blocked′ watched′
+  pub barred : b ≡ true → length blocked ≡ 768 → Barred c (rangeBlocked blocked′) x

@@ -6,7 +6,7 @@ use mathlib.Core.List.{List, []}
 use mathlib.Core.Option.{Option, none, some}
 use Prim.Native.Nat.{ℕ, _<_}
 use lib.Dec.{eqb}
-use lib.ListN.{length, getD, replicate}
+use lib.ListN.{length, getD}
 use borrow.Author.Tests.{eqb-true, ne-eqb}
 use Rattle.rules.specs.Called.{_∈_}
 use Rattle.rules.specs.Catalogue.{root, part, range, union, Catalogue, conditionAt}
@@ -39,11 +39,12 @@ use Rattle.variable_map.specs.declared.Origin as code-origin
 use Rattle.variable_map.specs.Mapping.{originBy, originOf}
 use Rattle.goals.specs.Goals.{trueOf, AllGiven}
 use Rattle.goals.proofs.Given.{all-given}
-use Rattle.blocking.specs.Blocking.{Blocked, Blocks}
-use Rattle.blocking.proofs.Blocking.{blocked-none, blocked-still}
+use Rattle.blocking.specs.Blocking.{Blocked, Blocks, Releases}
+use Rattle.blocking.proofs.Watching.{held-inside}
+use Rattle.blocking.proofs.Blocking.{blocked-still}
 use Rattle.commands.specs.Commands.{Idle}
 use Rattle.commands.proofs.Idling.{idle-draw}
-use Rattle.carried.specs.Carrying.{Settled, Has, Guards, Idles, Meets, Unblocks}
+use Rattle.carried.specs.Carrying.{Settled, Has, Guards, Idles, MakesTrue, Unblocks}
 use Rattle.carried.proofs.Undoing.{decided-before}
 use Rattle.carried.proofs.Settling.{drawn-is, carried-is, settled-draw}
 
@@ -127,26 +128,30 @@ part-number : (o : code-origin.Origin) (p : ℕ) → o .kind ≡ 1 → originOf 
 unfolding originOf originBy
 part-number o p k e = let q : chosen (part (o .number)) ≡ partOrigin p = rw k at e in cc
 
-module _ {vs : List Origin} {x value : ℕ} {watched : List ℕ} where
+module _ {vs : List Origin} {x value p : ℕ} where
   -- another value than true
-  pub meets-value : (value ≡ 1 → ⊥) → Meets vs x value watched false
-  meets-value n = record { missed = λ _ e. absurd (n e) }
+  pub makes-value : (value ≡ 1 → ⊥) → MakesTrue vs x value p
+  makes-value n = record { is = λ e. absurd (n e) }
 
   module _ (o : code-origin.Origin) (h : originOf o ≡ getD vs x (chosen root)) where
     -- no part's variable
-    pub meets-other : (o .kind ≡ 1 → ⊥) → Meets vs x value watched false
-    meets-other n = record { missed = λ _ _ p e. absurd (other-kind o p n (h ∙ e)) }
+    pub makes-other : (o .kind ≡ 1 → ⊥) → MakesTrue vs x value p
+    makes-other n = record { is = λ _ q e. absurd (other-kind o q n (h ∙ e)) }
 
-    pub meets-part : {b : Bool} → o .kind ≡ 1 → b ≡ isHeld watched (o .number) → Meets vs x value watched b
-    meets-part k q = record { missed = λ z _ p e. rw (← part-number o p k (h ∙ e)) (sym q ∙ z) }
+pub makes-part : {vs : List Origin} {x value : ℕ} (o : code-origin.Origin) → originOf o ≡ getD vs x (chosen root) → o .kind ≡ 1 → MakesTrue vs x value (o .number)
+makes-part o h k = record { is = λ _ q e. sym (part-number o q k (h ∙ e)) }
 
-module _ {vs : List Origin} {x value : ℕ} {blocked watched : List ℕ} where
-  pub unblocks-all : {blocked′ watched′ : List ℕ} → blocked′ ≡ replicate (length blocked) 0 → watched′ ≡ replicate (length watched) 0 → Unblocks vs x value blocked watched blocked′ watched′
-  unblocks-all e d = record { is = λ _ b. blocked-none (length blocked) e (rw (b .long) at d) }
+-- a watched part is one of 1,024
+pub watched-inside : {b : Bool} (watched : List ℕ) (p : ℕ) → b ≡ isHeld watched p → b ≡ true → length watched ≡ 1024 → p < 1024
+watched-inside watched p e q l = rw l at (held-inside watched p (sym e ∙ q))
 
-  pub unblocks-none : {b : Bool} → Meets vs x value watched b → b ≡ false → Unblocks vs x value blocked watched blocked watched
-  unblocks-none m q =
-      record { is = λ f h. blocked-still h (λ p e z. f p (λ i j. true≢false (sym e ∙ m .missed q i p j)) ∙ z) }
+module _ {k : Counts} {m : List ℕ} {vs : List Origin} {x value p : ℕ} {blocked watched : List ℕ} (d : MakesTrue vs x value p) where
+  pub unblocks-part : {blocked′ watched′ : List ℕ} → Releases k m p blocked watched blocked′ watched′ → Unblocks k m vs x value blocked watched blocked′ watched′
+  unblocks-part r = record { is = λ u t f h. r .is u t (λ q n. f q (λ i j. n (d .is i q j))) h }
+
+  pub unblocks-none : {b : Bool} → b ≡ isHeld watched p → b ≡ false → Unblocks k m vs x value blocked watched blocked watched
+  unblocks-none e q =
+      record { is = λ u t f h. blocked-still h (λ r g z. f r (λ i j. true≢false (sym (rw (d .is i r j) at g) ∙ sym e ∙ q)) ∙ z) }
 
 -- a decision makes no part true but that of its variable
 module _ (x value level : ℕ) (s : State) (p : ℕ) (n : value ≡ 1 → getD (s .variables) x (chosen root) ≡ partOrigin p → ⊥) where
@@ -208,12 +213,13 @@ module _ (x : code.Command) {c : Catalogue} {vs : List Origin} {ds : List Decisi
   unfolding commandOf
   idles-draw k q d = rw q d
 
-  pub idles-decide : (v value level : ℕ) {blocked′ watched′ : List ℕ} → x ≡ C.Decide v value level → Unblocks vs v value blocked watched blocked′ watched′
-      → Idles c vs ds (commandOf x) flags blocked watched false blocked′ watched′
+module _ (j : Counts) (m u t : List ℕ) (x : code.Command) {vs : List Origin} {ds : List Decision} {flags blocked watched : List ℕ} where
+  pub idles-decide : (v value level : ℕ) {blocked′ watched′ : List ℕ} → x ≡ C.Decide v value level → Unblocks j m vs v value blocked watched blocked′ watched′
+      → Idles (catalogue j m u t) vs ds (commandOf x) flags blocked watched false blocked′ watched′
   unfolding commandOf
-  idles-decide v value level {blocked′} {watched′} q d = idles-no (Command.decide v value level) (rw q) (record { is = is })
+  idles-decide v value level {blocked′} {watched′} q d = idles-no x (Command.decide v value level) (rw q) (record { is = is })
     where
-      is : (l : rules.Limits) (s s′ : State) → Reached l c s → Has vs ds s → carryOut l c (Command.decide v value level) s ≡ ok s′ → Blocked c (decidedTrue s) blocked watched
-          → Blocked c (decidedTrue s′) blocked′ watched′
+      is : (l : rules.Limits) (s s′ : State) → Reached l (catalogue j m u t) s → Has vs ds s → carryOut l (catalogue j m u t) (Command.decide v value level) s ≡ ok s′ → Blocked (catalogue j m u t) (decidedTrue s) blocked watched
+          → Blocked (catalogue j m u t) (decidedTrue s′) blocked′ watched′
       is l s s′ r h e w =
-          rw (← carried-is l c s (Command.decide v value level) s′ e) (unfold carriedOut in d .is (λ p n. decided-same v value level s p (rw (← h .variables) at n)) w)
+          rw (← carried-is l (catalogue j m u t) s (Command.decide v value level) s′ e) (unfold carriedOut in d .is u t (λ p n. decided-same v value level s p (rw (← h .variables) at n)) w)

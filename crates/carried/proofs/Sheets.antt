@@ -76,7 +76,7 @@ pub record Left (c : Catalogue) (l : Limits) (job : List ℕ) (from : ℕ) (s₀
   pub alike : (t : Terms) → t .limits ≡ limitsOf l → endFrom t job from (reading c) ≡ endFrom t job at (carrying c state)
 
 pub left-start : (k : Counts) (u v w : List ℕ) (l : Limits) (job : List ℕ) (from : ℕ) (n : Counters) (s cl wt flags blocked watched : List ℕ) → UpToSheet job from k u v w
-    → Holds (catalogue k u v w) l start n (held l s) cl wt → flags ≡ replicate 256 0 → blocked ≡ replicate 256 0 → watched ≡ replicate 1024 0
+    → Holds (catalogue k u v w) l start n (held l s) cl wt → flags ≡ replicate 256 0 → blocked ≡ replicate 768 0 → watched ≡ replicate 1024 0
     → Left (catalogue k u v w) l job from s cl wt flags blocked watched from n s cl wt
 left-start k u v w l job from n s cl wt flags blocked watched y h z b d =
     record {
@@ -89,7 +89,7 @@ left-start k u v w l job from n s cl wt flags blocked watched y h z b d =
       reached = Reached.begun;
       holds = h;
       settled = rw z (settled-none (catalogue k u v w) 256 start);
-      guarded = blocked-none 256 b d;
+      guarded = blocked-none b d;
       alike = λ t _. begins-alike job from (catalogue k u v w) (y .starts) t;
     }
 

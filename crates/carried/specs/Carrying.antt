@@ -1,6 +1,6 @@
 -- A job's state at the start, and its sheet carried out record by record.
 use mathlib.Core.Path.{_≡_}
-use mathlib.Core.Bool.{Bool, true, false}
+use mathlib.Core.Bool.{Bool, true}
 use mathlib.Core.List.{List}
 use Prim.Native.Nat.{ℕ, _+_, _<_, _≤_}
 use lib.ListN.{length, getD, drop}
@@ -19,6 +19,8 @@ use Rattle.refusal.specs.declared.Refusal.{Refusal}
 use Rattle.refusal.specs.Refusing.{refusalOf}
 use Rattle.reader.specs.declared.Command as code
 use Rattle.reader.specs.Reading.{commandOf}
+use Rattle.tables.specs.declared.Counts.{Counts}
+use Rattle.cache.specs.Areas.{catalogue}
 use Rattle.state.specs.declared.Limits.{Limits}
 use Rattle.variable_map.specs.Mapping.{variables}
 use Rattle.decision_tracker.specs.Tracking.{decisions}
@@ -68,14 +70,14 @@ pub record Idles (c : Catalogue) (vs : List Origin) (ds : List Decision) (o : Co
       → carryOut l c o s ≡ ok s
   pub guards : Guards c vs ds o blocked watched blocked′ watched′
 
--- if b is false, variable x is not that of a watched part, or gets another value than true
-pub record Meets (vs : List Origin) (x value : ℕ) (watched : List ℕ) (b : Bool) : Type 0 where
-  pub missed : b ≡ false → value ≡ 1 → (p : ℕ) → getD vs x (chosen root) ≡ partOrigin p → isHeld watched p ≡ false
+-- only part p can be made true by value `value` of variable x
+pub record MakesTrue (vs : List Origin) (x value p : ℕ) : Type 0 where
+  pub is : value ≡ 1 → (q : ℕ) → getD vs x (chosen root) ≡ partOrigin q → q ≡ p
 
--- where no part was made true but that of variable x, by value 1, the flagged conditions are blocked
-pub record Unblocks (vs : List Origin) (x value : ℕ) (blocked watched blocked′ watched′ : List ℕ) : Type 0 where
-  pub is : {c : Catalogue} {true? now? : ℕ → Bool} → ((p : ℕ) → (value ≡ 1 → getD vs x (chosen root) ≡ partOrigin p → ⊥) → now? p ≡ true? p)
-      → Blocked c true? blocked watched → Blocked c now? blocked′ watched′
+-- where no part was made true but that of variable x, by value 1, what is flagged is blocked
+pub record Unblocks (k : Counts) (m : List ℕ) (vs : List Origin) (x value : ℕ) (blocked watched blocked′ watched′ : List ℕ) : Type 0 where
+  pub is : (u t : List ℕ) {true? now? : ℕ → Bool} → ((p : ℕ) → (value ≡ 1 → getD vs x (chosen root) ≡ partOrigin p → ⊥) → now? p ≡ true? p)
+      → Blocked (catalogue k m u t) true? blocked watched → Blocked (catalogue k m u t) now? blocked′ watched′
 
 -- after the command these are flags of that kind
 pub record Notes (o : Command) (flags flags′ : List ℕ) : Type 0 where

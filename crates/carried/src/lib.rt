@@ -13,19 +13,21 @@ ghost use lib.ListN.{length, set};
 ghost use Rattle.rules.specs.Records as rules;
 ghost use Rattle.rules.specs.State.{start};
 ghost use Rattle.rules.proofs.Reached.{Given};
+ghost use Rattle.tables.specs.Tables.{tables};
 ghost use Rattle.cache.specs.Areas.{catalogue};
 ghost use Rattle.catalogue.specs.Walking.{UpToSheet};
 ghost use Rattle.reader.specs.Reading.{commandOf};
 ghost use Rattle.state.specs.Changed.{Cleared};
 ghost use Rattle.state.specs.Layout.{held, Fits};
-ghost use Rattle.variable_map.specs.Mapping.{variables, Mapped};
-ghost use Rattle.decision_tracker.specs.Tracking.{decisions, Kept};
+ghost use Rattle.variable_map.specs.Mapping.{variables};
+ghost use Rattle.decision_tracker.specs.Tracking.{decisions};
 ghost use Rattle.encoder.specs.Held.{LongEnough};
 ghost use Rattle.goals.specs.Goals.{Catalogued};
+ghost use Rattle.blocking.specs.Blocking.{Sees, Listed};
 ghost use Rattle.encoding.specs.Running.{Holds, Reaches};
 ghost use Rattle.serving.specs.Flags.{Flagged};
 ghost use Rattle.sheet.specs.Sheet.{FlaggedAfter};
-ghost use Rattle.carried.specs.Carrying.{Started, Meets, Unblocks, Idles, Notes, SettledDid, StepDid, FlaggedNext, SheetDid};
+ghost use Rattle.carried.specs.Carrying.{Started, MakesTrue, Unblocks, Idles, Notes, SettledDid, StepDid, FlaggedNext, SheetDid};
 
 // Variable 0 is the root; clause 0, install, is stored at the start. The state area was cleared.
 pub fn start(s: &mut [u8], clauses: &mut [u8], l: Limits) -> Counters
@@ -97,47 +99,51 @@ fn note(settled: &mut [u8], command: Command)
     }
 }
 
-// Does the decision make a watched part true?
-fn meets(watched: &[u8; 1024], s: &[u8], l: Limits, n: Counters, variable: u16, value: u8) -> bool
+// The part that the decision makes true; 1,024 if it makes none true.
+fn made_true(s: &[u8], l: Limits, n: Counters, variable: u16, value: u8) -> usize
     requires { ⌜ Fits l (length (now s)) ⌝ }
     requires { ⌜ n .variables ≤ l .variables ⌝ }
-    ensures { λ b. ⌜ Meets (variables (n .variables) (held l (now (s .entry)))) variable value (now (watched .entry)) b ⌝ }
+    ensures { λ p. ⌜ MakesTrue (variables (n .variables) (held l (now (s .entry)))) variable value p ⌝ }
 {
     if value != 1 {
-        return false;
+        return 1024;
     }
     let origin = variable_map::origin_at(s, l, n.variables, variable as usize);
     if origin.kind != 1 {
-        return false;
+        return 1024;
     }
-    commands::is_set(watched, origin.number as usize)
+    origin.number as usize
 }
 
-// A decision: where it makes a watched part true, nothing is blocked or watched any more.
+// A decision: where it makes a watched part true, no condition is blocked any more, and no range that has the part.
 fn unblock(
-    blocked: &mut [u8; 256],
+    blocked: &mut [u8; 768],
     watched: &mut [u8; 1024],
+    marks: &[u8],
+    k: Counts,
     s: &[u8],
     l: Limits,
     n: Counters,
     variable: u16,
     value: u8,
 )
+    requires { ⌜ (k .ranges ≤ 512) × (65536 ≤ length (now marks)) × (length (now watched) ≡ 1024) ⌝ }
     requires { ⌜ Fits l (length (now s)) ⌝ }
     requires { ⌜ n .variables ≤ l .variables ⌝ }
-    ensures { λ _. ⌜ Unblocks (variables (n .variables) (held l (now (s .entry)))) variable value (now (blocked .entry)) (now (watched .entry)) (now (blocked .exit)) (now (watched .exit)) ⌝ }
+    ensures { λ _. ⌜ Unblocks k (now (marks .entry)) (variables (n .variables) (held l (now (s .entry)))) variable value (now (blocked .entry)) (now (watched .entry)) (now (blocked .exit)) (now (watched .exit)) ⌝ }
 {
-    if meets(watched, s, l, n, variable, value) {
-        words::clear(blocked);
-        words::clear(watched);
+    let p = made_true(s, l, n, variable, value);
+    if commands::is_set(watched, p) {
+        blocking::release(marks, k, blocked, watched, p);
     }
 }
 
 // Does a draw of condition c change nothing? Nothing is to be drawn of it where it is flagged, or where no disjunct of it holds.
 fn draws_nothing(
     settled: &[u8],
-    blocked: &mut [u8; 256],
+    blocked: &mut [u8; 768],
     watched: &mut [u8; 1024],
+    lists: &mut [u16; 1091],
     marks: &[u8],
     unions: &[u8],
     t: &[u8],
@@ -147,17 +153,17 @@ fn draws_nothing(
     n: Counters,
     c: usize,
 ) -> bool
-    requires { ⌜ Catalogued k (now marks) (now unions) (now t) ⌝ }
-    requires { ⌜ Fits l (length (now s)) ⌝ }
-    requires { ⌜ Mapped l (n .variables) (held l (now s)) × Kept l (n .decisions) (held l (now s)) ⌝ }
+    requires { ⌜ Sees k (now marks) (now unions) (now t) l n (now s) ⌝ }
     requires { ⌜ length (now watched) ≡ 1024 ⌝ }
+    requires { ⌜ Listed (tables k (now t) .conditions) (now lists) ⌝ }
     ensures { λ b. ⌜ Idles (catalogue k (now (marks .entry)) (now (unions .entry)) (now (t .entry))) (variables (n .variables) (held l (now (s .entry)))) (decisions (n .decisions) (held l (now (s .entry)))) (rules.Command.draw c) (now (settled .entry)) (now (blocked .entry)) (now (watched .entry)) b (now (blocked .exit)) (now (watched .exit)) ⌝ }
+    ensures { λ _. ⌜ Listed (tables k (now (t .entry)) .conditions) (now (lists .exit)) ⌝ }
 {
     if commands::is_set(settled, c) {
         return true;
     }
     if c < k.conditions {
-        return blocking::blocks(marks, unions, t, k, s, l, n, c, blocked, watched);
+        return blocking::blocks(marks, unions, t, k, s, l, n, c, blocked, watched, lists);
     }
     false
 }
@@ -165,8 +171,9 @@ fn draws_nothing(
 // Is the command a draw that changes nothing? `blocked` and `watched` become what they are after the command.
 fn is_idle(
     settled: &[u8],
-    blocked: &mut [u8; 256],
+    blocked: &mut [u8; 768],
     watched: &mut [u8; 1024],
+    lists: &mut [u16; 1091],
     marks: &[u8],
     unions: &[u8],
     t: &[u8],
@@ -176,11 +183,11 @@ fn is_idle(
     n: Counters,
     command: Command,
 ) -> bool
-    requires { ⌜ Catalogued k (now marks) (now unions) (now t) ⌝ }
-    requires { ⌜ Fits l (length (now s)) ⌝ }
-    requires { ⌜ Mapped l (n .variables) (held l (now s)) × Kept l (n .decisions) (held l (now s)) ⌝ }
+    requires { ⌜ Sees k (now marks) (now unions) (now t) l n (now s) ⌝ }
     requires { ⌜ length (now watched) ≡ 1024 ⌝ }
+    requires { ⌜ Listed (tables k (now t) .conditions) (now lists) ⌝ }
     ensures { λ b. ⌜ Idles (catalogue k (now (marks .entry)) (now (unions .entry)) (now (t .entry))) (variables (n .variables) (held l (now (s .entry)))) (decisions (n .decisions) (held l (now (s .entry)))) (commandOf command) (now (settled .entry)) (now (blocked .entry)) (now (watched .entry)) b (now (blocked .exit)) (now (watched .exit)) ⌝ }
+    ensures { λ _. ⌜ Listed (tables k (now (t .entry)) .conditions) (now (lists .exit)) ⌝ }
 {
     match command {
         Command::Add(_) => false,
@@ -188,6 +195,7 @@ fn is_idle(
             settled,
             blocked,
             watched,
+            lists,
             marks,
             unions,
             t,
@@ -203,7 +211,7 @@ fn is_idle(
             value,
             ..
         } => {
-            unblock(blocked, watched, s, l, n, variable, value);
+            unblock(blocked, watched, marks, k, s, l, n, variable, value);
             false
         }
         Command::Undo(_) => false,
@@ -213,8 +221,9 @@ fn is_idle(
 // A command is carried out; a draw that changes nothing is passed over.
 fn carry_command(
     settled: &[u8],
-    blocked: &mut [u8; 256],
+    blocked: &mut [u8; 768],
     watched: &mut [u8; 1024],
+    lists: &mut [u16; 1091],
     marks: &[u8],
     unions: &[u8],
     t: &[u8],
@@ -233,13 +242,16 @@ fn carry_command(
     requires { ⌜ LongEnough l (length (now clauses)) (length (now w)) × (n .runs < 65535) ⌝ }
     requires { ⌜ Flagged (catalogue k (now marks) (now unions) (now t)) l (now goals) n (held l (now s)) ⌝ }
     requires { ⌜ length (now watched) ≡ 1024 ⌝ }
+    requires { ⌜ Listed (tables k (now t) .conditions) (now lists) ⌝ }
     ensures { λ r. ⌜ SettledDid (catalogue k (now (marks .entry)) (now (unions .entry)) (now (t .entry))) (now (settled .entry)) (now (blocked .entry)) (now (watched .entry)) l (commandOf command) n (held l (now (s .entry))) (now (clauses .entry)) (now (w .entry)) r (held l (now (s .exit))) (now (clauses .exit)) (now (w .exit)) (now (blocked .exit)) (now (watched .exit)) ⌝ }
     ensures { λ r. ⌜ FlaggedAfter (catalogue k (now (marks .entry)) (now (unions .entry)) (now (t .entry))) l (now (goals .exit)) r (held l (now (s .exit))) ⌝ }
+    ensures { λ _. ⌜ Listed (tables k (now (t .entry)) .conditions) (now (lists .exit)) ⌝ }
 {
     if is_idle(
         settled,
         blocked,
         watched,
+        lists,
         marks,
         unions,
         t,
@@ -267,13 +279,15 @@ pub enum Step {
 }
 
 // The command at `at` is read and carried out. `settled` flags conditions of which nothing is to be drawn, `blocked` conditions
-// no disjunct of which holds until a part that `watched` flags is decided true, `goals` goals whose candidates are settled.
+// no disjunct of which holds until a part that `watched` flags is decided true, and ranges, `goals` goals whose candidates are settled. `lists` has the
+// disjuncts of a condition that was often judged.
 fn carry_record(
     job: &[u8],
     at: usize,
     settled: &[u8],
-    blocked: &mut [u8; 256],
+    blocked: &mut [u8; 768],
     watched: &mut [u8; 1024],
+    lists: &mut [u16; 1091],
     marks: &[u8],
     unions: &[u8],
     t: &[u8],
@@ -292,8 +306,10 @@ fn carry_record(
     requires { ⌜ LongEnough l (length (now clauses)) (length (now w)) × (n .runs < 65535) ⌝ }
     requires { ⌜ Flagged (catalogue k (now marks) (now unions) (now t)) l (now goals) n (held l (now s)) ⌝ }
     requires { ⌜ length (now watched) ≡ 1024 ⌝ }
+    requires { ⌜ Listed (tables k (now t) .conditions) (now lists) ⌝ }
     ensures { λ r. ⌜ StepDid (catalogue k (now (marks .entry)) (now (unions .entry)) (now (t .entry))) (now (settled .entry)) (now (blocked .entry)) (now (watched .entry)) l (now (job .entry)) at n (held l (now (s .entry))) (now (clauses .entry)) (now (w .entry)) r (held l (now (s .exit))) (now (clauses .exit)) (now (w .exit)) (now (blocked .exit)) (now (watched .exit)) ⌝ }
     ensures { λ r. ⌜ FlaggedNext (catalogue k (now (marks .entry)) (now (unions .entry)) (now (t .entry))) l (now (goals .exit)) r (held l (now (s .exit))) ⌝ }
+    ensures { λ _. ⌜ Listed (tables k (now (t .entry)) .conditions) (now (lists .exit)) ⌝ }
 {
     let next = reader::next_at(job, at);
     match reader::record_at(job, at, true) {
@@ -305,6 +321,7 @@ fn carry_record(
                 settled,
                 blocked,
                 watched,
+                lists,
                 marks,
                 unions,
                 t,
@@ -352,8 +369,9 @@ pub fn carry_sheet(
     ensures { λ r. ⌜ SheetDid (catalogue k (now (marks .entry)) (now (unions .entry)) (now (t .entry))) l (now (job .entry)) from r (held l (now (s .exit))) (now (clauses .exit)) (now (w .exit)) ⌝ }
 {
     let mut settled = [0u8; 256];
-    let mut blocked = [0u8; 256];
+    let mut blocked = [0u8; 768];
     let mut watched = [0u8; 1024];
+    let mut lists = [0u16; 1091];
     let mut goals = [0u8; 640];
     let mut at = from;
     let mut m = n;
@@ -364,6 +382,7 @@ pub fn carry_sheet(
             &settled,
             &mut blocked,
             &mut watched,
+            &mut lists,
             marks,
             unions,
             t,

@@ -1,51 +1,38 @@
--- `blocking::blocks` tells that no disjunct of a condition holds, and blocks the condition if the parts that it waits for can be watched.
+-- `blocking::blocks` tells that no disjunct of a condition holds: it is blocked, or each disjunct has a blocked range, or it is judged by its halves.
 use borrow.Author.Needs.{needs}
-use Rattle.blocking.proofs.Asking.{asked-first}
-use Rattle.blocking.proofs.Blocking.{blocks-known, blocks-not, blocks-unwatched, blocks-watched, blocks-some}
+use Rattle.blocking.proofs.Blocking.{bars-room, blocks-known, blocks-barred, blocks-judged}
 use Rattle.blocking.proofs.blocks.Statement.{statement}
 use Rattle.blocking.proofs.blocks.Tie as tie
 
-element-copy-out-b : tie.Need-element-copy-out-b
-element-copy-out-b c = search needs
+element-copy-out-if1 : tie.Need-element-copy-out-if1
+element-copy-out-if1 c = search needs
 
 returns : tie.Need-returns
-returns c = search (needs, blocks-known)
+returns c = (search (needs, blocks-known), search needs)
 
-some-holds-requires : tie.Need-some-holds-requires
-some-holds-requires c κs = search (needs, asked-first)
-
-returns-2 : tie.Need-returns-2
-returns-2 c = search (needs, blocks-not)
-
-returns-3 : tie.Need-returns-3
-returns-3 c = search (needs, blocks-unwatched)
-
-watch-requires : tie.Need-watch-requires
-watch-requires c κs = search needs
+barred-by-lists-requires : tie.Need-barred-by-lists-requires
+barred-by-lists-requires c κs = search needs
 
 element-write-blocked : tie.Need-element-write-blocked
 element-write-blocked c = search needs
 
-returns-4 : tie.Need-returns-4
-returns-4 c = search (needs, blocks-watched)
+returns-2 : tie.Need-returns-2
+returns-2 c = (search (needs, blocks-barred), search needs)
 
-element-write-blocked-2 : tie.Need-element-write-blocked-2
-element-write-blocked-2 c = search needs
+judge-requires : tie.Need-judge-requires
+judge-requires c κs = (search needs, ((search needs, search (needs, bars-room)), search needs))
 
-returns-5 : tie.Need-returns-5
-returns-5 c = search (needs, blocks-some)
+returns-3 : tie.Need-returns-3
+returns-3 c = (blocks-judged (c .before .before .before .before .before .barred-by-lists .ensures) (c .judge .ensures .0), (c .judge .ensures .1))
 
 pub blocks-spec : {M : Type 1} → statement M
 blocks-spec =
     tie.close
     (tie.spec
-    element-copy-out-b
+    element-copy-out-if1
     returns
-    some-holds-requires
-    returns-2
-    returns-3
-    watch-requires
+    barred-by-lists-requires
     element-write-blocked
-    returns-4
-    element-write-blocked-2
-    returns-5)
+    returns-2
+    judge-requires
+    returns-3)

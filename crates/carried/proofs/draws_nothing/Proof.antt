@@ -8,16 +8,16 @@ is-set-requires : tie.Need-is-set-requires
 is-set-requires c κs = search needs
 
 returns : tie.Need-returns
-returns c = search (needs, idles-settled)
+returns c = (search (needs, idles-settled), search needs)
 
 blocks-requires : tie.Need-blocks-requires
-blocks-requires c κs = let p = (c .before .before .before .before .before .before .before .before .before .before .before .pre) in (p .0, (p .1 .0, (p .1 .1 .0, (p .1 .1 .1, (c .before .before .if2 .taken)))))
+blocks-requires c κs = (search needs, ((search needs, search needs), search needs))
 
 returns-2 : tie.Need-returns-2
-returns-2 c = search (needs, idles-given)
+returns-2 c = (search (needs, idles-given), search needs)
 
 returns-3 : tie.Need-returns-3
-returns-3 c = search (needs, idles-not)
+returns-3 c = (search (needs, idles-not), search needs)
 
 pub draws-nothing-spec : {M : Type 1} → statement M
 draws-nothing-spec =

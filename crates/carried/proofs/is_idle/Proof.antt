@@ -1,4 +1,4 @@
--- `carried::is_idle` tells a draw that changes nothing, and gives the flags of blocked conditions and watched parts after the command.
+-- `carried::is_idle` tells a draw that changes nothing, and gives the flags of what is blocked and of watched parts after the command.
 use borrow.Author.Needs.{needs}
 use Rattle.carried.proofs.Blocking.{idles-add, idles-draw, idles-run, idles-decide, idles-undo}
 use Rattle.carried.proofs.is_idle.Statement.{statement}
@@ -29,19 +29,19 @@ enum-told-3 : tie.Need-enum-told-3
 enum-told-3 c = search needs
 
 returns : tie.Need-returns
-returns c = search (needs, idles-add)
+returns c = (search (needs, idles-add), search needs)
 
 returns-2 : tie.Need-returns-2
-returns-2 c = search (needs, idles-draw)
+returns-2 c = (search (needs, idles-draw), search needs)
 
 returns-3 : tie.Need-returns-3
-returns-3 c = search (needs, idles-run)
+returns-3 c = (search (needs, idles-run), search needs)
 
 returns-4 : tie.Need-returns-4
-returns-4 c = search (needs, idles-decide)
+returns-4 c = (search (needs, idles-decide), search needs)
 
 returns-5 : tie.Need-returns-5
-returns-5 c = search (needs, idles-undo)
+returns-5 c = (search (needs, idles-undo), search needs)
 
 pub is-idle-spec : {M : Type 1} → statement M
 is-idle-spec =

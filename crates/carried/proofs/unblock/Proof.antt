@@ -1,24 +1,24 @@
--- `carried::unblock` clears the flags where a watched part is made true, and else keeps them.
+-- `carried::unblock` releases what a decision may make hold, where it makes a watched part true, and else keeps what is blocked.
 use borrow.Author.Needs.{needs}
-use Rattle.carried.proofs.Blocking.{unblocks-all, unblocks-none}
+use Rattle.carried.proofs.Blocking.{watched-inside, unblocks-part, unblocks-none}
 use Rattle.carried.proofs.unblock.Statement.{statement}
 use Rattle.carried.proofs.unblock.Tie as tie
 
-meets-requires : tie.Need-meets-requires
-meets-requires c κs = search needs
+made-true-requires : tie.Need-made-true-requires
+made-true-requires c κs = search needs
 
-clear-requires : tie.Need-clear-requires
-clear-requires c κs = search needs
+is-set-requires : tie.Need-is-set-requires
+is-set-requires c κs = search needs
 
-clear-requires-2 : tie.Need-clear-requires-2
-clear-requires-2 c κs = search needs
+release-requires : tie.Need-release-requires
+release-requires c κs = (search needs, search needs, search (needs, watched-inside))
 
 returns : tie.Need-returns
-returns c = search (needs, unblocks-all)
+returns c = search (needs, unblocks-part)
 
 returns-2 : tie.Need-returns-2
 returns-2 c = search (needs, unblocks-none)
 
 pub unblock-spec : {M : Type 1} → statement M
 unblock-spec =
-    tie.close (tie.spec meets-requires clear-requires clear-requires-2 returns returns-2)
+    tie.close (tie.spec made-true-requires is-set-requires release-requires returns returns-2)
