@@ -16,7 +16,6 @@ use Rattle.rules.specs.Records.{Command}
 use Rattle.rules.specs.Variables.{Origin, chosen, forbid, one, violation, gate, known, partOrigin, partVariable}
 use Rattle.rules.specs.Decisions.{Decision}
 use Rattle.rules.specs.Opening.{Opening, holdsNow, entryHolds, isDrawn}
-use Rattle.rules.specs.Opening as opening
 use Rattle.rules.specs.State.{State, decidedTrue}
 use Rattle.rules.specs.Limits as rules
 use Rattle.rules.specs.Sheet.{carriedOut, carryOut, decide}
