@@ -38,10 +38,11 @@ use Rattle.encoder.specs.Held.{Reading, openingOf, stateOf, Good}
 use Rattle.encoder.specs.Did.{limitsOf}
 use Rattle.encoder.proofs.Frames.{good-kept, list-kept, line-kept}
 use Rattle.encoder.proofs.Counted.{withDecisions}
-use Rattle.commands.specs.declared.Outcome.{Outcome}
+use Rattle.commands.specs.declared.Decided.{Decided}
+use Rattle.commands.specs.declared.Decided.the-variants as Decided
 use Rattle.commands.specs.declared.Outcome.the-variants.{Carried, Refused}
-use Rattle.commands.specs.Commands.{ChangesOf, Changes, decidedTo, DecidesLiteral, CarriedOut, PlainOutcomes}
-use Rattle.commands.proofs.Outcomes.{unchanged, changes-as, carried-out, outcome-carried, outcome-refused}
+use Rattle.commands.specs.Commands.{ChangesOf, Changes, decidedTo, DecidesLiteral, Decides, PlainOutcomes}
+use Rattle.commands.proofs.Outcomes.{unchanged, changes-as, outcome-carried, outcome-refused}
 
 -- ---- a level is too low
 
@@ -80,44 +81,51 @@ module _ {l : Limits} (n : Counters) {count : ℕ} {ds : List Decision} {st st�
 abbrev pub newDecision : (x : ℕ) (b : Bool) (level : ℕ) → tracker.Decision
 newDecision x b level = record { variable = x; value = b; level = level; clause = 0 }
 
-module _ {l : Limits} {n : Counters} {x : Literal} {level : ℕ} {st st′ : ℕ → List ℕ} where
-  literal-carried : {m : Counters} → Changes l (decidedTo x level) n st m st′ → isFalsified (evaluate (decisions (n .decisions) st) x) ≡ false
-      → DecidesLiteral l x level n st (Carried m) st′
-  literal-carried {m} h e =
+module _ {l : Limits} {x : Literal} {level k : ℕ} {st st′ : ℕ → List ℕ} where
+  literal-to : {d : ℕ} → ((n : Counters) → n .decisions ≡ k → Changes l (decidedTo x level) n st (withDecisions d n) st′)
+      → isFalsified (evaluate (decisions k st) x) ≡ false → DecidesLiteral l x level k st (Decided.To d) st′
+  literal-to {d} h e =
       record {
-        carried = λ m′ q. let p : m′ ≡ m = cc in rw p (h, e);
+        to = λ d′ q. e;
+        changes = λ d′ q. let p : d′ ≡ d = cc in rw p h;
         refused = λ f q. absurd (not-one (cc));
       }
 
-module _ {l : Limits} {n : Counters} (x : code.Literal) {level : ℕ} {st : ℕ → List ℕ} {v : Value}
-    (e : v ≡ seen (evaluate (decisions (n .decisions) st) (literalOf x))) where
-  pub decided-again : v ≡ values.True → DecidesLiteral l (literalOf x) level n st (Carried n) st
-  decided-again q =
-      literal-carried (record { is = λ c cl wt. changes-as unchanged (idle c cl wt) }) (sym (falsified-true (decisions (n .decisions) st) (literalOf x) e q))
+module _ {l : Limits} {k : ℕ} (x : code.Literal) {level : ℕ} {st : ℕ → List ℕ} {v : Value}
+    (e : v ≡ seen (evaluate (decisions k st) (literalOf x))) where
+  pub decided-again : v ≡ values.True → DecidesLiteral l (literalOf x) level k st (Decided.To k) st
+  decided-again q = literal-to changes (sym (falsified-true (decisions k st) (literalOf x) e q))
     where
-      idle : (c : Catalogue) (cl wt : List ℕ) (w : Reading) → stateOf c l w n st cl wt ≡ decidedTo (literalOf x) level (stateOf c l w n st cl wt)
-      idle c cl wt w = unfold decidedTo when stateOf in rw (undecided-seen, ← e, q)
+      changes : (n : Counters) → n .decisions ≡ k → Changes l (decidedTo (literalOf x) level) n st (withDecisions k n) st
+      changes n z =
+          let same : withDecisions k n ≡ n = rw (← z) in
+          rw same (record { is = λ c cl wt. changes-as unchanged (idle c cl wt) })
+        where
+          idle : (c : Catalogue) (cl wt : List ℕ) (w : Reading) → stateOf c l w n st cl wt ≡ decidedTo (literalOf x) level (stateOf c l w n st cl wt)
+          idle c cl wt w = unfold decidedTo when stateOf in rw (z, undecided-seen, ← e, q)
 
-  pub decided-against : v ≡ values.False → DecidesLiteral l (literalOf x) level n st (Refused DecidedAgainst) st
+  pub decided-against : v ≡ values.False → DecidesLiteral l (literalOf x) level k st (Decided.Refused DecidedAgainst) st
   decided-against q =
       record {
-        carried = λ m p. absurd (not-one (cc));
-        refused = λ f p. let z : f ≡ DecidedAgainst = cc in (z, sym (falsified-false (decisions (n .decisions) st) (literalOf x) e q));
+        to = λ d p. absurd (not-one (cc));
+        changes = λ d p. absurd (not-one (cc));
+        refused = λ f p. let z : f ≡ DecidedAgainst = cc in (z, sym (falsified-false (decisions k st) (literalOf x) e q));
       }
 
   pub decided-new : v ≡ values.Undecided → {y : ℕ} {b : Bool} → y ≡ (literalOf x) .variable → b ≡ (literalOf x) .positive
-      → {count : ℕ} {st′ : ℕ → List ℕ} → Told l count (snoc (decisions (n .decisions) st) (decisionOf (newDecision y b level))) st st′
-      → DecidesLiteral l (literalOf x) level n st (Carried (withDecisions count n)) st′
-  decided-new q {y} {b} ey eb t =
-      literal-carried (record { is = λ c cl wt. changes-as (told-changes n t c cl wt) (new c cl wt) })
-      (sym (falsified-undecided (decisions (n .decisions) st) (literalOf x) e q))
+      → {count : ℕ} {st′ : ℕ → List ℕ} → Told l count (snoc (decisions k st) (decisionOf (newDecision y b level))) st st′
+      → DecidesLiteral l (literalOf x) level k st (Decided.To count) st′
+  decided-new q {y} {b} ey eb {count} {st′} t = literal-to changes (sym (falsified-undecided (decisions k st) (literalOf x) e q))
     where
-      new : (c : Catalogue) (cl wt : List ℕ) (w : Reading)
-          → setDecisions (snoc (decisions (n .decisions) st) (decisionOf (newDecision y b level))) (stateOf c l w n st cl wt)
-          ≡ decidedTo (literalOf x) level (stateOf c l w n st cl wt)
-      new c cl wt w =
-          unfold decidedTo when stateOf decisionOf decisionBy clauseBy in
-          rw (reads-undecided (decisions (n .decisions) st) (literalOf x) v e q, ey, eb)
+      changes : (n : Counters) → n .decisions ≡ k → Changes l (decidedTo (literalOf x) level) n st (withDecisions count n) st′
+      changes n z = record { is = λ c cl wt. changes-as (told-changes n t c cl wt) (new c cl wt) }
+        where
+          new : (c : Catalogue) (cl wt : List ℕ) (w : Reading)
+              → setDecisions (snoc (decisions k st) (decisionOf (newDecision y b level))) (stateOf c l w n st cl wt)
+              ≡ decidedTo (literalOf x) level (stateOf c l w n st cl wt)
+          new c cl wt w =
+              unfold decidedTo when stateOf decisionOf decisionBy clauseBy in
+              rw (z, reads-undecided (decisions k st) (literalOf x) v e q, ey, eb)
 
 -- ---- the command decide: its refusals in the order 4, 5, 9, 8
 
@@ -162,40 +170,77 @@ module _ (l : Limits) (n : Counters) (st : ℕ → List ℕ) (x value level : �
     unfolding stateOf
     decisions-are = refl
 
-  pub decide-missing : n .variables ≤ x → PlainOutcomes l (Command.decide x value level) n st (Refused (MissingVariable 1)) st
+  decide-missing : n .variables ≤ x → PlainOutcomes l (Command.decide x value level) n st (Refused (MissingVariable 1)) st
   decide-missing h = record { is = λ c. outcome-refused (λ cl wt v. no-variable (limitsOf l) c x value level _ (counted c cl wt v ∙ le-leb (n .variables) x h)) }
 
   module _ (h : x < n .variables) where
     there : (c : Catalogue) (cl wt : List ℕ) (v : Reading) → leb (length (stateOf c l v n st cl wt .variables)) x ≡ false
     there c cl wt v = counted c cl wt v ∙ lt-leb (n .variables) x h
 
-    pub decide-other : 1 < value → PlainOutcomes l (Command.decide x value level) n st (Refused (Contradicts OtherValue)) st
+    decide-other : 1 < value → PlainOutcomes l (Command.decide x value level) n st (Refused (Contradicts OtherValue)) st
     decide-other a = record { is = λ c. outcome-refused (λ cl wt v. no-value (limitsOf l) c x value level _ (there c cl wt v) (lt-ltb 1 value a)) }
 
     module _ (a : value ≤ 1) {low : Bool} (e : low ≡ (eqb level 0 || ltb level (lastLevel (decisions (n .decisions) st)))) where
-      pub decide-low : low ≡ true → PlainOutcomes l (Command.decide x value level) n st (Refused LevelLow) st
+      decide-low : low ≡ true → PlainOutcomes l (Command.decide x value level) n st (Refused LevelLow) st
       decide-low q =
           record { is = λ c. outcome-refused (λ cl wt v. is-low (limitsOf l) c x value level _ (there c cl wt v) (le-ltb 1 value a) (low-is c l v n st cl wt level e ∙ q)) }
 
-      pub decide-literal : low ≡ false → (y : code.Literal) → literalOf y ≡ signed x (eqb value 1) → {r : Outcome} {st′ : ℕ → List ℕ}
-          → DecidesLiteral l (literalOf y) level n st r st′ → PlainOutcomes l (Command.decide x value level) n st r st′
-      decide-literal q y p {r} {st′} d = record { is = λ c. record { carried = λ m z cl wt. done c m z cl wt; refused = λ f z cl wt v. not-done c f z cl wt v } }
-        where
-          d′ : DecidesLiteral l (signed x (eqb value 1)) level n st r st′
-          d′ = rw p at d
+      module _ (q : low ≡ false) (y : code.Literal) (p : literalOf y ≡ signed x (eqb value 1)) {r : Decided} {st′ : ℕ → List ℕ}
+          (d : DecidesLiteral l (literalOf y) level (n .decisions) st r st′) where
+        d′ : DecidesLiteral l (signed x (eqb value 1)) level (n .decisions) st r st′
+        d′ = rw p at d
 
-          done : (c : Catalogue) (m : Counters) → r ≡ Carried m → (cl wt : List ℕ) → CarriedOut c l (Command.decide x value level) n st cl wt m st′
-          done c m z cl wt =
-              let k = d′ .carried m z in
-              carried-out (k .0 .is c cl wt)
-              (λ v. passes (limitsOf l) c x value level _ (there c cl wt v) (le-ltb 1 value a) (low-is c l v n st cl wt level e ∙ q) (rw (decisions-are c cl wt v) at (k .1)))
+        literal-passes : (m : ℕ) → r ≡ Decided.To m → PlainOutcomes l (Command.decide x value level) n st (Carried (withDecisions m n)) st′
+        literal-passes m z = record { is = λ c. outcome-carried (d′ .changes m z n refl) (λ cl wt v. done c cl wt v) }
+          where
+            done : (c : Catalogue) (cl wt : List ℕ) (v : Reading)
+                → carryOut (limitsOf l) c (Command.decide x value level) (stateOf c l v n st cl wt) ≡ ok (decidedTo (signed x (eqb value 1)) level (stateOf c l v n st cl wt))
+            done c cl wt v =
+                passes (limitsOf l) c x value level _ (there c cl wt v) (le-ltb 1 value a) (low-is c l v n st cl wt level e ∙ q) (rw (decisions-are c cl wt v) at (d′ .to m z))
 
-          not-done : (c : Catalogue) (f : Refusal) → r ≡ Refused f → (cl wt : List ℕ) (v : Reading)
-              → carryOut (limitsOf l) c (Command.decide x value level) (stateOf c l v n st cl wt) ≡ refuse (refusalOf f)
-          not-done c f z cl wt v =
-              let k = d′ .refused f z in
-              rw (k .0)
-              (is-false (limitsOf l) c x value level _ (there c cl wt v) (le-ltb 1 value a) (low-is c l v n st cl wt level e ∙ q) (rw (decisions-are c cl wt v) at (k .1)))
+        literal-refused : (f : Refusal) → r ≡ Decided.Refused f → PlainOutcomes l (Command.decide x value level) n st (Refused f) st′
+        literal-refused f z = record { is = λ c. outcome-refused (λ cl wt v. not-done c cl wt v) }
+          where
+            not-done : (c : Catalogue) (cl wt : List ℕ) (v : Reading)
+                → carryOut (limitsOf l) c (Command.decide x value level) (stateOf c l v n st cl wt) ≡ refuse (refusalOf f)
+            not-done c cl wt v =
+                let k = d′ .refused f z in
+                rw (k .0)
+                (is-false (limitsOf l) c x value level _ (there c cl wt v) (le-ltb 1 value a) (low-is c l v n st cl wt level e ∙ q) (rw (decisions-are c cl wt v) at (k .1)))
+
+-- ---- the same for whatever counters have these numbers
+
+module _ {l : Limits} {v k : ℕ} {st : ℕ → List ℕ} {x value level : ℕ} where
+  refused-as : {f : Refusal} → ((n : Counters) → n .variables ≡ v → n .decisions ≡ k → PlainOutcomes l (Command.decide x value level) n st (Refused f) st)
+      → Decides l (Command.decide x value level) v k st (Decided.Refused f) st
+  refused-as {f} h = record { to = λ d q. absurd (not-one (cc)); refused = λ g q. let p : g ≡ f = cc in rw p h }
+
+  pub to-missing : v ≤ x → Decides l (Command.decide x value level) v k st (Decided.Refused (MissingVariable 1)) st
+  to-missing h = refused-as (λ n p q. decide-missing l n st x value level (rw p h))
+
+  module _ (h : x < v) where
+    pub to-other : 1 < value → Decides l (Command.decide x value level) v k st (Decided.Refused (Contradicts OtherValue)) st
+    to-other a = refused-as (λ n p q. decide-other l n st x value level (rw p h) a)
+
+    module _ (a : value ≤ 1) {low : Bool} (e : low ≡ (eqb level 0 || ltb level (lastLevel (decisions k st)))) where
+      pub to-low : low ≡ true → Decides l (Command.decide x value level) v k st (Decided.Refused LevelLow) st
+      to-low z = refused-as (λ n p q. decide-low l n st x value level (rw p h) a (rw q e) z)
+
+      pub to-literal : low ≡ false → (y : code.Literal) → literalOf y ≡ signed x (eqb value 1) → {r : Decided} {st′ : ℕ → List ℕ}
+          → DecidesLiteral l (literalOf y) level k st r st′ → Decides l (Command.decide x value level) v k st r st′
+      to-literal z y w d =
+          record {
+            to = λ m i n p q. literal-passes l n st x value level (rw p h) a (rw q e) z y w (rw q d) m i;
+            refused = λ f i n p q. literal-refused l n st x value level (rw p h) a (rw q e) z y w (rw q d) f i;
+          }
+
+-- of counters that have them
+module _ {l : Limits} {o : Command} (n : Counters) {st st′ : ℕ → List ℕ} {r : Decided} (h : Decides l o (n .variables) (n .decisions) st r st′) where
+  pub decided-to : {d : ℕ} → r ≡ Decided.To d → PlainOutcomes l o n st (Carried (withDecisions d n)) st′
+  decided-to q = h .to _ q n refl refl
+
+  pub decided-refused : {f : Refusal} → r ≡ Decided.Refused f → PlainOutcomes l o n st (Refused f) st′
+  decided-refused q = h .refused _ q n refl refl
 
 -- ---- the command undo: it has no refusals
 

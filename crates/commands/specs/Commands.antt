@@ -26,6 +26,9 @@ use Rattle.entries.specs.Deferred.{isHeld}
 use Rattle.encoder.specs.declared.Counters.{Counters}
 use Rattle.encoder.specs.Held.{Reading, stateOf, Good}
 use Rattle.encoder.specs.Did.{limitsOf, onOpening, isFull}
+use Rattle.encoder.proofs.Counted.{withDecisions}
+use Rattle.commands.specs.declared.Decided.{Decided}
+use Rattle.commands.specs.declared.Decided.the-variants as Decided
 use Rattle.commands.specs.declared.Outcome.{Outcome}
 use Rattle.commands.specs.declared.Outcome.the-variants.{Carried, Refused}
 
@@ -69,11 +72,11 @@ decidedTo x level s =
     when (isUndecided (evaluate (s .decisions) x))
     (λ (u : State). setDecisions (snoc (u .decisions) (record { variable = x .variable; value = x .positive; level = level; clause = none })) u) s
 
--- the same, or refused where it is decided false
-pub record DecidesLiteral (l : Limits) (x : Literal) (level : ℕ) (n : Counters) (st : ℕ → List ℕ) (r : Outcome) (st′ : ℕ → List ℕ) : Type 0 where
-  pub carried : (m : Counters) → r ≡ Carried m
-      → Changes l (decidedTo x level) n st m st′ × (isFalsified (evaluate (decisions (n .decisions) st) x) ≡ false)
-  pub refused : (f : Refusal) → r ≡ Refused f → (f ≡ DecidedAgainst) × (isFalsified (evaluate (decisions (n .decisions) st) x) ≡ true)
+-- the same, where there are k decisions, or refused where it is decided false; no other counter changes
+pub record DecidesLiteral (l : Limits) (x : Literal) (level k : ℕ) (st : ℕ → List ℕ) (r : Decided) (st′ : ℕ → List ℕ) : Type 0 where
+  pub to : (d : ℕ) → r ≡ Decided.To d → isFalsified (evaluate (decisions k st) x) ≡ false
+  pub changes : (d : ℕ) → r ≡ Decided.To d → (n : Counters) → n .decisions ≡ k → Changes l (decidedTo x level) n st (withDecisions d n) st′
+  pub refused : (f : Refusal) → r ≡ Decided.Refused f → (f ≡ DecidedAgainst) × (isFalsified (evaluate (decisions k st) x) ≡ true)
 
 -- carried out
 pub record CarriedOut (c : Catalogue) (l : Limits) (o : Command) (n : Counters) (st : ℕ → List ℕ) (cl wt : List ℕ) (m : Counters) (st′ : ℕ → List ℕ) : Type 0 where
@@ -96,3 +99,8 @@ pub record PlainOutcomes (l : Limits) (o : Command) (n : Counters) (st : ℕ →
 -- of one that reads only how many parts it has
 pub record PartOutcomes (parts : ℕ) (l : Limits) (o : Command) (n : Counters) (st : ℕ → List ℕ) (r : Outcome) (st′ : ℕ → List ℕ) : Type 0 where
   pub is : (c : Catalogue) → length (c .parts) ≡ parts → Outcomes c l o n st r st′
+
+-- of one that changes decisions alone, where there are v variables and k decisions
+pub record Decides (l : Limits) (o : Command) (v k : ℕ) (st : ℕ → List ℕ) (r : Decided) (st′ : ℕ → List ℕ) : Type 0 where
+  pub to : (d : ℕ) → r ≡ Decided.To d → (n : Counters) → n .variables ≡ v → n .decisions ≡ k → PlainOutcomes l o n st (Carried (withDecisions d n)) st′
+  pub refused : (f : Refusal) → r ≡ Decided.Refused f → (n : Counters) → n .variables ≡ v → n .decisions ≡ k → PlainOutcomes l o n st (Refused f) st′

@@ -28,7 +28,7 @@ ghost use Rattle.entries.specs.Entries.{noEntry, waitingIn, Long};
 ghost use Rattle.entries.specs.Deferred.{isHeld, Flags};
 ghost use Rattle.encoder.specs.Did.{onOpening};
 ghost use Rattle.goals.specs.Goals.{Catalogued, AllGiven};
-ghost use Rattle.commands.specs.Commands.{Changes, NoneSet, isFlagged, Draws, DecidesLiteral, PlainOutcomes, PartOutcomes};
+ghost use Rattle.commands.specs.Commands.{Changes, NoneSet, isFlagged, Draws, DecidesLiteral, Decides, PlainOutcomes, PartOutcomes};
 
 // What a command gives.
 pub enum Outcome {
@@ -178,26 +178,32 @@ pub fn draw(
 // ---- decide and undo
 
 // A level is 0 or below the last decision's.
-pub fn too_low(s: &[u8], l: Limits, n: Counters, level: u16) -> bool
+pub fn too_low(s: &[u8], l: Limits, count: usize, level: u16) -> bool
     requires { ⌜ Fits l (length (now s)) ⌝ }
-    requires { ⌜ n .decisions ≤ l .variables ⌝ }
-    ensures { λ b. ⌜ b ≡ (eqb level 0 || ltb level (lastLevel (decisions (n .decisions) (held l (now (s .entry)))))) ⌝ }
+    requires { ⌜ count ≤ l .variables ⌝ }
+    ensures { λ b. ⌜ b ≡ (eqb level 0 || ltb level (lastLevel (decisions count (held l (now (s .entry)))))) ⌝ }
 {
     if level == 0 {
         return true;
     }
-    level < decision_tracker::last_level(s, l, n.decisions)
+    level < decision_tracker::last_level(s, l, count)
+}
+
+// How many decisions there are then, or a refusal.
+pub enum Decided {
+    To(usize),
+    Refused(Refusal),
 }
 
 // A variable gets a value, unless it has the other.
-fn decide_literal(s: &mut [u8], l: Limits, n: Counters, literal: Literal, level: u16) -> Outcome
+fn decide_literal(s: &mut [u8], l: Limits, count: usize, literal: Literal, level: u16) -> Decided
     requires { ⌜ Fits l (length (now s)) ⌝ }
-    requires { ⌜ Kept l (n .decisions) (held l (now s)) × ((literalOf literal) .variable < l .variables) ⌝ }
-    ensures { λ r. ⌜ DecidesLiteral l (literalOf literal) level n (held l (now (s .entry))) r (held l (now (s .exit))) ⌝ }
+    requires { ⌜ Kept l count (held l (now s)) × ((literalOf literal) .variable < l .variables) ⌝ }
+    ensures { λ r. ⌜ DecidesLiteral l (literalOf literal) level count (held l (now (s .entry))) r (held l (now (s .exit))) ⌝ }
 {
-    match decision_tracker::eval(s, l, n.decisions, literal) {
-        Value::True => Outcome::Carried(n),
-        Value::False => Outcome::Refused(Refusal::DecidedAgainst),
+    match decision_tracker::eval(s, l, count, literal) {
+        Value::True => Decided::To(count),
+        Value::False => Decided::Refused(Refusal::DecidedAgainst),
         Value::Undecided => {
             let variable = literal.variable();
             let value = literal.positive();
@@ -207,12 +213,35 @@ fn decide_literal(s: &mut [u8], l: Limits, n: Counters, literal: Literal, level:
                 level,
                 clause: 0,
             };
-            let count = decision_tracker::decide(s, l, n.decisions, new);
-            let mut m = n;
-            m.decisions = count;
-            Outcome::Carried(m)
+            Decided::To(decision_tracker::decide(s, l, count, new))
         }
     }
+}
+
+// A decision, where there are so many variables and decisions: it changes no other counter, and needs none.
+pub fn decide_to(
+    s: &mut [u8],
+    l: Limits,
+    variables: usize,
+    count: usize,
+    variable: u16,
+    value: u8,
+    level: u16,
+) -> Decided
+    requires { ⌜ Fits l (length (now s)) ⌝ }
+    requires { ⌜ Kept l count (held l (now s)) × (variables ≤ l .variables) ⌝ }
+    ensures { λ r. ⌜ Decides l (Command.decide variable value level) variables count (held l (now (s .entry))) r (held l (now (s .exit))) ⌝ }
+{
+    if variable as usize >= variables {
+        return Decided::Refused(Refusal::MissingVariable(1));
+    }
+    if value > 1 {
+        return Decided::Refused(Refusal::Contradicts(Contradiction::OtherValue));
+    }
+    if too_low(s, l, count, level) {
+        return Decided::Refused(Refusal::LevelLow);
+    }
+    decide_literal(s, l, count, Literal::new(variable, value == 1), level)
 }
 
 pub fn decide(s: &mut [u8], l: Limits, n: Counters, variable: u16, value: u8, level: u16) -> Outcome
@@ -220,16 +249,14 @@ pub fn decide(s: &mut [u8], l: Limits, n: Counters, variable: u16, value: u8, le
     requires { ⌜ Kept l (n .decisions) (held l (now s)) × (n .variables ≤ l .variables) ⌝ }
     ensures { λ r. ⌜ PlainOutcomes l (Command.decide variable value level) n (held l (now (s .entry))) r (held l (now (s .exit))) ⌝ }
 {
-    if variable as usize >= n.variables {
-        return Outcome::Refused(Refusal::MissingVariable(1));
+    match decide_to(s, l, n.variables, n.decisions, variable, value, level) {
+        Decided::To(count) => {
+            let mut m = n;
+            m.decisions = count;
+            Outcome::Carried(m)
+        }
+        Decided::Refused(refusal) => Outcome::Refused(refusal),
     }
-    if value > 1 {
-        return Outcome::Refused(Refusal::Contradicts(Contradiction::OtherValue));
-    }
-    if too_low(s, l, n, level) {
-        return Outcome::Refused(Refusal::LevelLow);
-    }
-    decide_literal(s, l, n, Literal::new(variable, value == 1), level)
 }
 
 // The decisions above this level are removed.

@@ -63,7 +63,7 @@ fn run(
     ensures { λ r. ⌜ CommandDid (catalogue k (now (marks .entry)) (now (unions .entry)) (now (t .entry))) l (rules.Command.run level) n (held l (now (s .entry))) (now (clauses .entry)) (now (w .entry)) r (held l (now (s .exit))) (now (clauses .exit)) (now (w .exit)) ⌝ }
     ensures { λ r. ⌜ FlaggedAfter (catalogue k (now (marks .entry)) (now (unions .entry)) (now (t .entry))) l (now (settled .exit)) r (held l (now (s .exit))) ⌝ }
 {
-    if commands::too_low(s, l, n, level) {
+    if commands::too_low(s, l, n.decisions, level) {
         return Outcome::Refused(Refusal::LevelLow);
     }
     let m = encoding::run_once(marks, unions, t, k, s, clauses, w, l, n, level, settled);

@@ -1,47 +1,38 @@
--- `commands::decide` carries a decision out, or gives the first of its refusals.
+-- `commands::decide` is `decide_to` of the counters.
 use borrow.Author.Needs.{needs}
-use Rattle.commands.proofs.Deciding.{literal-below, decide-missing, decide-other, decide-low, decide-literal}
+use Rattle.commands.proofs.Deciding.{decided-to, decided-refused}
 use Rattle.commands.proofs.decide.Statement.{statement}
 use Rattle.commands.proofs.decide.Tie as tie
 
-returns : tie.Need-returns
-returns c = search (needs, decide-missing)
+decide-to-requires : tie.Need-decide-to-requires
+decide-to-requires c κs = search needs
 
-returns-2 : tie.Need-returns-2
-returns-2 c = search (needs, decide-other)
+enum-known-count : tie.Need-enum-known-count
+enum-known-count c = search needs
 
-too-low-requires : tie.Need-too-low-requires
-too-low-requires c κs = search needs
+enum-known-refusal : tie.Need-enum-known-refusal
+enum-known-refusal c = search needs
 
 same-length : tie.Need-same-length
 same-length c = search needs
 
-returns-3 : tie.Need-returns-3
-returns-3 c = search (needs, decide-low)
-
-new-requires : tie.Need-new-requires
-new-requires c κs = search needs
-
-decide-literal-requires : tie.Need-decide-literal-requires
-decide-literal-requires c κs = let p = c .before .before .before .before .before .before .before .before .before .pre in
-    (p .0, (p .1 .0, literal-below _ _ (c .new .ensures) (c .before .before .before .before .before .before .if1 .left) (p .1 .1)))
+returns : tie.Need-returns
+returns c = search (needs, decided-to)
 
 same-length-2 : tie.Need-same-length-2
 same-length-2 c = search needs
 
-returns-4 : tie.Need-returns-4
-returns-4 c = search (needs, decide-literal)
+returns-2 : tie.Need-returns-2
+returns-2 c = search (needs, decided-refused)
 
 pub decide-spec : {M : Type 1} → statement M
 decide-spec =
     tie.close
     (tie.spec
-    returns
-    returns-2
-    too-low-requires
+    decide-to-requires
+    enum-known-count
+    enum-known-refusal
     same-length
-    returns-3
-    new-requires
-    decide-literal-requires
+    returns
     same-length-2
-    returns-4)
+    returns-2)
