@@ -1,6 +1,6 @@
 -- Blocked conditions: a draw of one changes nothing, and each command keeps them blocked but for a decision that makes a watched part true.
 use mathlib.Core.Path.{_≡_, refl, sym, _∙_, fun-ext}
-use mathlib.Core.Logic.{_≢_}
+use mathlib.Core.Logic.{_≢_, _⊎_, inl, inr, ⊎-elim}
 use mathlib.Core.Bool.{Bool, true, false, _&&_, cond, true≢false}
 use mathlib.Core.List.{List, []}
 use mathlib.Core.Option.{Option, none, some}
@@ -31,6 +31,8 @@ use Rattle.reader.specs.declared.Command as code
 use Rattle.reader.specs.declared.Command.the-variants as C
 use Rattle.reader.specs.Reading.{commandOf}
 use Rattle.tables.specs.declared.Counts.{Counts}
+use Rattle.state.specs.declared.Limits.{Limits}
+use Rattle.encoder.specs.declared.Counters.{Counters}
 use Rattle.cache.specs.Areas.{catalogue}
 use Rattle.cache.proofs.Laws.{conditions-held}
 use Rattle.entries.specs.Deferred.{isHeld}
@@ -38,12 +40,12 @@ use Rattle.variable_map.specs.declared.Origin as code-origin
 use Rattle.variable_map.specs.Mapping.{originBy, originOf}
 use Rattle.goals.specs.Goals.{trueOf, AllGiven}
 use Rattle.goals.proofs.Given.{all-given}
-use Rattle.blocking.specs.Blocking.{Blocked, Blocks, Releases}
+use Rattle.blocking.specs.Blocking.{Sees, Blocked, Blocks, Releases}
 use Rattle.blocking.proofs.Watching.{held-inside}
-use Rattle.blocking.proofs.Blocking.{blocked-still}
+use Rattle.blocking.proofs.Blocking.{blocks-known, blocked-still}
 use Rattle.commands.specs.Commands.{Idle}
 use Rattle.commands.proofs.Idling.{idle-draw}
-use Rattle.carried.specs.Carrying.{Settled, Has, Guards, Idles, MakesTrue, Unblocks}
+use Rattle.carried.specs.Carrying.{Settled, Has, Guards, Idles, IsFlagged, MakesTrue, Unblocks}
 use Rattle.carried.proofs.Undoing.{decided-before}
 use Rattle.carried.proofs.Settling.{drawn-is, carried-is, settled-draw}
 
@@ -105,6 +107,20 @@ module _ {c : Catalogue} {vs : List Origin} {ds : List Decision} (k : ℕ) {flag
 pub idles-given : (j : Counts) (m u t : List ℕ) {vs : List Origin} {ds : List Decision} (k : ℕ) {flags blocked watched : List ℕ} {b : Bool} {blocked′ watched′ : List ℕ} → k < j .conditions
     → Blocks (catalogue j m u t) (trueOf vs ds) k b blocked watched blocked′ watched′ → Idles (catalogue j m u t) vs ds (Command.draw k) flags blocked watched b blocked′ watched′
 idles-given j m u t k h d = idles-asked k (rw (conditions-held j m u t) h) d
+
+-- it is flagged, or blocked
+pub flagged-in : {flags blocked : List ℕ} {conditions k : ℕ} {b : Bool} → b ≡ isHeld flags k → b ≡ true → IsFlagged flags blocked conditions k true
+flagged-in e q = record { is = λ _. inl (sym e ∙ q) }
+
+pub blocked-in : {flags blocked : List ℕ} {conditions k v : ℕ} → k < conditions → v ≡ getD blocked k 0 → IsFlagged flags blocked conditions k (eqb v 1)
+blocked-in {v = v} h e = record { is = λ q. inr (h, sym e ∙ eqb-true v 1 q) }
+
+pub flagged-out : {flags blocked : List ℕ} {conditions k : ℕ} → IsFlagged flags blocked conditions k false
+flagged-out = record { is = λ e. absurd (true≢false (sym e)) }
+
+pub idles-flagged : (j : Counts) (m u t : List ℕ) {vs : List Origin} {ds : List Decision} (k : ℕ) {flags blocked watched : List ℕ} {b : Bool} {l : Limits} (n : Counters) {s : List ℕ} → Sees j m u t l n s
+    → IsFlagged flags blocked (j .conditions) k b → b ≡ true → Idles (catalogue j m u t) vs ds (Command.draw k) flags blocked watched true blocked watched
+idles-flagged j m u t k n y f q = ⊎-elim (λ e. idles-settled k refl e) (λ e. idles-given j m u t k (e .0) (blocks-known j m u t y (e .0) (e .1))) (f .is q)
 
 -- ---- the code's decision
 

@@ -38,8 +38,9 @@ use Rattle.encoding.specs.Running.{Holds}
 use Rattle.commands.specs.declared.Outcome.{Outcome}
 use Rattle.commands.specs.declared.Outcome.the-variants as outcome
 use Rattle.sheet.specs.Sheet.{CommandDid}
+use Rattle.carried.specs.declared.Step.{Step}
 use Rattle.carried.specs.declared.Step.the-variants as Step
-use Rattle.carried.specs.Carrying.{endFrom, Settled, Has, Idles, SettledDid, Passed, StepDid}
+use Rattle.carried.specs.Carrying.{endFrom, Settled, Has, Idles, SettledDid, ReadDid, Passed, StepDid}
 
 -- ---- a sheet record has three bytes or more
 
@@ -118,6 +119,38 @@ module _ {c : Catalogue} {flags blocked watched : List ℕ} {l : Limits} {o : Co
       → SettledDid c flags blocked watched l o n st cl wt r st′ cl′ wt′ blocked′ watched′
   settled-carries k = record { carried = λ m e s g z h _ _. k .carried m e s g z h; guards = d .guards; refused = k .refused }
 
+-- that was read
+module _ {c : Catalogue} {flags blocked watched : List ℕ} {l : Limits} {next : ℕ} {x : code.Command} {n : Counters} {st : ℕ → List ℕ} {cl wt : List ℕ} {st′ : ℕ → List ℕ}
+    {cl′ wt′ blocked′ watched′ : List ℕ} where
+  pub read-carried : {m : Counters} {y : code.Command} → x ≡ y → SettledDid c flags blocked watched l (commandOf x) n st cl wt (outcome.Carried m) st′ cl′ wt′ blocked′ watched′
+      → ReadDid c flags blocked watched l next x n st cl wt (Step.Next next m y) st′ cl′ wt′ blocked′ watched′
+  read-carried {m} {y} e d =
+      record {
+        carried = λ a m′ y′ v. let i : a ≡ next = cc in let j : m′ ≡ m = cc in let z : y′ ≡ y = cc in (i, z ∙ sym e, rw j d);
+        refused = λ f v. absurd (not-one (cc));
+      }
+
+  pub read-refused : {f : Refusal} → SettledDid c flags blocked watched l (commandOf x) n st cl wt (outcome.Refused f) st′ cl′ wt′ blocked′ watched′
+      → ReadDid c flags blocked watched l next x n st cl wt (Step.Refused f) st′ cl′ wt′ blocked′ watched′
+  read-refused {f} d =
+      record {
+        carried = λ a m y v. absurd (not-one (cc));
+        refused = λ g v. let q : g ≡ f = cc in rw q d;
+      }
+
+  -- under another name
+  pub read-as : {y : code.Command} {r : Step} → x ≡ y → ReadDid c flags blocked watched l next y n st cl wt r st′ cl′ wt′ blocked′ watched′
+      → ReadDid c flags blocked watched l next x n st cl wt r st′ cl′ wt′ blocked′ watched′
+  read-as e d = rw e d
+
+  -- by its outcome
+  module _ {r : Outcome} (d : SettledDid c flags blocked watched l (commandOf x) n st cl wt r st′ cl′ wt′ blocked′ watched′) where
+    pub read-carried-by : {m : Counters} → r ≡ outcome.Carried m → ReadDid c flags blocked watched l next x n st cl wt (Step.Next next m x) st′ cl′ wt′ blocked′ watched′
+    read-carried-by e = read-carried refl (rw e at d)
+
+    pub read-refused-by : {f : Refusal} → r ≡ outcome.Refused f → ReadDid c flags blocked watched l next x n st cl wt (Step.Refused f) st′ cl′ wt′ blocked′ watched′
+    read-refused-by e = read-refused (rw e at d)
+
 -- ---- the code's record
 
 module _ {c : Catalogue} {flags blocked watched : List ℕ} {l : Limits} {job : List ℕ} {at : ℕ} {n : Counters} {st : ℕ → List ℕ} {cl wt : List ℕ} {st′ : ℕ → List ℕ}
@@ -138,6 +171,15 @@ module _ (job : List ℕ) (at : ℕ) (x : Record) (e : resultOf (getD job at 0) 
   unfolding resultOf
   sheet-is = sym (rw q at e)
 
+  module _ (next : ℕ) (u : next ≡ nextOf job at) (k : code.Command) (w : commandOf k ≡ commandRead (getD job at 0) (take (next - (at + 1)) (drop (at + 1) job))) where
+    is-read : read true (getD job at 0) (drop (at + 1) job) ≡ ok (sheet (commandOf k))
+    is-read =
+        let z : next - (at + 1) ≡ bodyLength (getD job at 0) = omega arith in
+        rw (w, z) sheet-is
+
+    behind : next ≡ at + 1 + bodyOf (kindOf (getD job at 0))
+    behind = next-behind true job at next _ is-read u
+
   pub sheet-whole : (next : ℕ) → next ≡ nextOf job at → at < length job → next ≤ length job
   sheet-whole next u h = next-inside true job at next _ sheet-is u h
 
@@ -153,37 +195,33 @@ module _ {c : Catalogue} {flags blocked watched : List ℕ} {l : Limits} (job : 
   step-item f q = absurd (no-item (getD job at 0) (drop (at + 1) job) _ (sym (rw q at e)))
 
   module _ (q : x ≡ R.Sheet) (next : ℕ) (u : next ≡ nextOf job at) (k : code.Command) (w : commandOf k ≡ commandRead (getD job at 0) (take (next - (at + 1)) (drop (at + 1) job)))
-      {st′ : ℕ → List ℕ} {cl′ wt′ blocked′ watched′ : List ℕ} {r : Outcome} (d : SettledDid c flags blocked watched l (commandOf k) n st cl wt r st′ cl′ wt′ blocked′ watched′) where
-    is-read : read true (getD job at 0) (drop (at + 1) job) ≡ ok (sheet (commandOf k))
-    is-read =
-        let z : next - (at + 1) ≡ bodyLength (getD job at 0) = omega arith in
-        rw (w, z) (sheet-is job at x e q)
+      {st′ : ℕ → List ℕ} {cl′ wt′ blocked′ watched′ : List ℕ} where
+    step-refused : (f : Refusal) → SettledDid c flags blocked watched l (commandOf k) n st cl wt (outcome.Refused f) st′ cl′ wt′ blocked′ watched′
+        → (s : State) → Given c → Reached (limitsOf l) c s → Holds c l s n st cl wt → (t : Terms) → t .limits ≡ limitsOf l
+        → endFrom t job at (carrying c s) ≡ refused (numberAndPlace (length job) at (refusalOf f))
+    step-refused f d s g z o t p = not-carried l job at h c s t p (commandOf k) (is-read job at x e q next u k w) (refusalOf f) (d .refused f refl s g z o)
 
-    pub step-refused : (f : Refusal) → r ≡ outcome.Refused f → StepDid c flags blocked watched l job at n st cl wt (Step.Refused f) st′ cl′ wt′ blocked′ watched′
-    step-refused f y = refuses f (λ s g z o t p. not-carried l job at h c s t p (commandOf k) is-read (refusalOf f) (d .refused f y s g z o))
-
-    behind : next ≡ at + 1 + bodyOf (kindOf (getD job at 0))
-    behind = next-behind true job at next _ is-read u
-
-    pub step-carried : (m : Counters) → r ≡ outcome.Carried m → StepDid c flags blocked watched l job at n st cl wt (Step.Next next m k) st′ cl′ wt′ blocked′ watched′
-    step-carried m y =
+    step-carried : (m : Counters) → SettledDid c flags blocked watched l (commandOf k) n st cl wt (outcome.Carried m) st′ cl′ wt′ blocked′ watched′
+        → (s : State) → Given c → Reached (limitsOf l) c s → Holds c l s n st cl wt → Settled c flags s
+        → Blocked c (decidedTrue s) blocked watched → Passed c l job at next (commandOf k) s n m st′ cl′ wt′ blocked′ watched′
+    step-carried m d s g z o b v =
+        let y = d .carried m refl s g z o b v in
         record {
-          next = λ a m′ k′ v. let i : a ≡ next = cc in let j : m′ ≡ m = cc in let z : k′ ≡ k = cc in rw (i, j, z) passed;
-          refused = λ f v. absurd (not-one (cc));
+          onward = omega (arith, behind job at x e q next u k w, sheet-body (getD job at 0) (drop (at + 1) job) (commandOf k) (is-read job at x e q next u k w));
+          inside = next-inside true job at next _ (is-read job at x e q next u k w) u h;
+          runs = y .runs;
+          state = y .state;
+          is = y .is;
+          reached = then-reached z (commandOf k) (y .is);
+          holds = y .holds;
+          blocked = d .guards .is (limitsOf l) s (y .state) z (has-held o) (y .is) v;
+          alike = λ t p. goes-on l job at h c s t p (commandOf k) (is-read job at x e q next u k w) (y .state) next (behind job at x e q next u k w) (y .is);
         }
-      where
-        passed : (s : State) → Given c → Reached (limitsOf l) c s → Holds c l s n st cl wt → Settled c flags s
-            → Blocked c (decidedTrue s) blocked watched → Passed c l job at next (commandOf k) s n m st′ cl′ wt′ blocked′ watched′
-        passed s g z o b w =
-            let x = d .carried m y s g z o b w in
-            record {
-              onward = omega (arith, behind, sheet-body (getD job at 0) (drop (at + 1) job) (commandOf k) is-read);
-              inside = next-inside true job at next _ is-read u h;
-              runs = x .runs;
-              state = x .state;
-              is = x .is;
-              reached = then-reached z (commandOf k) (x .is);
-              holds = x .holds;
-              blocked = d .guards .is (limitsOf l) s (x .state) z (has-held o) (x .is) w;
-              alike = λ t p. goes-on l job at h c s t p (commandOf k) is-read (x .state) next behind (x .is);
-            }
+
+    pub step-read : {r : Step} → ReadDid c flags blocked watched l next k n st cl wt r st′ cl′ wt′ blocked′ watched′
+        → StepDid c flags blocked watched l job at n st cl wt r st′ cl′ wt′ blocked′ watched′
+    step-read d =
+        record {
+          next = λ a m k′ v. let z = d .carried a m k′ v in rw (z .0, z .1) (step-carried m (z .2));
+          refused = λ f v. step-refused f (d .refused f v);
+        }

@@ -1,5 +1,6 @@
 -- A job's state at the start, and its sheet carried out record by record.
 use mathlib.Core.Path.{_≡_}
+use mathlib.Core.Logic.{_⊎_}
 use mathlib.Core.Bool.{Bool, true}
 use mathlib.Core.List.{List}
 use Prim.Native.Nat.{ℕ, _+_, _<_, _≤_}
@@ -91,6 +92,17 @@ pub record SettledDid (c : Catalogue) (flags blocked watched : List ℕ) (l : Li
   pub guards : Guards c (variables (n .variables) st) (decisions (n .decisions) st) o blocked watched blocked′ watched′
   pub refused : (f : Refusal) → r ≡ outcome.Refused f → (s : State) → Given c → Reached (limitsOf l) c s → Holds c l s n st cl wt
       → carryOut (limitsOf l) c o s ≡ refuse (refusalOf f)
+
+-- if b is true condition x is flagged, or blocked
+pub record IsFlagged (flags blocked : List ℕ) (conditions x : ℕ) (b : Bool) : Type 0 where
+  pub is : b ≡ true → (isHeld flags x ≡ true) ⊎ ((x < conditions) × (getD blocked x 0 ≡ 1))
+
+-- the command x, which was read up to byte `next`, was carried out or refused
+pub record ReadDid (c : Catalogue) (flags blocked watched : List ℕ) (l : Limits) (next : ℕ) (x : code.Command) (n : Counters) (st : ℕ → List ℕ) (cl wt : List ℕ)
+    (r : Step) (st′ : ℕ → List ℕ) (cl′ wt′ blocked′ watched′ : List ℕ) : Type 0 where
+  pub carried : (a : ℕ) (m : Counters) (y : code.Command) → r ≡ Step.Next a m y
+      → (a ≡ next) × (y ≡ x) × SettledDid c flags blocked watched l (commandOf x) n st cl wt (outcome.Carried m) st′ cl′ wt′ blocked′ watched′
+  pub refused : (f : Refusal) → r ≡ Step.Refused f → SettledDid c flags blocked watched l (commandOf x) n st cl wt (outcome.Refused f) st′ cl′ wt′ blocked′ watched′
 
 -- ---- a record
 

@@ -1,4 +1,5 @@
 // A sheet carried out, from the encoder's state at the start.
+use commands::Decided;
 use commands::Outcome;
 use encoder::Counters;
 use reader::Command;
@@ -27,7 +28,7 @@ ghost use Rattle.blocking.specs.Blocking.{Sees, Listed};
 ghost use Rattle.encoding.specs.Running.{Holds, Reaches};
 ghost use Rattle.serving.specs.Flags.{Flagged};
 ghost use Rattle.sheet.specs.Sheet.{FlaggedAfter};
-ghost use Rattle.carried.specs.Carrying.{Started, MakesTrue, Unblocks, Idles, Notes, SettledDid, StepDid, FlaggedNext, SheetDid};
+ghost use Rattle.carried.specs.Carrying.{Started, MakesTrue, Unblocks, Idles, Notes, SettledDid, IsFlagged, ReadDid, StepDid, FlaggedNext, SheetDid};
 
 // Variable 0 is the root; clause 0, install, is stored at the start. The state area was cleared.
 pub fn start(s: &mut [u8], clauses: &mut [u8], l: Limits) -> Counters
@@ -278,6 +279,203 @@ pub enum Step {
     Refused(Refusal),
 }
 
+// Is a draw of condition c known to change nothing? It is flagged, or blocked.
+fn is_flagged(settled: &[u8], blocked: &[u8; 768], k: Counts, c: usize) -> bool
+    requires { ⌜ k .conditions ≤ 256 ⌝ }
+    ensures { λ b. ⌜ IsFlagged (now (settled .entry)) (now (blocked .entry)) (k .conditions) c b ⌝ }
+{
+    if commands::is_set(settled, c) {
+        return true;
+    }
+    if c < k.conditions {
+        return blocked[c] == 1;
+    }
+    false
+}
+
+// A command that was read, up to byte `next`, is carried out with all counters.
+fn carry_other(
+    settled: &[u8],
+    blocked: &mut [u8; 768],
+    watched: &mut [u8; 1024],
+    lists: &mut [u16; 1091],
+    marks: &[u8],
+    unions: &[u8],
+    t: &[u8],
+    k: Counts,
+    s: &mut [u8],
+    clauses: &mut [u8],
+    w: &mut [u8],
+    l: Limits,
+    n: Counters,
+    next: usize,
+    command: Command,
+    goals: &mut [u8; 640],
+) -> Step
+    requires { ⌜ Catalogued k (now marks) (now unions) (now t) ⌝ }
+    requires { ⌜ Fits l (length (now s)) ⌝ }
+    requires { ⌜ Reaches (catalogue k (now marks) (now unions) (now t)) l n (held l (now s)) (now clauses) (now w) ⌝ }
+    requires { ⌜ LongEnough l (length (now clauses)) (length (now w)) × (n .runs < 65535) ⌝ }
+    requires { ⌜ Flagged (catalogue k (now marks) (now unions) (now t)) l (now goals) n (held l (now s)) ⌝ }
+    requires { ⌜ length (now watched) ≡ 1024 ⌝ }
+    requires { ⌜ Listed (tables k (now t) .conditions) (now lists) ⌝ }
+    ensures { λ r. ⌜ ReadDid (catalogue k (now (marks .entry)) (now (unions .entry)) (now (t .entry))) (now (settled .entry)) (now (blocked .entry)) (now (watched .entry)) l next command n (held l (now (s .entry))) (now (clauses .entry)) (now (w .entry)) r (held l (now (s .exit))) (now (clauses .exit)) (now (w .exit)) (now (blocked .exit)) (now (watched .exit)) ⌝ }
+    ensures { λ r. ⌜ FlaggedNext (catalogue k (now (marks .entry)) (now (unions .entry)) (now (t .entry))) l (now (goals .exit)) r (held l (now (s .exit))) ⌝ }
+    ensures { λ _. ⌜ Listed (tables k (now (t .entry)) .conditions) (now (lists .exit)) ⌝ }
+{
+    match carry_command(
+        settled,
+        blocked,
+        watched,
+        lists,
+        marks,
+        unions,
+        t,
+        k,
+        s,
+        clauses,
+        w,
+        l,
+        n,
+        command,
+        goals,
+    ) {
+        Outcome::Carried(counters) => Step::Next {
+            at: next,
+            counters,
+            command,
+        },
+        Outcome::Refused(refusal) => Step::Refused(refusal),
+    }
+}
+
+// A command that was read, up to byte `next`, is carried out. What changes decisions alone, or nothing, goes without the other counters: to carry all
+// sixteen takes longer than a decision.
+fn carry_read(
+    settled: &[u8],
+    blocked: &mut [u8; 768],
+    watched: &mut [u8; 1024],
+    lists: &mut [u16; 1091],
+    marks: &[u8],
+    unions: &[u8],
+    t: &[u8],
+    k: Counts,
+    s: &mut [u8],
+    clauses: &mut [u8],
+    w: &mut [u8],
+    l: Limits,
+    n: Counters,
+    next: usize,
+    command: Command,
+    goals: &mut [u8; 640],
+) -> Step
+    requires { ⌜ Catalogued k (now marks) (now unions) (now t) ⌝ }
+    requires { ⌜ Fits l (length (now s)) ⌝ }
+    requires { ⌜ Reaches (catalogue k (now marks) (now unions) (now t)) l n (held l (now s)) (now clauses) (now w) ⌝ }
+    requires { ⌜ LongEnough l (length (now clauses)) (length (now w)) × (n .runs < 65535) ⌝ }
+    requires { ⌜ Flagged (catalogue k (now marks) (now unions) (now t)) l (now goals) n (held l (now s)) ⌝ }
+    requires { ⌜ length (now watched) ≡ 1024 ⌝ }
+    requires { ⌜ Listed (tables k (now t) .conditions) (now lists) ⌝ }
+    ensures { λ r. ⌜ ReadDid (catalogue k (now (marks .entry)) (now (unions .entry)) (now (t .entry))) (now (settled .entry)) (now (blocked .entry)) (now (watched .entry)) l next command n (held l (now (s .entry))) (now (clauses .entry)) (now (w .entry)) r (held l (now (s .exit))) (now (clauses .exit)) (now (w .exit)) (now (blocked .exit)) (now (watched .exit)) ⌝ }
+    ensures { λ r. ⌜ FlaggedNext (catalogue k (now (marks .entry)) (now (unions .entry)) (now (t .entry))) l (now (goals .exit)) r (held l (now (s .exit))) ⌝ }
+    ensures { λ _. ⌜ Listed (tables k (now (t .entry)) .conditions) (now (lists .exit)) ⌝ }
+{
+    match command {
+        Command::Add(_) => carry_other(
+            settled,
+            blocked,
+            watched,
+            lists,
+            marks,
+            unions,
+            t,
+            k,
+            s,
+            clauses,
+            w,
+            l,
+            n,
+            next,
+            command,
+            goals,
+        ),
+        Command::Draw(c) => {
+            if is_flagged(settled, blocked, k, c as usize) {
+                return Step::Next {
+                    at: next,
+                    counters: n,
+                    command,
+                };
+            }
+            carry_other(
+                settled,
+                blocked,
+                watched,
+                lists,
+                marks,
+                unions,
+                t,
+                k,
+                s,
+                clauses,
+                w,
+                l,
+                n,
+                next,
+                command,
+                goals,
+            )
+        }
+        Command::Run(_) => carry_other(
+            settled,
+            blocked,
+            watched,
+            lists,
+            marks,
+            unions,
+            t,
+            k,
+            s,
+            clauses,
+            w,
+            l,
+            n,
+            next,
+            command,
+            goals,
+        ),
+        Command::Decide {
+            variable,
+            value,
+            level,
+        } => {
+            unblock(blocked, watched, marks, k, s, l, n, variable, value);
+            match commands::decide_to(s, l, n.variables, n.decisions, variable, value, level) {
+                Decided::To(count) => {
+                    let mut m = n;
+                    m.decisions = count;
+                    Step::Next {
+                        at: next,
+                        counters: m,
+                        command,
+                    }
+                }
+                Decided::Refused(refusal) => Step::Refused(refusal),
+            }
+        }
+        Command::Undo(level) => {
+            let count = decision_tracker::undo(s, l, n.decisions, level);
+            let mut m = n;
+            m.decisions = count;
+            Step::Next {
+                at: next,
+                counters: m,
+                command,
+            }
+        }
+    }
+}
+
 // The command at `at` is read and carried out. `settled` flags conditions of which nothing is to be drawn, `blocked` conditions
 // no disjunct of which holds until a part that `watched` flags is decided true, and ranges, `goals` goals whose candidates are settled. `lists` has the
 // disjuncts of a condition that was often judged.
@@ -317,7 +515,7 @@ fn carry_record(
         Record::Item => Step::Refused(Refusal::OutOfPlace),
         Record::Sheet => {
             let command = reader::command_at(job, at, next);
-            match carry_command(
+            carry_read(
                 settled,
                 blocked,
                 watched,
@@ -331,16 +529,10 @@ fn carry_record(
                 w,
                 l,
                 n,
+                next,
                 command,
                 goals,
-            ) {
-                Outcome::Carried(counters) => Step::Next {
-                    at: next,
-                    counters,
-                    command,
-                },
-                Outcome::Refused(refusal) => Step::Refused(refusal),
-            }
+            )
         }
     }
 }

@@ -1,7 +1,7 @@
 -- `carried::carry_record` takes one step of the walk, or gives the refusal of the record.
 use borrow.Author.Needs.{needs}
-use Rattle.carried.proofs.Records.{step-unread, step-item, sheet-whole, step-refused, step-carried}
-use Rattle.carried.proofs.Flags.{next-refused, next-carried}
+use Rattle.carried.proofs.Records.{step-unread, step-item, sheet-whole, step-read}
+use Rattle.carried.proofs.Flags.{next-refused}
 use Rattle.carried.proofs.carry_record.Statement.{statement}
 use Rattle.carried.proofs.carry_record.Tie as tie
 
@@ -23,14 +23,8 @@ enum-told-2 c = search needs
 command-at-requires : tie.Need-command-at-requires
 command-at-requires c κs = (search needs, sheet-whole (c .before .before .before .before .before .before .before .before .before .before .before .before .args .job .now) (c .before .before .before .before .before .before .before .before .before .before .before .before .args .at) _ (c .before .before .record-at .ensures) (c .enum-told2 .given .1) _ (c .before .before .before .next-at .ensures) (c .before .before .before .before .before .before .before .before .before .before .before .before .pre .0 .0))
 
-carry-command-requires : tie.Need-carry-command-requires
-carry-command-requires c κs = let p = (c .before .before .before .before .before .before .before .before .before .before .before .before .before .before .before .before .before .before .before .before .pre) in (p .1 .0, (p .1 .1 .0, (p .1 .1 .1 .0, (p .1 .1 .1 .1 .0, (p .1 .1 .1 .1 .1 .0, (p .1 .1 .1 .1 .1 .1 .0, p .1 .1 .1 .1 .1 .1 .1))))))
-
-enum-known-counters : tie.Need-enum-known-counters
-enum-known-counters c = search needs
-
-enum-known-refusal-2 : tie.Need-enum-known-refusal-2
-enum-known-refusal-2 c = search needs
+carry-read-requires : tie.Need-carry-read-requires
+carry-read-requires c κs = let p = (c .before .before .before .before .before .before .before .before .before .before .before .before .before .before .before .before .before .before .before .before .pre) in (p .1 .0, (p .1 .1 .0, (p .1 .1 .1 .0, (p .1 .1 .1 .1 .0, (p .1 .1 .1 .1 .1 .0, (p .1 .1 .1 .1 .1 .1 .0, p .1 .1 .1 .1 .1 .1 .1))))))
 
 returns : tie.Need-returns
 returns c = (search (needs, step-unread), (next-refused, c .before .before .before .before .before .before .before .before .before .before .before .before .before .pre .1 .1 .1 .1 .1 .1 .1))
@@ -48,19 +42,7 @@ same-length-3 : tie.Need-same-length-3
 same-length-3 c = search needs
 
 returns-3 : tie.Need-returns-3
-returns-3 c = (step-carried _ _ _ (c .before .before .before .before .before .before .before .before .before .before .before .before .before .before .before .before .before .before .before .before .before .before .before .before .before .before .before .before .before .before .pre .0 .0) (c .before .before .before .before .before .before .before .before .before .before .before .before .before .before .before .before .before .before .before .before .record-at .ensures) (c .before .before .before .before .before .before .before .before .before .before .before .before .before .before .before .before .before .before .enum-told2 .given .1) _ (c .before .before .before .before .before .before .before .before .before .before .before .before .before .before .before .before .before .before .before .before .before .next-at .ensures) _ (c .before .before .before .before .before .before .before .before .before .before .before .before .before .before .before .before .before .command-at .ensures) (c .before .before .before .before .before .before .before .before .before .carry-command .ensures .0) _ (search needs), (next-carried (c .before .before .before .before .before .before .before .before .before .carry-command .ensures .1 .0) (search needs), c .before .before .before .before .before .before .before .before .before .carry-command .ensures .1 .1))
-
-same-length-4 : tie.Need-same-length-4
-same-length-4 c = search needs
-
-same-length-5 : tie.Need-same-length-5
-same-length-5 c = search needs
-
-same-length-6 : tie.Need-same-length-6
-same-length-6 c = search needs
-
-returns-4 : tie.Need-returns-4
-returns-4 c = (step-refused _ _ _ (c .before .before .before .before .before .before .before .before .before .before .before .before .before .before .before .before .before .before .before .before .before .before .before .before .before .before .before .before .before .before .pre .0 .0) (c .before .before .before .before .before .before .before .before .before .before .before .before .before .before .before .before .before .before .before .before .record-at .ensures) (search needs) _ (c .before .before .before .before .before .before .before .before .before .before .before .before .before .before .before .before .before .before .before .before .before .next-at .ensures) _ (c .before .before .before .before .before .before .before .before .before .before .before .before .before .before .before .before .before .command-at .ensures) (c .before .before .before .before .before .before .before .before .before .carry-command .ensures .0) _ (search needs), (next-refused, c .before .before .before .before .before .before .before .before .before .carry-command .ensures .1 .1))
+returns-3 c = (step-read _ _ _ (c .before .before .before .before .before .before .before .before .before .before .before .before .before .before .before .before .before .before .before .before .before .before .before .before .before .before .before .pre .0 .0) (c .before .before .before .before .before .before .before .before .before .before .before .before .before .before .before .before .before .record-at .ensures) (c .before .before .before .before .before .before .before .before .before .before .before .before .before .before .before .enum-told2 .given .1) _ (c .before .before .before .before .before .before .before .before .before .before .before .before .before .before .before .before .before .before .next-at .ensures) _ (c .before .before .before .before .before .before .before .before .before .before .before .before .before .before .command-at .ensures) (c .before .before .before .before .before .before .carry-read .ensures .0), ((c .before .before .before .before .before .before .carry-read .ensures .1 .0), (c .before .before .before .before .before .before .carry-read .ensures .1 .1)))
 
 pub carry-record-spec : {M : Type 1} → statement M
 carry-record-spec =
@@ -72,16 +54,10 @@ carry-record-spec =
     enum-told
     enum-told-2
     command-at-requires
-    carry-command-requires
-    enum-known-counters
-    enum-known-refusal-2
+    carry-read-requires
     returns
     returns-2
     same-length
     same-length-2
     same-length-3
-    returns-3
-    same-length-4
-    same-length-5
-    same-length-6
-    returns-4)
+    returns-3)
