@@ -1,5 +1,6 @@
 -- The proof of the cycle of calls {condition_verdict}: it gives the verdict of condition x. The measure is x: a half has a smaller number.
 use borrow.Author.Needs.{needs}
+use mathlib.Core.Path.{_∙_}
 use Prim.Native.Nat.{ℕ, _<_}
 use native.Mathlib.Omega.{arith}
 use borrow.Fn.Kinds.{In}
@@ -58,22 +59,22 @@ module _ (t : ℕ) where
   told-by-left-requires c κs = search needs
 
   element-write-known : lts.Need-element-write-known (claims t) (at t) condition-verdict.Post
-  element-write-known c = search needs
+  element-write-known c = omega (arith, condition-low _ _ _ _ (c .before .before .before .before .before .before .before .before .before .before .before .before .before .before .before .before .before .pre .1 .0) (c .before .before .before .before .before .before .before .before .before .before .before .before .before .before .before .before .before .pre .1 .1 .0))
 
   returns-3 : lts.Need-returns-3 (claims t) (at t) condition-verdict.Post
-  returns-3 c = search (needs, left-tells)
+  returns-3 c = left-tells _ _ _ _ (c .before .before .before .before .before .before .before .before .before .before .before .before .before .before .before .before .before .pre .1 .0) (c .before .before .before .before .before .before .before .before .before .before .before .before .before .before .before .before .before .pre .1 .1 .0) _ (c .before .before .before .before .before .before .before .before .before .before .condition-at .ensures) (c .before .before .before .before .before .before .before .if2 .left) (c .before .before .condition-verdict .ensures) _ (c .before .told-by-left .ensures) (c .if3 .taken)
 
   right-requires : lts.Need-condition-verdict-requires-2 (claims t) (at t) condition-verdict.Post
-  right-requires c κs = (search (needs, right-falls), (search needs, (search (needs, right-there), search needs)))
+  right-requires c κs = (right-falls _ _ _ _ (c .before .before .before .before .before .before .before .before .before .before .before .before .before .before .before .before .before .before .before .before .pre .1 .0) (c .before .before .before .before .before .before .before .before .before .before .before .before .before .before .before .before .before .before .before .before .pre .1 .1 .0) _ (c .before .before .before .before .before .before .before .before .before .before .before .before .before .condition-at .ensures) (c .before .before .before .before .before .before .before .before .before .before .if2 .left) _ (c .before .before .before .before .before .before .before .before .before .before .before .before .before .before .before .before .before .before .before .before .pre .0), (c .before .before .before .before .before .before .before .before .before .before .before .before .before .before .before .before .before .before .before .before .pre .1 .0, (right-there _ _ _ _ (c .before .before .before .before .before .before .before .before .before .before .before .before .before .before .before .before .before .before .before .before .pre .1 .0) (c .before .before .before .before .before .before .before .before .before .before .before .before .before .before .before .before .before .before .before .before .pre .1 .1 .0) _ (c .before .before .before .before .before .before .before .before .before .before .before .before .before .condition-at .ensures) (c .before .before .before .before .before .before .before .before .before .before .if2 .left), c .before .before .before .before .before .condition-verdict .ensures .grows .long ∙ c .before .before .before .before .before .before .before .before .before .before .before .before .before .before .before .before .before .before .before .before .pre .1 .1 .1)))
 
   of-halves-requires : lts.Need-of-halves-requires (claims t) (at t) condition-verdict.Post
   of-halves-requires c κs = search needs
 
   element-write-known-2 : lts.Need-element-write-known-2 (claims t) (at t) condition-verdict.Post
-  element-write-known-2 c = search needs
+  element-write-known-2 c = omega (arith, condition-low _ _ _ _ (c .before .before .before .before .before .before .before .before .before .before .before .before .before .before .before .before .before .before .before .before .before .before .pre .1 .0) (c .before .before .before .before .before .before .before .before .before .before .before .before .before .before .before .before .before .before .before .before .before .before .pre .1 .1 .0))
 
   returns-4 : lts.Need-returns-4 (claims t) (at t) condition-verdict.Post
-  returns-4 c = search (needs, both-tell)
+  returns-4 c = both-tell _ _ _ _ (c .before .before .before .before .before .before .before .before .before .before .before .before .before .before .before .before .before .before .before .before .before .before .pre .1 .0) (c .before .before .before .before .before .before .before .before .before .before .before .before .before .before .before .before .before .before .before .before .before .before .pre .1 .1 .0) _ (c .before .before .before .before .before .before .before .before .before .before .before .before .before .before .before .condition-at .ensures) (c .before .before .before .before .before .before .before .before .before .before .before .before .if2 .left) (c .before .before .before .before .before .before .before .condition-verdict .ensures) _ (c .before .before .before .before .before .before .told-by-left .ensures) (c .before .before .before .before .before .if3 .left) (c .before .condition-verdict2 .ensures) (c .of-halves .ensures)
 
 pub +condition-verdict-spec : {M : Type 1} → statement M
 +condition-verdict-spec =

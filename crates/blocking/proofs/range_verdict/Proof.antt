@@ -1,6 +1,6 @@
 -- `blocking::range_verdict` gives the verdict of a range: by its flag, or as it was told, or else it is asked now.
 use borrow.Author.Needs.{needs}
-use Rattle.blocking.proofs.Verdicts.{range-blocked, range-known, range-holds, range-barred, range-unbarred}
+use Rattle.blocking.proofs.Verdicts.{range-low, range-blocked, range-known, range-holds, range-barred, range-unbarred}
 use Rattle.blocking.proofs.range_verdict.Statement.{statement}
 use Rattle.blocking.proofs.range_verdict.Tie as tie
 
@@ -26,7 +26,7 @@ element-write-known : tie.Need-element-write-known
 element-write-known c = search needs
 
 returns-3 : tie.Need-returns-3
-returns-3 c = search (needs, range-holds)
+returns-3 c = search (needs, range-holds, range-low)
 
 bar-range-requires : tie.Need-bar-range-requires
 bar-range-requires c κs = search needs
@@ -38,7 +38,7 @@ element-write-known-2 : tie.Need-element-write-known-2
 element-write-known-2 c = search needs
 
 returns-5 : tie.Need-returns-5
-returns-5 c = search (needs, range-unbarred)
+returns-5 c = search (needs, range-unbarred, range-low)
 
 pub range-verdict-spec : {M : Type 1} → statement M
 range-verdict-spec =
