@@ -1,8 +1,8 @@
 -- A condition by its halves: what is asked of them, and what it tells.
 use mathlib.Core.Path.{_≡_, sym, _∙_}
-use mathlib.Core.Bool.{Bool, true, false, not, true≢false, false≢true}
+use mathlib.Core.Bool.{Bool, true, false, not}
 use mathlib.Core.List.{List}
-use Prim.Native.Nat.{ℕ, _+_, _<_}
+use Prim.Native.Nat.{ℕ, _<_}
 use native.Mathlib.Omega.{arith}
 use lib.Dec.{eqb}
 use lib.ListN.{length, getD, set}
@@ -23,7 +23,7 @@ use Rattle.cache.specs.Areas.{catalogue}
 use Rattle.cache.proofs.Laws.{ranges-held, conditions-held, conditions-same}
 use Rattle.state.specs.declared.Limits.{Limits}
 use Rattle.encoder.specs.declared.Counters.{Counters}
-use Rattle.blocking.specs.Blocking.{Barred, Sees, Says, RangeJudged, Judged, toldByLeft, ofHalves}
+use Rattle.blocking.specs.Blocking.{Sees, Says, RangeJudged, Judged, toldByLeft, ofHalves}
 use Rattle.blocking.proofs.Barring.{barred-leaf, barred-or, barred-left, barred-right}
 use Rattle.blocking.proofs.Verdicts.{says-more, grows-then, judged-known, judged-kept}
 
@@ -147,9 +147,12 @@ module _ (k : Counts) (m u t : List ℕ) where
         module _ {f : ℕ → Bool} {a : ℕ} {vs b w vs₁ b₁ w₁ : List ℕ} (d : Judged C f (it .left) a vs b w vs₁ b₁ w₁) (h : Bool) (i : h ≡ toldByLeft (it .operator) a) where
           -- the left half tells
           pub left-tells : h ≡ true → Judged C f x a vs b w (set vs₁ x a) b₁ w₁
-          left-tells j = judged-kept condition-low (record { grows = d .grows; says = λ y. by-cases (eqb (it .operator) 0)
-              (λ o. says-left x (it .left) (it .right) (all-of and (and-when (it .operator) (eqb-true (it .operator) 0 o))) (d .says y))
-              (λ o. says-holds (tells-or (it .operator) a (sym i ∙ j) (eqb-false (it .operator) 0 o))) })
+          left-tells j = judged-kept condition-low (record {
+            grows = d .grows;
+            says = λ y. by-cases (eqb (it .operator) 0)
+                (λ o. says-left x (it .left) (it .right) (all-of and (and-when (it .operator) (eqb-true (it .operator) 0 o))) (d .says y))
+                (λ o. says-holds (tells-or (it .operator) a (sym i ∙ j) (eqb-false (it .operator) 0 o)));
+          })
 
           -- both do
           module _ (j : h ≡ false) {a₂ : ℕ} {vs₂ b₂ w₂ : List ℕ} (d₂ : Judged C f (it .right) a₂ vs₁ b₁ w₁ vs₂ b₂ w₂) where

@@ -1,17 +1,16 @@
 -- A condition by its list: each disjunct has a blocked range, one that had none gets one.
-use mathlib.Core.Path.{_≡_, refl, sym, _∙_}
+use mathlib.Core.Path.{_≡_, _∙_}
 use mathlib.Core.Logic.{⊎-elim}
 use mathlib.Core.Bool.{Bool, true, false, not, false≢true}
 use mathlib.Core.List.{List, [], _∷_, List·Memᴰ·head, List·Memᴰ·tail, List·Memᴰ·append-cases, List·Memᴰ·eq-of-singleton, List·Memᴰ·not-nil}
 use Prim.Native.Nat.{ℕ, zero, suc, _+_, _*_, _<_, _≤_}
 use native.Mathlib.Omega.{arith}
 use lib.Dec.{eqb}
-use lib.ListN.{length, getD, set, length-set}
+use lib.ListN.{length, getD}
 use borrow.Author.Tests.{eqb-true, eqb-false, not-false}
 use Rattle.rules.specs.Lists.{any}
 use Rattle.rules.specs.Called.{_∈_}
 use Rattle.rules.specs.Catalogue.{Catalogue, Condition, and, or, leaf, joined, noCondition}
-use Rattle.rules.specs.Candidates.{matching}
 use Rattle.rules.specs.Conditions.{Disjunct, combined, fromHalves, disjunctsBelow, disjuncts}
 use Rattle.rules.proofs.Bools.{by-cases}
 use Rattle.rules.proofs.Member.{any-in, at-member}

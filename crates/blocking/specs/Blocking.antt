@@ -4,7 +4,7 @@ use mathlib.Core.Bool.{Bool, true, false, not, cond}
 use mathlib.Core.List.{List, []}
 use Prim.Native.Nat.{ℕ, _+_, _*_, _<_, _≤_}
 use lib.Dec.{eqb}
-use lib.ListN.{length, getD, set}
+use lib.ListN.{length, getD}
 use Rattle.rules.specs.Lists.{any, all}
 use Rattle.rules.specs.Called.{_∈_}
 use Rattle.rules.specs.Catalogue.{Catalogue, Condition}
@@ -20,7 +20,7 @@ use Rattle.variable_map.specs.Mapping.{variables, Mapped}
 use Rattle.decision_tracker.specs.Tracking.{decisions, Kept}
 use Rattle.entries.specs.Deferred.{isHeld}
 use Rattle.encoder.specs.declared.Counters.{Counters}
-use Rattle.goals.specs.Goals.{Catalogued, trueOf}
+use Rattle.goals.specs.Goals.{Catalogued}
 
 -- each disjunct of condition x has a range that passes
 pub record Barred (c : Catalogue) (f : ℕ → Bool) (x : ℕ) : Type 0 where

@@ -396,7 +396,20 @@ fn barred_by_lists(
     if lists[1088] != c as u16 + 1 {
         return false;
     }
-    each_barred(marks, unions, t, k, s, l, n, c, known, blocked, watched, lists)
+    each_barred(
+        marks,
+        unions,
+        t,
+        k,
+        s,
+        l,
+        n,
+        c,
+        known,
+        blocked,
+        watched,
+        lists,
+    )
 }
 
 // ---- part p is decided true
@@ -473,11 +486,36 @@ pub fn blocks(
         return true;
     }
     let mut known = [0u8; 768];
-    if barred_by_lists(marks, unions, t, k, s, l, n, c, &mut known, blocked, watched, lists) {
+    if barred_by_lists(
+        marks,
+        unions,
+        t,
+        k,
+        s,
+        l,
+        n,
+        c,
+        &mut known,
+        blocked,
+        watched,
+        lists,
+    ) {
         blocked[c] = 1;
         return true;
     }
-    let v = condition_verdict(marks, unions, t, k, s, l, n, &mut known, blocked, watched, c);
+    let v = condition_verdict(
+        marks,
+        unions,
+        t,
+        k,
+        s,
+        l,
+        n,
+        &mut known,
+        blocked,
+        watched,
+        c,
+    );
     if v == 2 {
         blocked[c] = 1;
         note_judged(t, k, c, lists);
