@@ -17,6 +17,7 @@ use Rattle.blocking.specs.Blocking.{Barred, allWatched, rangeBlocked, Bl
 use Rattle.blocking.proofs.Barring.{barred-more, barred-fails}
 use Rattle.blocking.proofs.Blocking.{one-blocked, blocked-fails, blocked-put, range-fails}
 use Rattle.blocking.proofs.Verdicts.{fails-out, right-none}
+use Rattle.blocking.proofs.Asking.{condition-low}
 
 pub lists-room : {c : Catalogue} {f : ℕ → Bool} {x : ℕ} {a : Bool} {vs b w vs₁ b₁ w₁ : List ℕ} → EachBars c f x a vs b w vs₁ b₁ w₁ → length w ≡ 1024 → length w₁ ≡ 1024
 lists-room d h = d .grows .long ∙ h
@@ -26,16 +27,13 @@ module _ (k : Counts) (m u t : List ℕ) where
   C = catalogue k m u t
 
   module _ {l : Limits} {n : Counters} {s : List ℕ} (y : Sees k m u t l n s) {x : ℕ} (g : x < k .conditions) where
-    low : x < 256
-    low = omega (arith, y .catalogued .kept .held .laid .conditions)
-
     -- it is blocked
     pub blocks-known : {f : ℕ → Bool} {b w : List ℕ} → getD b x 0 ≡ 1 → Blocks C f x true b w b w
-    blocks-known {b = b} e = record { none = λ _ h. blocked-fails h x low (one-blocked b x e); keeps = λ h. h }
+    blocks-known {b = b} e = record { none = λ _ h. blocked-fails h x (condition-low k m u t y g) (one-blocked b x e); keeps = λ h. h }
 
     -- each disjunct of it has a blocked range: it is blocked
     put : {f : ℕ → Bool} {b₁ w₁ : List ℕ} → Blocked C f b₁ w₁ → Barred C (rangeBlocked b₁) x → Blocked C f (set b₁ x 1) w₁
-    put {w₁ = w₁} h d = blocked-put h x 1 low (rw (conditions-held k m u t) g) (λ _. barred-more (allWatched C w₁) (λ r e. h .ranges r e .1) d)
+    put {w₁ = w₁} h d = blocked-put h x 1 (condition-low k m u t y g) (rw (conditions-held k m u t) g) (λ _. barred-more (allWatched C w₁) (λ r e. h .ranges r e .1) d)
 
     module _ {f : ℕ → Bool} {vs b w : List ℕ} (z : vs ≡ replicate 768 0) {a : Bool} {vs₁ b₁ w₁ : List ℕ} (d : EachBars C f x a vs b w vs₁ b₁ w₁) where
       -- by its list
@@ -61,7 +59,7 @@ module _ (k : Counts) (m u t : List ℕ) where
               keeps = λ h. put (second h .flags) (j .says (first h) .barred q);
             }
 
-        -- that it may hold, or does not
+        -- which may say that it holds
         pub blocks-open : Blocks C f x (not (eqb v 1)) b w b₂ w₂
         blocks-open =
             record {
