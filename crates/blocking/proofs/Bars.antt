@@ -1,17 +1,16 @@
 -- A condition by its list: each disjunct has a blocked range, one that had none gets one.
-use mathlib.Core.Path.{_≡_, refl, sym, _∙_}
+use mathlib.Core.Path.{_≡_, _∙_}
 use mathlib.Core.Logic.{⊎-elim}
 use mathlib.Core.Bool.{Bool, true, false, not, false≢true}
 use mathlib.Core.List.{List, [], _∷_, List·Memᴰ·head, List·Memᴰ·tail, List·Memᴰ·append-cases, List·Memᴰ·eq-of-singleton, List·Memᴰ·not-nil}
 use Prim.Native.Nat.{ℕ, zero, suc, _+_, _*_, _<_, _≤_}
 use native.Mathlib.Omega.{arith}
 use lib.Dec.{eqb}
-use lib.ListN.{length, getD, set, length-set}
+use lib.ListN.{length, getD}
 use borrow.Author.Tests.{eqb-true, eqb-false, not-false}
 use Rattle.rules.specs.Lists.{any}
 use Rattle.rules.specs.Called.{_∈_}
 use Rattle.rules.specs.Catalogue.{Catalogue, Condition, and, or, leaf, joined, noCondition}
-use Rattle.rules.specs.Candidates.{matching}
 use Rattle.rules.specs.Conditions.{Disjunct, combined, fromHalves, disjunctsBelow, disjuncts}
 use Rattle.rules.proofs.Bools.{by-cases}
 use Rattle.rules.proofs.Member.{any-in, at-member}
@@ -23,9 +22,10 @@ use Rattle.cache.specs.Areas.{catalogue}
 use Rattle.cache.proofs.Laws.{ranges-held, conditions-held, conditions-same}
 use Rattle.state.specs.declared.Limits.{Limits}
 use Rattle.encoder.specs.declared.Counters.{Counters}
-use Rattle.blocking.specs.Blocking.{PartsWatched, rangeBlocked, Blocked, Sees, AllStand, Row, RowBarred, RowBars, Grows, RangeBars, DisjunctBars, EachBars}
+use Rattle.blocking.specs.Blocking.{rangeBlocked, Sees, Right, Grows, RangeJudged, AllStand, Row, RowBarred, RowBars, DisjunctBars, EachBars}
 use Rattle.blocking.proofs.Barring.{halves}
-use Rattle.blocking.proofs.Blocking.{one-blocked, range-there, range-more, blocked-more, blocked-range}
+use Rattle.blocking.proofs.Blocking.{one-blocked}
+use Rattle.blocking.proofs.Verdicts.{grows-same, grows-then}
 
 -- ---- the ranges of disjuncts are given
 
@@ -96,76 +96,36 @@ row-bars-not = record { is = λ e. absurd (false≢true e) }
 row-more : {lists blocked blocked′ : List ℕ} {i : ℕ} → ((r : ℕ) → rangeBlocked blocked r ≡ true → rangeBlocked blocked′ r ≡ true) → RowBarred lists blocked i → RowBarred lists blocked′ i
 row-more {lists} {i = i} f b = record { place = b .place; inside = b .inside; is = f (getD lists (16 * i + b .place) 0) (b .is) }
 
--- ---- ranges are blocked besides
+-- ---- disjunct i of the lists
 
-module _ {c : Catalogue} {f : ℕ → Bool} where
-  pub grows-same : {b w : List ℕ} → Grows c f b w b w
-  grows-same = record { room = refl; long = refl; still = λ r e. e; keeps = λ h. h }
-
-  grows-then : {b w b₁ w₁ b₂ w₂ : List ℕ} → Grows c f b w b₁ w₁ → Grows c f b₁ w₁ b₂ w₂ → Grows c f b w b₂ w₂
-  grows-then p q = record { room = q .room ∙ p .room; long = q .long ∙ p .long; still = λ r e. q .still r (p .still r e); keeps = λ h. q .keeps (p .keeps h) }
-
-  -- ---- a range
-
-  module _ {r : ℕ} {b w : List ℕ} where
-    -- it was asked, or it holds
-    pub range-bars-not : RangeBars c f r false b w b w
-    range-bars-not = record { grows = grows-same; is = λ e. absurd (false≢true e) }
-
-    module _ {left : ℕ} {w′ : List ℕ} {a : Bool} (e : a ≡ any f (matching c r)) (o : a ≡ false) (d : PartsWatched c r left w w′) where
-      more : Blocked c f b w → Blocked c f b w′
-      more h = blocked-more h (d .long) (d .still) (d .unmet f (sym e ∙ o) (h .unmet))
-
-      -- its parts are too many
-      pub range-bars-some : RangeBars c f r false b w b w′
-      range-bars-some = record { grows = record { room = refl; long = d .long; still = λ i z. z; keeps = more }; is = λ z. absurd (false≢true z) }
-
-      range-bars : (left ≡ 0 → ⊥) → r < length (c .ranges) → r < 512 → RangeBars c f r true b w (set b (256 + r) 1) w′
-      range-bars n g low =
-          record {
-            grows = record {
-              room = length-set b (256 + r) 1;
-              long = d .long;
-              still = range-more b r;
-              keeps = λ h. blocked-range (more h) r g (d .all (omega (arith, n)));
-            };
-            is = λ _ z. range-there b r (omega arith);
-          }
-
-  -- ---- disjunct i of the lists
-
-  module _ {b w b₁ w₁ : List ℕ} (y : Grows c f b w b₁ w₁) where
+module _ {c : Catalogue} {f : ℕ → Bool} {vs b w : List ℕ} where
+  module _ {vs₁ b₁ w₁ : List ℕ} (y : Grows c f vs b w vs₁ b₁ w₁) where
     pub some-room : length w ≡ 1024 → length w₁ ≡ 1024
     some-room h = y .long ∙ h
 
-    pub some-step : {r : ℕ} {a : Bool} {b₂ w₂ : List ℕ} → RangeBars c f r a b₁ w₁ b₂ w₂ → Grows c f b w b₂ w₂
+    pub some-step : {r v : ℕ} {vs₂ b₂ w₂ : List ℕ} → RangeJudged c f r v vs₁ b₁ w₁ vs₂ b₂ w₂ → Grows c f vs b w vs₂ b₂ w₂
     some-step d = grows-then y (d .grows)
 
-  module _ {lists : List ℕ} {i : ℕ} {b w : List ℕ} where
-    pub disjunct-known : {a : Bool} → RowBars lists b i a → a ≡ true → DisjunctBars c f lists i true b w b w
+  module _ {lists : List ℕ} {i : ℕ} where
+    pub disjunct-known : {a : Bool} → RowBars lists b i a → a ≡ true → DisjunctBars c f lists i true vs b w vs b w
     disjunct-known d e = record { grows = grows-same; is = λ _ _. d .is e }
 
-    module _ {b₁ w₁ : List ℕ} (y : Grows c f b w b₁ w₁) where
-      pub disjunct-not : DisjunctBars c f lists i false b w b₁ w₁
+    module _ {vs₁ b₁ w₁ : List ℕ} (y : Grows c f vs b w vs₁ b₁ w₁) where
+      pub disjunct-not : DisjunctBars c f lists i false vs b w vs₁ b₁ w₁
       disjunct-not = record { grows = y; is = λ e. absurd (false≢true e) }
 
-      module _ {r : ℕ} {a : Bool} {b₂ w₂ : List ℕ} (d : RangeBars c f r a b₁ w₁ b₂ w₂) where
-        pub disjunct-here : (j : ℕ) → j < getD lists (1024 + i) 0 → r ≡ getD lists (16 * i + j) 0 → a ≡ true → DisjunctBars c f lists i true b w b₂ w₂
-        disjunct-here j h q e = record { grows = some-step y d; is = λ _ z. record { place = j; inside = h; is = rw q at (d .is e (y .room ∙ z)) } }
-
-pub range-barred : (k : Counts) (m u t : List ℕ) {l : Limits} {n : Counters} {s : List ℕ} → Sees k m u t l n s → {f : ℕ → Bool} {r left : ℕ} {b w w′ : List ℕ} {a : Bool} → r < k .ranges
-    → a ≡ any f (matching (catalogue k m u t) r) → a ≡ false → PartsWatched (catalogue k m u t) r left w w′ → (left ≡ 0 → ⊥)
-    → RangeBars (catalogue k m u t) f r true b w (set b (256 + r) 1) w′
-range-barred k m u t y {r = r} g e o d n = range-bars e o d n (rw (ranges-held k m u t) g) (omega (arith, y .catalogued .kept .held .laid .ranges))
+      pub disjunct-here : {r v : ℕ} {vs₂ b₂ w₂ : List ℕ} → RangeJudged c f r v vs₁ b₁ w₁ vs₂ b₂ w₂ → (j : ℕ) → j < getD lists (1024 + i) 0 → r ≡ getD lists (16 * i + j) 0 → v ≡ 2
+          → DisjunctBars c f lists i true vs b w vs₂ b₂ w₂
+      disjunct-here d j h q e = record { grows = some-step y d; is = λ _ z. record { place = j; inside = h; is = rw q at (d .says (y .keeps z) .barred e) } }
 
 -- ---- condition x
 
 -- the loop at disjunct i
-pub record Each (c : Catalogue) (f : ℕ → Bool) (lists : List ℕ) (i : ℕ) (blocked watched blocked′ watched′ : List ℕ) : Type 0 where
-  pub grows : Grows c f blocked watched blocked′ watched′
-  pub passed : length blocked ≡ 768 → (h : ℕ) → h < i → RowBarred lists blocked′ h
+pub record Each (c : Catalogue) (f : ℕ → Bool) (lists : List ℕ) (i : ℕ) (vs blocked watched vs′ blocked′ watched′ : List ℕ) : Type 0 where
+  pub grows : Grows c f vs blocked watched vs′ blocked′ watched′
+  pub passed : Right c f vs blocked watched → (h : ℕ) → h < i → RowBarred lists blocked′ h
 
-pub each-start : {c : Catalogue} {f : ℕ → Bool} {lists b w : List ℕ} → Each c f lists 0 b w b w
+pub each-start : {c : Catalogue} {f : ℕ → Bool} {lists vs b w : List ℕ} → Each c f lists 0 vs b w vs b w
 each-start = record { grows = grows-same; passed = λ _ h l. let no : ⊥ = omega arith in absurd no }
 
 -- what is so at each place of a list is so of each that is in it
@@ -173,32 +133,32 @@ each-in : {A : Type 0} (P : A → Type 0) (o : A) (xs : List A) → ((i : ℕ) �
 each-in P o (y ∷ xs) h x (List·Memᴰ·head q) = rw q (h 0 (omega arith))
 each-in P o (y ∷ xs) h x (List·Memᴰ·tail m) = each-in P o xs (λ i l. h (suc i) (omega arith)) x m
 
-module _ {c : Catalogue} {f : ℕ → Bool} {lists : List ℕ} {i : ℕ} {b w b₁ w₁ : List ℕ} (y : Each c f lists i b w b₁ w₁) where
+module _ {c : Catalogue} {f : ℕ → Bool} {lists : List ℕ} {i : ℕ} {vs b w vs₁ b₁ w₁ : List ℕ} (y : Each c f lists i vs b w vs₁ b₁ w₁) where
   pub each-room : length w ≡ 1024 → length w₁ ≡ 1024
   each-room h = y .grows .long ∙ h
 
-  module _ {a : Bool} {b₂ w₂ : List ℕ} (d : DisjunctBars c f lists i a b₁ w₁ b₂ w₂) where
-    pub each-step : not a ≡ false → Each c f lists (i + 1) b w b₂ w₂
+  module _ {a : Bool} {vs₂ b₂ w₂ : List ℕ} (d : DisjunctBars c f lists i a vs₁ b₁ w₁ vs₂ b₂ w₂) where
+    pub each-step : not a ≡ false → Each c f lists (i + 1) vs b w vs₂ b₂ w₂
     each-step e =
         record {
           grows = grows-then (y .grows) (d .grows);
-          passed = λ z h l. by-cases (eqb h i) (λ q. rw (eqb-true h i q) (d .is (not-false a e) (y .grows .room ∙ z)))
+          passed = λ z h l. by-cases (eqb h i) (λ q. rw (eqb-true h i q) (d .is (not-false a e) (y .grows .keeps z)))
               (λ q. row-more (d .grows .still) (y .passed z h (omega (arith, eqb-false h i q))));
         }
 
-    pub each-not : (x : ℕ) → EachBars c f x false b w b₂ w₂
+    pub each-not : (x : ℕ) → EachBars c f x false vs b w vs₂ b₂ w₂
     each-not x = record { grows = grows-then (y .grows) (d .grows); barred = λ e. absurd (false≢true e) }
 
 -- it is not listed
-pub each-unlisted : {c : Catalogue} {f : ℕ → Bool} {x : ℕ} {b w : List ℕ} → EachBars c f x false b w b w
+pub each-unlisted : {c : Catalogue} {f : ℕ → Bool} {x : ℕ} {vs b w : List ℕ} → EachBars c f x false vs b w vs b w
 each-unlisted = record { grows = grows-same; barred = λ e. absurd (false≢true e) }
 
-module _ (k : Counts) (m u t : List ℕ) {f : ℕ → Bool} {lists : List ℕ} {i : ℕ} {b w b₁ w₁ : List ℕ} (y : Each (catalogue k m u t) f lists i b w b₁ w₁) {x n : ℕ}
+module _ (k : Counts) (m u t : List ℕ) {f : ℕ → Bool} {lists : List ℕ} {i : ℕ} {vs b w vs₁ b₁ w₁ : List ℕ} (y : Each (catalogue k m u t) f lists i vs b w vs₁ b₁ w₁) {x n : ℕ}
     (z : AllStand (tables k t .conditions) lists x) (a : Counted (tables k t .conditions) x n) where
-  pub each-end : n ≤ i → EachBars (catalogue k m u t) f x true b w b₁ w₁
+  pub each-end : n ≤ i → EachBars (catalogue k m u t) f x true vs b w vs₁ b₁ w₁
   each-end e = record { grows = y .grows; barred = λ _ h. record { each = λ d o. each-in (λ (d : Disjunct). any (rangeBlocked b₁) d ≡ true) [] (disjuncts (tables k t .conditions) x) (at h) d (rw (conditions-same k m u t) at o) } }
     where
-      at : length b ≡ 768 → (j : ℕ) → j < length (disjuncts (tables k t .conditions) x) → any (rangeBlocked b₁) (getD (disjuncts (tables k t .conditions) x) j []) ≡ true
+      at : Right (catalogue k m u t) f vs b w → (j : ℕ) → j < length (disjuncts (tables k t .conditions) x) → any (rangeBlocked b₁) (getD (disjuncts (tables k t .conditions) x) j []) ≡ true
       at h j l =
           let p = z .each j l in
           let q = y .passed h j (omega (arith, a .is)) in

@@ -1,5 +1,5 @@
--- Blocked conditions and ranges: no disjunct of such a condition holds, and one more is blocked where the parts that it waits for are watched.
-use mathlib.Core.Path.{_≡_, sym, _∙_}
+-- Blocked conditions and ranges: such a range does not hold, nor does a disjunct of such a condition. A range that does not hold is blocked where its matching parts are watched.
+use mathlib.Core.Path.{_≡_, refl, sym, _∙_}
 use mathlib.Core.Logic.{_⊎_, inl, inr, ⊎-elim}
 use mathlib.Core.Bool.{Bool, true, false, true≢false, false≢true}
 use mathlib.Core.List.{List}
@@ -20,13 +20,12 @@ use Rattle.rules.proofs.Bools.{by-cases}
 use Rattle.rules.proofs.Member.{all-out, none-in}
 use Rattle.tables.specs.declared.Counts.{Counts}
 use Rattle.cache.specs.Areas.{catalogue}
-use Rattle.cache.proofs.Laws.{conditions-held}
-use Rattle.state.specs.declared.Limits.{Limits}
-use Rattle.encoder.specs.declared.Counters.{Counters}
+use Rattle.cache.proofs.Laws.{ranges-held}
 use Rattle.entries.specs.Deferred.{isHeld}
 use Rattle.entries.proofs.Places.{is-free}
+use Rattle.goals.specs.Goals.{Catalogued}
 use Rattle.judging.proofs.Judging.{zeros}
-use Rattle.blocking.specs.Blocking.{Barred, Asked, allWatched, Unmet, Watched, isBlocked, rangeBlocked, Blocked, Sees, Blocks, EachBars}
+use Rattle.blocking.specs.Blocking.{Barred, allWatched, Unmet, PartsWatched, isBlocked, rangeBlocked, Blocked, RangeBars}
 use Rattle.blocking.proofs.Barring.{barred-more, barred-fails}
 use Rattle.blocking.proofs.Watching.{all-more}
 
@@ -50,30 +49,32 @@ set-cases flags x v y e =
     there : y ≡ x → x < length flags → v ≡ 1
     there q h = sym (getD-set-same flags x v 0 h) ∙ eqb-true (getD (set flags x v) x 0) 1 (rw q at e)
 
--- ranges that are blocked stay so where v is put at a condition, and where 1 is put
-pub range-beside : (flags : List ℕ) (x v r : ℕ) → x < 256 → rangeBlocked (set flags x v) r ≡ rangeBlocked flags r
+-- ranges are blocked as before where v is put at a condition
+range-beside : (flags : List ℕ) (x v r : ℕ) → x < 256 → rangeBlocked (set flags x v) r ≡ rangeBlocked flags r
 unfolding rangeBlocked isBlocked
 range-beside flags x v r h = rw (getD-set-other flags x (256 + r) v 0 (λ e. omega arith))
 
-pub range-there : (flags : List ℕ) (r : ℕ) → 256 + r < length flags → rangeBlocked (set flags (256 + r) 1) r ≡ true
+-- conditions are where v is put at a range
+condition-beside : (flags : List ℕ) (r v x : ℕ) → x < 256 → isBlocked (set flags (256 + r) v) x ≡ isBlocked flags x
+unfolding isBlocked
+condition-beside flags r v x h = rw (getD-set-other flags (256 + r) x v 0 (λ e. omega arith))
+
+-- range r is blocked where 1 is put, and so is one that was where v is put at another
+range-there : (flags : List ℕ) (r : ℕ) → 256 + r < length flags → rangeBlocked (set flags (256 + r) 1) r ≡ true
 unfolding rangeBlocked
 range-there flags r h = one-blocked (set flags (256 + r) 1) (256 + r) (getD-set-same flags (256 + r) 1 0 h)
 
-pub range-more : (flags : List ℕ) (r i : ℕ) → rangeBlocked flags i ≡ true → rangeBlocked (set flags (256 + r) 1) i ≡ true
-range-more flags r i e =
-    by-cases (eqb i r)
-    (λ q. elim (decLt (256 + r) (length flags)) [ yes h ↦ rw (eqb-true i r q) (range-there flags r h) | no h ↦ rw (set-out flags (256 + r) 1 (omega arith)) e ])
-    (λ q. unfold rangeBlocked isBlocked in rw (getD-set-other flags (256 + r) (256 + i) 1 0 (λ p. eqb-false i r q (omega arith))) (unfold rangeBlocked isBlocked in e))
+range-more : (flags : List ℕ) (r v : ℕ) → getD flags (256 + r) 0 ≡ 0 → (i : ℕ) → rangeBlocked flags i ≡ true → rangeBlocked (set flags (256 + r) v) i ≡ true
+unfolding rangeBlocked isBlocked
+range-more flags r v z i e = rw (getD-set-other flags (256 + r) (256 + i) v 0 apart) e
+  where
+    apart : 256 + i ≡ 256 + r → ⊥
+    apart p = let q : i ≡ r = omega arith in let w = eqb-true (getD flags (256 + r) 0) 1 (rw q at e) in omega (arith, w)
 
--- one that is blocked once 1 is put at r was so, or it is r
-range-cases : (flags : List ℕ) (r i : ℕ) → rangeBlocked (set flags (256 + r) 1) i ≡ true → (rangeBlocked flags i ≡ true) ⊎ (i ≡ r)
+-- one that is blocked once v is put at range r was so, or it is r, by v
+range-cases : (flags : List ℕ) (r v i : ℕ) → rangeBlocked (set flags (256 + r) v) i ≡ true → (rangeBlocked flags i ≡ true) ⊎ ((i ≡ r) × (v ≡ 1))
 unfolding rangeBlocked
-range-cases flags r i e = ⊎-elim (λ h. inl h) (λ h. inr (omega (arith, h .0))) (set-cases flags (256 + r) 1 (256 + i) e)
-
--- a condition is blocked as before where 1 is put at a range
-condition-beside : (flags : List ℕ) (r x : ℕ) → x < 256 → isBlocked (set flags (256 + r) 1) x ≡ isBlocked flags x
-unfolding isBlocked
-condition-beside flags r x h = rw (getD-set-other flags (256 + r) x 1 0 (λ e. omega arith))
+range-cases flags r v i e = ⊎-elim (λ h. inl h) (λ h. inr (omega (arith, h .0), h .1)) (set-cases flags (256 + r) v (256 + i) e)
 
 -- ---- what is blocked
 
@@ -100,7 +101,7 @@ module _ {c : Catalogue} {true? : ℕ → Bool} {blocked watched : List ℕ} (h 
   unfolding allWatched
   watched-fails r e = none-in true? (matching c r) (λ p m. h .unmet .none p (all-out (isHeld watched) (matching c r) e p m))
 
-  blocked-fails : (x : ℕ) → x < 256 → isBlocked blocked x ≡ true → (d : Disjunct) → d ∈ disjuncts (c .conditions) x → holdsNow c true? d ≡ false
+  pub blocked-fails : (x : ℕ) → x < 256 → isBlocked blocked x ≡ true → (d : Disjunct) → d ∈ disjuncts (c .conditions) x → holdsNow c true? d ≡ false
   blocked-fails x l e = barred-fails true? watched-fails (h .barred x l e)
 
   -- where no watched part is decided true besides
@@ -133,81 +134,52 @@ module _ {c : Catalogue} {true? : ℕ → Bool} {blocked watched : List ℕ} (h 
         unmet = h .unmet;
       }
 
-  -- range r is blocked
-  pub blocked-range : (r : ℕ) → r < length (c .ranges) → allWatched c watched r ≡ true → Blocked c true? (set blocked (256 + r) 1) watched
-  blocked-range r g w =
+  -- v is put at range r
+  blocked-range : (r v : ℕ) → (v ≡ 1 → (r < length (c .ranges)) × (allWatched c watched r ≡ true)) → Blocked c true? (set blocked (256 + r) v) watched
+  blocked-range r v q =
       record {
-        room = length-set blocked (256 + r) 1 ∙ h .room;
+        room = length-set blocked (256 + r) v ∙ h .room;
         long = h .long;
-        given = λ y l i. h .given y l (sym (condition-beside blocked r y l) ∙ i);
-        barred = λ y l i. h .barred y l (sym (condition-beside blocked r y l) ∙ i);
-        ranges = λ j i. ⊎-elim (h .ranges j) (λ z. rw z (g, w)) (range-cases blocked r j i);
+        given = λ y l i. h .given y l (sym (condition-beside blocked r v y l) ∙ i);
+        barred = λ y l i. h .barred y l (sym (condition-beside blocked r v y l) ∙ i);
+        ranges = λ j i. ⊎-elim (h .ranges j) (λ z. rw (z .0) (q (z .1))) (range-cases blocked r v j i);
         unmet = h .unmet;
       }
 
--- ---- condition x
+  -- a blocked range does not hold
+  pub range-fails : (r : ℕ) → rangeBlocked blocked r ≡ true → any true? (matching c r) ≡ false
+  range-fails r e = watched-fails r (h .ranges r e .1)
 
-pub bars-room : {c : Catalogue} {true? : ℕ → Bool} {x : ℕ} {b : Bool} {blocked watched blocked₁ watched₁ : List ℕ} → EachBars c true? x b blocked watched blocked₁ watched₁
-    → length watched ≡ 1024 → length watched₁ ≡ 1024
-bars-room d h = d .grows .long ∙ h
+-- ---- a range that does not hold
 
--- it is judged then
-pub blocks-judged : {c : Catalogue} {true? : ℕ → Bool} {x : ℕ} {b a : Bool} {blocked watched blocked₁ watched₁ blocked₂ watched₂ : List ℕ}
-    → EachBars c true? x b blocked watched blocked₁ watched₁ → Blocks c true? x a blocked₁ watched₁ blocked₂ watched₂ → Blocks c true? x a blocked watched blocked₂ watched₂
-blocks-judged d j = record { none = λ e h. j .none e (d .grows .keeps h); keeps = λ h. j .keeps (d .grows .keeps h) }
+module _ {c : Catalogue} {r : ℕ} {b w : List ℕ} where
+  -- it was flagged
+  pub bars-flagged : RangeBars c r (eqb (getD b (256 + r) 0) 1) b w b w
+  bars-flagged = record { long = refl; still = λ i e. e; is = λ e _. unfold rangeBlocked isBlocked in e; keeps = λ f n h. h }
 
-asked-fails : {c : Catalogue} {true? : ℕ → Bool} {x : ℕ} {a : Bool} {vs ws : List ℕ} → Asked c true? x a vs ws → a ≡ false → (d : Disjunct) → d ∈ disjuncts (c .conditions) x
-    → holdsNow c true? d ≡ false
-asked-fails {true? = true?} d e = barred-fails true? (d .right .ranges) (d .barred e)
+  module _ {left : ℕ} {w′ : List ℕ} (z : getD b (256 + r) 0 ≡ 0) (d : PartsWatched c r left w w′) where
+    more : {f : ℕ → Bool} → any f (matching c r) ≡ false → Blocked c f b w → Blocked c f b w′
+    more {f} n h = blocked-more h (d .long) (d .still) (d .unmet f n (h .unmet))
 
-module _ {c : Catalogue} {true? : ℕ → Bool} {x : ℕ} {blocked watched : List ℕ} where
-  -- a disjunct of it may hold
-  pub blocks-not : Blocks c true? x false blocked watched blocked watched
-  blocks-not = record { none = λ e. absurd (false≢true e); keeps = λ h. h }
-
-  module _ {vs ws : List ℕ} {a : Bool} (d : Asked c true? x a vs ws) (e : a ≡ false) where
-    -- no disjunct of it holds
-    pub blocks-unwatched : Blocks c true? x true blocked watched blocked watched
-    blocks-unwatched = record { none = λ _ _. asked-fails d e; keeps = λ h. h }
-
-    -- and v is put
-    blocks-put : {b : Bool} {watched′ : List ℕ} (v : ℕ) → Watched c ws b watched watched′ → x < 256 → x < length (c .conditions) → (v ≡ 1 → b ≡ true)
-        → Blocks c true? x true blocked watched (set blocked x v) watched′
-    blocks-put {b} {watched′} v w low g q =
-        record { none = λ _ _. asked-fails d e; keeps = λ h. blocked-put (blocked-more h (w .long) (w .still) (w .unmet true? (d .right .ranges) (h .unmet))) x v low g here }
-      where
-        here : v ≡ 1 → Barred c (allWatched c watched′) x
-        here z = barred-more (allWatched c watched′) (λ r i. w .all (q z) r (d .right .given r i) i) (d .barred e)
-
-module _ (k : Counts) (m u t : List ℕ) {l : Limits} {n : Counters} {s : List ℕ} (y : Sees k m u t l n s) (x : ℕ) (g : x < k .conditions) where
-  pub low-condition : x < 256
-  low-condition = omega (arith, y .catalogued .kept .held .laid .conditions)
-
-  there : x < length (catalogue k m u t .conditions)
-  there = rw (conditions-held k m u t) g
-
-module _ (k : Counts) (m u t : List ℕ) {l : Limits} {n : Counters} {s : List ℕ} (y : Sees k m u t l n s) {true? : ℕ → Bool} {x : ℕ} {blocked watched : List ℕ} (g : x < k .conditions) where
-  -- it is blocked
-  pub blocks-known : getD blocked x 0 ≡ 1 → Blocks (catalogue k m u t) true? x true blocked watched blocked watched
-  blocks-known e = record { none = λ _ h. blocked-fails h x (low-condition k m u t y x g) (one-blocked blocked x e); keeps = λ h. h }
-
-  module _ {vs ws : List ℕ} {a : Bool} (d : Asked (catalogue k m u t) true? x a vs ws) (e : a ≡ false) {b : Bool} {watched′ : List ℕ} (w : Watched (catalogue k m u t) ws b watched watched′) where
-    -- the parts that it waits for are watched
-    pub blocks-watched : b ≡ true → Blocks (catalogue k m u t) true? x true blocked watched (set blocked x 1) watched′
-    blocks-watched q = blocks-put d e 1 w (low-condition k m u t y x g) (there k m u t y x g) (λ _. q)
-
-    -- they are too many
-    pub blocks-some : Blocks (catalogue k m u t) true? x true blocked watched (set blocked x 2) watched′
-    blocks-some = blocks-put d e 2 w (low-condition k m u t y x g) (there k m u t y x g) (λ z. let no : ⊥ = omega arith in absurd no)
-
-  module _ {b : Bool} {blocked₁ watched₁ : List ℕ} (d : EachBars (catalogue k m u t) true? x b blocked watched blocked₁ watched₁) where
-    -- each disjunct of it has a blocked range
-    pub blocks-barred : b ≡ true → Blocks (catalogue k m u t) true? x true blocked watched (set blocked₁ x 1) watched₁
-    blocks-barred q =
+    -- its parts are too many
+    pub bars-not : RangeBars c r false b w (set b (256 + r) 2) w′
+    bars-not =
         record {
-          none = λ _ h. let z = d .grows .keeps h in barred-fails true? (watched-fails z) (all-barred z (d .barred q (h .room)));
-          keeps = λ h. let z = d .grows .keeps h in blocked-put z x 1 (low-condition k m u t y x g) (there k m u t y x g) (λ _. all-barred z (d .barred q (h .room)));
+          long = d .long;
+          still = range-more b r 2 z;
+          is = λ e. absurd (false≢true e);
+          keeps = λ f n h. blocked-range (more n h) r 2 (λ e. let no : ⊥ = omega arith in absurd no);
         }
-      where
-        all-barred : Blocked (catalogue k m u t) true? blocked₁ watched₁ → Barred (catalogue k m u t) (rangeBlocked blocked₁) x → Barred (catalogue k m u t) (allWatched (catalogue k m u t) watched₁) x
-        all-barred z i = barred-more (allWatched (catalogue k m u t) watched₁) (λ r e. z .ranges r e .1) i
+
+    bars : (left ≡ 0 → ⊥) → r < length (c .ranges) → r < 512 → RangeBars c r true b w (set b (256 + r) 1) w′
+    bars n g low =
+        record {
+          long = d .long;
+          still = range-more b r 1 z;
+          is = λ _ e. range-there b r (omega arith);
+          keeps = λ f o h. blocked-range (more o h) r 1 (λ _. (g, d .all (omega (arith, n))));
+        }
+
+pub bars-now : (k : Counts) (m u t : List ℕ) → Catalogued k m u t → {r left : ℕ} {b w w′ : List ℕ} → r < k .ranges → getD b (256 + r) 0 ≡ 0
+    → PartsWatched (catalogue k m u t) r left w w′ → (left ≡ 0 → ⊥) → RangeBars (catalogue k m u t) r true b w (set b (256 + r) 1) w′
+bars-now k m u t y {r} g z d n = bars z d n (rw (ranges-held k m u t) g) (omega (arith, y .kept .held .laid .ranges))

@@ -1,8 +1,9 @@
 pub mod Barring
-pub mod Verdicts
-pub mod Asking
 pub mod Watching
 pub mod Blocking
 pub mod Releasing
+pub mod Verdicts
+pub mod Asking
 pub mod Listing
 pub mod Bars
+pub mod Judging

@@ -1,151 +1,146 @@
--- Conditions and ranges are asked once: what does not hold by the verdicts does not hold.
+-- Conditions and ranges are asked once: verdicts that are right stay so, and ranges that do not hold are blocked.
 use mathlib.Core.Path.{_≡_, refl, sym, _∙_}
-use mathlib.Core.Bool.{Bool, true, false, not, true≢false}
+use mathlib.Core.Bool.{Bool, true, false, true≢false}
 use mathlib.Core.List.{List}
 use Prim.Native.Nat.{ℕ, _+_, _<_}
 use native.Mathlib.Omega.{arith}
 use lib.Dec.{eqb}
-use lib.ListN.{length, getD, set, replicate, length-set, length-replicate}
+use lib.ListN.{getD, set, replicate, length-set, length-replicate}
 use lib.Seq.{getD-set-same, getD-set-other}
-use borrow.Author.Tests.{eqb-true, eqb-false, eq-eqb}
+use borrow.Author.Tests.{eqb-true, eqb-false}
 use Rattle.rules.specs.Lists.{any}
 use Rattle.rules.specs.Catalogue.{Catalogue}
 use Rattle.rules.specs.Candidates.{matching}
 use Rattle.rules.proofs.Bools.{by-cases}
-use Rattle.judging.specs.Judging.{verdictOf}
+use Rattle.tables.specs.declared.Counts.{Counts}
+use Rattle.state.specs.declared.Limits.{Limits}
+use Rattle.encoder.specs.declared.Counters.{Counters}
 use Rattle.judging.proofs.Judging.{zeros}
-use Rattle.blocking.specs.Blocking.{fails, Tells, Verdicts, Still, RangeAsked, Asked}
+use Rattle.blocking.specs.Blocking.{rangeBlocked, Blocked, Sees, RangeBars, fails, RangeSays, Says, Right, Grows, RangeJudged, Judged}
 use Rattle.blocking.proofs.Barring.{barred-more}
+use Rattle.blocking.proofs.Blocking.{one-blocked, range-fails}
 
--- ---- one verdict
+-- a range's verdict has a place
+pub range-low : (k : Counts) (m u t : List ℕ) {l : Limits} {n : Counters} {s : List ℕ} {r : ℕ} → Sees k m u t l n s → r < k .ranges → r < 512
+range-low k m u t y g = omega (arith, y .catalogued .kept .held .laid .ranges)
 
-pub tells-holds : {i : ℕ} {b : Bool} {vs : List ℕ} → b ≡ true → Tells i b vs true (set vs i 1)
-unfolding verdictOf
-tells-holds e = rw e (record { is = refl; kept = refl })
-
-pub tells-fails : {i : ℕ} {b : Bool} {vs : List ℕ} → b ≡ false → Tells i b vs false (set vs i 2)
-unfolding verdictOf
-tells-fails e = rw e (record { is = refl; kept = refl })
-
-verdict-two : (b : Bool) → verdictOf b ≡ 2 → b ≡ false
-unfolding verdictOf
-verdict-two true e = let no : ⊥ = omega arith in absurd no
-verdict-two false e = refl
-
-pub fails-out : (vs : List ℕ) (r : ℕ) → fails vs r ≡ true → getD vs (256 + r) 0 ≡ 2
+pub fails-in : (c : Catalogue) (f : ℕ → Bool) (r : ℕ) → any f (matching c r) ≡ false → fails c f r ≡ true
 unfolding fails
-fails-out vs r e = eqb-true (getD vs (256 + r) 0) 2 e
+fails-in c f r e = rw e
 
-pub fails-in : (vs : List ℕ) (r : ℕ) → getD vs (256 + r) 0 ≡ 2 → fails vs r ≡ true
+pub fails-out : (c : Catalogue) (f : ℕ → Bool) (r : ℕ) → fails c f r ≡ true → any f (matching c r) ≡ false
 unfolding fails
-fails-in vs r e = eq-eqb (getD vs (256 + r) 0) 2 e
+fails-out c f r e = by-cases (any f (matching c r)) (λ q. absurd (true≢false (sym e ∙ rw q))) (λ q. q)
 
--- a test that it is not 2
-not-two : (v : ℕ) → not (eqb v 2) ≡ false → v ≡ 2
-not-two v e = by-cases (eqb v 2) (λ q. eqb-true v 2 q) (λ q. absurd (true≢false (rw q at e)))
+module _ {c : Catalogue} {f : ℕ → Bool} where
+  -- ---- what a verdict says where more ranges are blocked
 
--- ---- verdicts that stay
+  module _ {b b′ : List ℕ} (still : (r : ℕ) → rangeBlocked b r ≡ true → rangeBlocked b′ r ≡ true) where
+    range-says-more : {r v : ℕ} → RangeSays c f b r v → RangeSays c f b′ r v
+    range-says-more {r} y = record { fails = y .fails; barred = λ e. still r (y .barred e) }
 
-still-same : {vs : List ℕ} → Still vs vs
-still-same = record { fails = λ i e. e }
+    pub says-more : {x v : ℕ} → Says c f b x v → Says c f b′ x v
+    says-more y = record { fails = y .fails; barred = λ e. barred-more (rangeBlocked b′) still (y .barred e) }
 
-pub still-then : {vs ws us : List ℕ} → Still vs ws → Still ws us → Still vs us
-still-then a b = record { fails = λ i e. b .fails i (a .fails i e) }
+  -- ---- the verdicts
 
-pub still-range : {vs ws : List ℕ} → Still vs ws → (r : ℕ) → fails vs r ≡ true → fails ws r ≡ true
-still-range {vs} {ws} s r e = fails-in ws r (s .fails (256 + r) (fails-out vs r e))
-
--- one that was not asked is kept, behind others
-still-set : {vs ws : List ℕ} (i v : ℕ) → getD vs i 0 ≡ 0 → Still vs ws → Still vs (set ws i v)
-still-set {vs} {ws} i v z s = record { fails = at }
-  where
-    at : (j : ℕ) → getD vs j 0 ≡ 2 → getD (set ws i v) j 0 ≡ 2
-    at j e =
-        by-cases (eqb j i) (λ q. let p = eqb-true j i q in let w = rw p at e in let no : ⊥ = omega (arith, w) in absurd no)
-        (λ q. getD-set-other ws i j v 0 (eqb-false j i q) ∙ s .fails j e)
-
-module _ {c : Catalogue} {true? : ℕ → Bool} where
   -- nothing was asked
-  pub verdicts-none : {vs : List ℕ} → vs ≡ replicate 768 0 → Verdicts c true? vs
-  verdicts-none e = rw e (record {
-    room = length-replicate {A = ℕ} 768 0;
-    given = λ r h. absurd (unasked r h);
-    ranges = λ r h. absurd (unasked r h);
-    conditions = λ x l h. let no : ⊥ = omega (arith, zeros 768 x) in absurd no;
-  })
-    where
-      unasked : (r : ℕ) → fails (replicate 768 0) r ≡ true → ⊥
-      unasked r h = omega (arith, fails-out (replicate 768 0) r h, zeros 768 (256 + r))
+  pub right-none : {vs b w : List ℕ} → vs ≡ replicate 768 0 → Blocked c f b w → Right c f vs b w
+  right-none e h = rw e (record { flags = h; room = length-replicate {A = ℕ} 768 0; ranges = λ r n. absurd (n (zeros 768 (256 + r))); conditions = λ x l n. absurd (n (zeros 768 x)) })
 
-  -- ---- a range
+  -- more ranges are blocked
+  right-more : {vs b w b′ w′ : List ℕ} → ((r : ℕ) → rangeBlocked b r ≡ true → rangeBlocked b′ r ≡ true) → Blocked c f b′ w′ → Right c f vs b w → Right c f vs b′ w′
+  right-more still z h =
+      record { flags = z; room = h .room; ranges = λ r n. range-says-more still (h .ranges r n); conditions = λ x l n. says-more still (h .conditions x l n) }
 
-  -- that was asked
-  pub range-known : {vs : List ℕ} (r : ℕ) → Verdicts c true? vs → RangeAsked c true? r (not (eqb (getD vs (256 + r) 0) 2)) vs vs
-  range-known {vs} r v = record { right = v; still = still-same; failing = λ e. fails-in vs r (not-two (getD vs (256 + r) 0) e) }
+  module _ {vs b w : List ℕ} (h : Right c f vs b w) where
+    -- v is kept of range r
+    right-range : (r v : ℕ) → r < 512 → RangeSays c f b r v → Right c f (set vs (256 + r) v) b w
+    right-range r v low y =
+        record {
+          flags = h .flags;
+          room = length-set vs (256 + r) v ∙ h .room;
+          ranges = λ i n. by-cases (eqb i r) (λ q. rw (eqb-true i r q, there) y)
+              (λ q. let e = getD-set-other vs (256 + r) (256 + i) v 0 (λ p. eqb-false i r q (omega arith)) in rw e (h .ranges i (λ o. n (e ∙ o))));
+          conditions = λ x l n. let e = getD-set-other vs (256 + r) x v 0 (λ p. omega arith) in rw e (h .conditions x l (λ o. n (e ∙ o)));
+        }
+      where
+        there : getD (set vs (256 + r) v) (256 + r) 0 ≡ v
+        there = getD-set-same vs (256 + r) v 0 (omega (arith, h .room))
 
-  -- or is asked now
-  pub range-new : {vs ws : List ℕ} (r : ℕ) {b a : Bool} → r < length (c .ranges) → r < 512 → Verdicts c true? vs → getD vs (256 + r) 0 ≡ 0 → b ≡ any true? (matching c r)
-      → Tells (256 + r) b vs a ws → RangeAsked c true? r a vs ws
-  range-new {vs} {ws} r {b} {a} h low v z d t = rw (t .is, t .kept) (record { right = right; still = still; failing = here })
-    where
-      us : List ℕ
-      us = set vs (256 + r) (verdictOf b)
+    -- of condition x
+    right-condition : (x v : ℕ) → x < 256 → Says c f b x v → Right c f (set vs x v) b w
+    right-condition x v low y =
+        record {
+          flags = h .flags;
+          room = length-set vs x v ∙ h .room;
+          ranges = λ r n. let e = getD-set-other vs x (256 + r) v 0 (λ p. omega arith) in rw e (h .ranges r (λ o. n (e ∙ o)));
+          conditions = λ i l n. by-cases (eqb i x) (λ q. rw (eqb-true i x q, there) y)
+              (λ q. let e = getD-set-other vs x i v 0 (eqb-false i x q) in rw e (h .conditions i l (λ o. n (e ∙ o))));
+        }
+      where
+        there : getD (set vs x v) x 0 ≡ v
+        there = getD-set-same vs x v 0 (omega (arith, h .room))
 
-      still : Still vs us
-      still = still-set (256 + r) (verdictOf b) z still-same
+  -- ---- more is asked
 
-      there : getD us (256 + r) 0 ≡ verdictOf b
-      there = getD-set-same vs (256 + r) (verdictOf b) 0 (omega (arith, v .room))
+  pub grows-same : {vs b w : List ℕ} → Grows c f vs b w vs b w
+  grows-same = record { long = refl; still = λ r e. e; keeps = λ h. h }
 
-      here : b ≡ false → fails us r ≡ true
-      here e = fails-in us r (there ∙ unfold verdictOf in rw e)
+  pub grows-then : {vs b w vs₁ b₁ w₁ vs₂ b₂ w₂ : List ℕ} → Grows c f vs b w vs₁ b₁ w₁ → Grows c f vs₁ b₁ w₁ vs₂ b₂ w₂ → Grows c f vs b w vs₂ b₂ w₂
+  grows-then p q = record { long = q .long ∙ p .long; still = λ r e. q .still r (p .still r e); keeps = λ h. q .keeps (p .keeps h) }
 
-      other : (j : ℕ) → eqb j r ≡ false → fails us j ≡ true → fails vs j ≡ true
-      other j q e = fails-in vs j (sym (getD-set-other vs (256 + r) (256 + j) (verdictOf b) 0 (λ p. eqb-false j r q (omega arith))) ∙ fails-out us j e)
+  -- ---- range r
 
-      right : Verdicts c true? us
-      right =
+  module _ {r : ℕ} {vs b w : List ℕ} where
+    blocked-says : Right c f vs b w → rangeBlocked b r ≡ true → RangeSays c f b r 2
+    blocked-says h e = record { fails = λ _. fails-in c f r (range-fails (h .flags) r e); barred = λ _. e }
+
+    -- it is blocked
+    pub range-blocked : getD b (256 + r) 0 ≡ 1 → RangeJudged c f r 2 vs b w vs b w
+    range-blocked e = record { grows = grows-same; says = λ h. blocked-says h (unfold rangeBlocked in one-blocked b (256 + r) e) }
+
+    -- it was asked
+    pub range-known : (getD vs (256 + r) 0 ≡ 0 → ⊥) → RangeJudged c f r (getD vs (256 + r) 0) vs b w vs b w
+    range-known n = record { grows = grows-same; says = λ h. h .ranges r n }
+
+    -- it may hold
+    pub range-holds : r < 512 → RangeJudged c f r 1 vs b w (set vs (256 + r) 1) b w
+    range-holds low = record { grows = record { long = refl; still = λ i e. e; keeps = λ h. right-range h r 1 low says }; says = λ _. says }
+      where
+        says : RangeSays c f b r 1
+        says = record { fails = λ n. absurd (n refl); barred = λ e. let no : ⊥ = omega arith in absurd no }
+
+    module _ {a q : Bool} {b₁ w₁ : List ℕ} (e : a ≡ any f (matching c r)) (o : a ≡ false) (d : RangeBars c r q b w b₁ w₁) where
+      keeps : Right c f vs b w → Right c f vs b₁ w₁
+      keeps h = right-more (d .still) (d .keeps f (sym e ∙ o) (h .flags)) h
+
+      -- it is blocked now
+      pub range-barred : q ≡ true → RangeJudged c f r 2 vs b w vs b₁ w₁
+      range-barred i =
           record {
-            room = length-set vs (256 + r) (verdictOf b) ∙ v .room;
-            given = λ j e. by-cases (eqb j r) (λ q. rw (eqb-true j r q) h) (λ q. v .given j (other j q e));
-            ranges = λ j e. by-cases (eqb j r)
-                (λ q. let p = eqb-true j r q in rw p (sym d ∙ verdict-two b (sym there ∙ fails-out us r (rw p at e))))
-                (λ q. v .ranges j (other j q e));
-            conditions = λ x l e. barred-more (fails us) (still-range still) (v .conditions x l (sym (getD-set-other vs (256 + r) x (verdictOf b) 0 (λ p. omega arith)) ∙ e));
+            grows = record { long = d .long; still = d .still; keeps = keeps };
+            says = λ h. record { fails = λ _. fails-in c f r (sym e ∙ o); barred = λ _. d .is i (h .flags .room) };
           }
 
-  -- ---- a condition
+      -- its parts are too many
+      pub range-unbarred : r < 512 → RangeJudged c f r 3 vs b w (set vs (256 + r) 3) b₁ w₁
+      range-unbarred low = record { grows = record { long = d .long; still = d .still; keeps = λ h. right-range (keeps h) r 3 low says }; says = λ _. says }
+        where
+          says : RangeSays c f b₁ r 3
+          says = record { fails = λ _. fails-in c f r (sym e ∙ o); barred = λ z. let no : ⊥ = omega arith in absurd no }
 
-  -- that was asked
-  pub asked-known : {vs : List ℕ} (x : ℕ) → x < 256 → Verdicts c true? vs → Asked c true? x (not (eqb (getD vs x 0) 2)) vs vs
-  asked-known {vs} x l v = record { right = v; still = still-same; barred = λ e. v .conditions x l (not-two (getD vs x 0) e) }
+  -- ---- condition x
 
-  -- its verdict is kept
-  pub asked-told : {vs ws us : List ℕ} (x : ℕ) {b a : Bool} → x < 256 → getD vs x 0 ≡ 0 → Asked c true? x b vs ws → Tells x b ws a us → Asked c true? x a vs us
-  asked-told {vs} {ws} x {b} {a} l z d t = rw (t .is, t .kept) (record { right = right; still = still-set x (verdictOf b) z (d .still); barred = λ e. barred-more (fails new) ranges (d .barred e) })
-    where
-      new : List ℕ
-      new = set ws x (verdictOf b)
+  module _ {x : ℕ} {vs b w : List ℕ} where
+    -- it was asked
+    pub judged-known : x < 256 → (getD vs x 0 ≡ 0 → ⊥) → Judged c f x (getD vs x 0) vs b w vs b w
+    judged-known low n = record { grows = grows-same; says = λ h. h .conditions x low n }
 
-      same : (r : ℕ) → getD new (256 + r) 0 ≡ getD ws (256 + r) 0
-      same r = getD-set-other ws x (256 + r) (verdictOf b) 0 (λ p. omega arith)
-
-      ranges : (r : ℕ) → fails ws r ≡ true → fails new r ≡ true
-      ranges r e = fails-in new r (same r ∙ fails-out ws r e)
-
-      before : (r : ℕ) → fails new r ≡ true → fails ws r ≡ true
-      before r e = fails-in ws r (sym (same r) ∙ fails-out new r e)
-
-      there : getD new x 0 ≡ verdictOf b
-      there = getD-set-same ws x (verdictOf b) 0 (omega (arith, d .right .room))
-
-      right : Verdicts c true? new
-      right =
-          record {
-            room = length-set ws x (verdictOf b) ∙ d .right .room;
-            given = λ r e. d .right .given r (before r e);
-            ranges = λ r e. d .right .ranges r (before r e);
-            conditions = λ y h e. by-cases (eqb y x)
-                (λ q. let p = eqb-true y x q in rw p (barred-more (fails new) ranges (d .barred (verdict-two b (sym there ∙ rw p at e)))))
-                (λ q. barred-more (fails new) ranges (d .right .conditions y h (sym (getD-set-other ws x y (verdictOf b) 0 (eqb-false y x q)) ∙ e)));
-          }
+    -- its verdict is kept
+    pub judged-kept : {v : ℕ} {vs₁ b₁ w₁ : List ℕ} → x < 256 → Judged c f x v vs b w vs₁ b₁ w₁ → Judged c f x v vs b w (set vs₁ x v) b₁ w₁
+    judged-kept {v} low d =
+        record {
+          grows = record { long = d .grows .long; still = d .grows .still; keeps = λ h. right-condition (d .grows .keeps h) x v low (d .says h) };
+          says = d .says;
+        }

@@ -1,14 +1,14 @@
--- Parts are watched: those of a range, and those of all ranges that do not hold.
+-- The matching parts of a range are watched.
 use mathlib.Core.Path.{_≡_, refl, sym, _∙_}
 use mathlib.Core.Bool.{Bool, true, false, true≢false, false≢true}
 use mathlib.Core.List.{List}
 use Prim.Native.Nat.{ℕ, _+_, _<_, _≤_}
 use native.Mathlib.Omega.{arith}
 use native.Mathlib.Decide.{decLt}
-use lib.Dec.{eqb, ltb}
-use lib.ListN.{length, getD, set, length-set, List·getD-eq-default}
+use lib.Dec.{eqb}
+use lib.ListN.{length, set, length-set, List·getD-eq-default}
 use lib.Seq.{getD-set-same, getD-set-other}
-use borrow.Author.Tests.{eqb-true, eqb-false, ltb-true}
+use borrow.Author.Tests.{eqb-true, eqb-false}
 use Rattle.rules.specs.Lists.{any, all, upTo}
 use Rattle.rules.specs.Called.{_∈_}
 use Rattle.rules.specs.Catalogue.{Catalogue, nameOf, rangeName}
@@ -20,13 +20,12 @@ use Rattle.marks.specs.Marks.{isMarked}
 use Rattle.cache.specs.declared.Choice.the-variants.{Matching}
 use Rattle.cache.specs.Areas.{catalogue}
 use Rattle.cache.specs.Lists.{asked, chosen, choice}
-use Rattle.cache.proofs.Laws.{parts-held, ranges-held}
+use Rattle.cache.proofs.Laws.{parts-held}
 use Rattle.cache.proofs.Lists.{member-in, matching-is}
 use Rattle.index.specs.Chains.{Skips}
 use Rattle.index.proofs.Walking.{walk}
 use Rattle.entries.specs.Deferred.{isHeld, isFree}
-use Rattle.blocking.specs.Blocking.{fails, allWatched, Unmet, PartsWatched, RangeWatched, Watched}
-use Rattle.blocking.proofs.Verdicts.{fails-in, fails-out}
+use Rattle.blocking.specs.Blocking.{allWatched, Unmet, PartsWatched}
 
 -- ---- one flag more or less
 
@@ -133,49 +132,7 @@ module _ (k : Counts) (m u t : List ℕ) (r : ℕ) where
       unfolding allWatched
       watched-all left h = watched-parts left (λ _. all-in (isHeld w′) (matching C r) (λ q m. let d = match-is q m in y .passed q (omega (arith, d .0)) (d .1)))
 
--- those of a range that was asked and does not hold
-pub watched-failing : {c : Catalogue} {vs : List ℕ} {r left : ℕ} {w w′ : List ℕ} → getD vs (256 + r) 0 ≡ 2 → PartsWatched c r left w w′ → RangeWatched c vs r left w w′
-watched-failing {vs = vs} {r} e d = record { long = d .long; still = d .still; all = λ h _. d .all h; unmet = λ f n o. d .unmet f (n (fails-in vs r e)) o }
-
--- it was not asked, or it holds
-pub watched-none : {c : Catalogue} {vs : List ℕ} {r left : ℕ} {w : List ℕ} → (getD vs (256 + r) 0 ≡ 2 → ⊥) → RangeWatched c vs r left w w
-watched-none {vs = vs} {r} n = record { long = refl; still = λ q e. e; all = λ h e. absurd (n (fails-out vs r e)); unmet = λ f d o. o }
-
--- ---- the ranges
-
--- the loop at range r
-pub record RangesWatched (c : Catalogue) (vs : List ℕ) (r left : ℕ) (watched watched′ : List ℕ) : Type 0 where
-  pub long : length watched′ ≡ length watched
-  pub still : (p : ℕ) → isHeld watched p ≡ true → isHeld watched′ p ≡ true
-  pub all : 1 ≤ left → (i : ℕ) → i < r → fails vs i ≡ true → allWatched c watched′ i ≡ true
-  pub unmet : (f : ℕ → Bool) → ((i : ℕ) → fails vs i ≡ true → any f (matching c i) ≡ false) → Unmet f watched → Unmet f watched′
-
+-- where more is watched
 pub all-more : (c : Catalogue) (w w′ : List ℕ) → ((p : ℕ) → isHeld w p ≡ true → isHeld w′ p ≡ true) → (r : ℕ) → allWatched c w r ≡ true → allWatched c w′ r ≡ true
 unfolding allWatched
 all-more c w w′ h r e = all-in (isHeld w′) (matching c r) (λ p m. h p (all-out (isHeld w) (matching c r) e p m))
-
-pub ranges-start : (c : Catalogue) (vs : List ℕ) (left : ℕ) {w : List ℕ} → RangesWatched c vs 0 left w w
-ranges-start c vs left = record { long = refl; still = λ p e. e; all = λ h i l. let no : ⊥ = omega arith in absurd no; unmet = λ f n o. o }
-
-module _ {c : Catalogue} {vs : List ℕ} {r left : ℕ} {w w₁ : List ℕ} (y : RangesWatched c vs r left w w₁) where
-  pub ranges-room : length w ≡ 1024 → length w₁ ≡ 1024
-  ranges-room h = y .long ∙ h
-
-  pub ranges-step : {left₂ : ℕ} {w₂ : List ℕ} → (left ≡ 0 → ⊥) → RangeWatched c vs r left₂ w₁ w₂ → RangesWatched c vs (r + 1) left₂ w w₂
-  ranges-step {left₂} {w₂} n d =
-      record {
-        long = d .long ∙ y .long;
-        still = λ p e. d .still p (y .still p e);
-        all = λ h i l e. by-cases (eqb i r) (λ j. let q = eqb-true i r j in rw q (d .all h (rw q at e)))
-            (λ j. all-more c w₁ w₂ (d .still) i (y .all (omega (arith, n)) i (omega (arith, eqb-false i r j)) e));
-        unmet = λ f e o. d .unmet f (e r) (y .unmet f e o);
-      }
-
-  -- nothing is left
-  pub ranges-some : Watched c vs false w w₁
-  ranges-some = record { long = y .long; still = y .still; all = λ h. absurd (false≢true h); unmet = y .unmet }
-
-pub ranges-end : (k : Counts) (m u t : List ℕ) {vs : List ℕ} {r left : ℕ} {w w₁ : List ℕ} → RangesWatched (catalogue k m u t) vs r left w w₁ → k .ranges ≤ r
-    → Watched (catalogue k m u t) vs (ltb 0 left) w w₁
-ranges-end k m u t {left = left} y h =
-    record { long = y .long; still = y .still; all = λ e i l. y .all (ltb-true 0 left e) i (omega (arith, ranges-held k m u t)); unmet = y .unmet }

@@ -4,7 +4,7 @@ use mathlib.Core.Bool.{Bool, true, false, not, cond}
 use mathlib.Core.List.{List, []}
 use Prim.Native.Nat.{ℕ, _+_, _*_, _<_, _≤_}
 use lib.Dec.{eqb}
-use lib.ListN.{length, getD, set}
+use lib.ListN.{length, getD}
 use Rattle.rules.specs.Lists.{any, all}
 use Rattle.rules.specs.Called.{_∈_}
 use Rattle.rules.specs.Catalogue.{Catalogue, Condition}
@@ -20,68 +20,11 @@ use Rattle.variable_map.specs.Mapping.{variables, Mapped}
 use Rattle.decision_tracker.specs.Tracking.{decisions, Kept}
 use Rattle.entries.specs.Deferred.{isHeld}
 use Rattle.encoder.specs.declared.Counters.{Counters}
-use Rattle.goals.specs.Goals.{Catalogued, trueOf}
-use Rattle.judging.specs.Judging.{verdictOf}
+use Rattle.goals.specs.Goals.{Catalogued}
 
 -- each disjunct of condition x has a range that passes
 pub record Barred (c : Catalogue) (f : ℕ → Bool) (x : ℕ) : Type 0 where
   pub each : (d : Disjunct) → d ∈ disjuncts (c .conditions) x → any f d ≡ true
-
--- ---- verdicts: that of condition x is at x, that of range r at 256 + r
-
--- range r was asked and does not hold
-unfoldable pub fails : List ℕ → ℕ → Bool
-fails vs r = eqb (getD vs (256 + r) 0) 2
-
--- verdict i is kept, and b told
-pub record Tells (i : ℕ) (b : Bool) (vs : List ℕ) (r : Bool) (ws : List ℕ) : Type 0 where
-  pub is : r ≡ b
-  pub kept : ws ≡ set vs i (verdictOf b)
-
--- what does not hold by the verdicts does not hold: of a condition each disjunct has a range that was asked
-pub record Verdicts (c : Catalogue) (true? : ℕ → Bool) (vs : List ℕ) : Type 0 where
-  pub room : length vs ≡ 768
-  pub given : (r : ℕ) → fails vs r ≡ true → r < length (c .ranges)
-  pub ranges : (r : ℕ) → fails vs r ≡ true → any true? (matching c r) ≡ false
-  pub conditions : (x : ℕ) → x < 256 → getD vs x 0 ≡ 2 → Barred c (fails vs) x
-
--- what does not hold by vs does not by ws
-pub record Still (vs ws : List ℕ) : Type 0 where
-  pub fails : (i : ℕ) → getD vs i 0 ≡ 2 → getD ws i 0 ≡ 2
-
--- range r is there, and the verdicts are right
-pub record AsksRange (k : Counts) (m u t : List ℕ) (l : Limits) (n : Counters) (s vs : List ℕ) (r : ℕ) : Type 0 where
-  pub catalogued : Catalogued k m u t
-  pub fits : Fits l (length s)
-  pub mapped : Mapped l (n .variables) (held l s)
-  pub kept : Kept l (n .decisions) (held l s)
-  pub right : Verdicts (catalogue k m u t) (trueOf (variables (n .variables) (held l s)) (decisions (n .decisions) (held l s))) vs
-  pub given : r < k .ranges
-
--- b says whether range r holds
-pub record RangeAsked (c : Catalogue) (true? : ℕ → Bool) (r : ℕ) (b : Bool) (vs ws : List ℕ) : Type 0 where
-  pub right : Verdicts c true? ws
-  pub still : Still vs ws
-  pub failing : b ≡ false → fails ws r ≡ true
-
--- the left half tells of an `and` if it does not hold, of an `or` if it does
-unfoldable pub toldByLeft : ℕ → Bool → Bool
-toldByLeft operator first = cond (eqb operator 0) (not first) first
-
--- condition x is there, and the verdicts are right
-pub record Asks (k : Counts) (m u t : List ℕ) (l : Limits) (n : Counters) (s vs : List ℕ) (x : ℕ) : Type 0 where
-  pub catalogued : Catalogued k m u t
-  pub fits : Fits l (length s)
-  pub mapped : Mapped l (n .variables) (held l s)
-  pub kept : Kept l (n .decisions) (held l s)
-  pub right : Verdicts (catalogue k m u t) (trueOf (variables (n .variables) (held l s)) (decisions (n .decisions) (held l s))) vs
-  pub given : x < k .conditions
-
--- if b is false no disjunct of condition x holds: each has a range that was asked
-pub record Asked (c : Catalogue) (true? : ℕ → Bool) (x : ℕ) (b : Bool) (vs ws : List ℕ) : Type 0 where
-  pub right : Verdicts c true? ws
-  pub still : Still vs ws
-  pub barred : b ≡ false → Barred c (fails ws) x
 
 -- ---- watched parts
 
@@ -99,20 +42,6 @@ pub record PartsWatched (c : Catalogue) (r left : ℕ) (watched watched′ : Lis
   pub still : (p : ℕ) → isHeld watched p ≡ true → isHeld watched′ p ≡ true
   pub all : 1 ≤ left → allWatched c watched′ r ≡ true
   pub unmet : (f : ℕ → Bool) → any f (matching c r) ≡ false → Unmet f watched → Unmet f watched′
-
--- the same of a range that was asked and does not hold
-pub record RangeWatched (c : Catalogue) (vs : List ℕ) (r left : ℕ) (watched watched′ : List ℕ) : Type 0 where
-  pub long : length watched′ ≡ length watched
-  pub still : (p : ℕ) → isHeld watched p ≡ true → isHeld watched′ p ≡ true
-  pub all : 1 ≤ left → fails vs r ≡ true → allWatched c watched′ r ≡ true
-  pub unmet : (f : ℕ → Bool) → (fails vs r ≡ true → any f (matching c r) ≡ false) → Unmet f watched → Unmet f watched′
-
--- the same of every range: all of them, if b is true
-pub record Watched (c : Catalogue) (vs : List ℕ) (b : Bool) (watched watched′ : List ℕ) : Type 0 where
-  pub long : length watched′ ≡ length watched
-  pub still : (p : ℕ) → isHeld watched p ≡ true → isHeld watched′ p ≡ true
-  pub all : b ≡ true → (r : ℕ) → r < length (c .ranges) → fails vs r ≡ true → allWatched c watched′ r ≡ true
-  pub unmet : (f : ℕ → Bool) → ((r : ℕ) → fails vs r ≡ true → any f (matching c r) ≡ false) → Unmet f watched → Unmet f watched′
 
 -- ---- what is blocked: condition x at x, range r at 256 + r
 
@@ -143,6 +72,62 @@ pub record Sees (k : Counts) (m u t : List ℕ) (l : Limits) (n : Counters) (s :
 pub record Blocks (c : Catalogue) (true? : ℕ → Bool) (x : ℕ) (b : Bool) (blocked watched blocked′ watched′ : List ℕ) : Type 0 where
   pub none : b ≡ true → Blocked c true? blocked watched → (d : Disjunct) → d ∈ disjuncts (c .conditions) x → holdsNow c true? d ≡ false
   pub keeps : Blocked c true? blocked watched → Blocked c true? blocked′ watched′
+
+-- ---- blocked ranges
+
+-- range r is blocked if b is true, and what was blocked still is: rightly if the range does not hold
+pub record RangeBars (c : Catalogue) (r : ℕ) (b : Bool) (blocked watched blocked′ watched′ : List ℕ) : Type 0 where
+  pub long : length watched′ ≡ length watched
+  pub still : (i : ℕ) → rangeBlocked blocked i ≡ true → rangeBlocked blocked′ i ≡ true
+  pub is : b ≡ true → length blocked ≡ 768 → rangeBlocked blocked′ r ≡ true
+  pub keeps : (f : ℕ → Bool) → any f (matching c r) ≡ false → Blocked c f blocked watched → Blocked c f blocked′ watched′
+
+-- ---- verdicts: that of condition x is at x, that of range r at 256 + r
+
+-- none of the matching parts of range r is decided true
+unfoldable pub fails : Catalogue → (true? : ℕ → Bool) → ℕ → Bool
+fails c true? r = not (any true? (matching c r))
+
+-- what verdict v of range r says: 1, nothing, any other, that it does not hold, and 2, that it is blocked
+pub record RangeSays (c : Catalogue) (true? : ℕ → Bool) (blocked : List ℕ) (r v : ℕ) : Type 0 where
+  pub fails : (v ≡ 1 → ⊥) → fails c true? r ≡ true
+  pub barred : v ≡ 2 → rangeBlocked blocked r ≡ true
+
+-- the same of condition x: each disjunct has such a range
+pub record Says (c : Catalogue) (true? : ℕ → Bool) (blocked : List ℕ) (x v : ℕ) : Type 0 where
+  pub fails : (v ≡ 1 → ⊥) → Barred c (fails c true?) x
+  pub barred : v ≡ 2 → Barred c (rangeBlocked blocked) x
+
+-- what is blocked is so rightly, and the verdicts are right of what was asked
+pub record Right (c : Catalogue) (true? : ℕ → Bool) (vs blocked watched : List ℕ) : Type 0 where
+  pub flags : Blocked c true? blocked watched
+  pub room : length vs ≡ 768
+  pub ranges : (r : ℕ) → (getD vs (256 + r) 0 ≡ 0 → ⊥) → RangeSays c true? blocked r (getD vs (256 + r) 0)
+  pub conditions : (x : ℕ) → x < 256 → (getD vs x 0 ≡ 0 → ⊥) → Says c true? blocked x (getD vs x 0)
+
+-- more was asked: ranges are blocked besides, and what is right stays so
+pub record Grows (c : Catalogue) (true? : ℕ → Bool) (vs blocked watched vs′ blocked′ watched′ : List ℕ) : Type 0 where
+  pub long : length watched′ ≡ length watched
+  pub still : (r : ℕ) → rangeBlocked blocked r ≡ true → rangeBlocked blocked′ r ≡ true
+  pub keeps : Right c true? vs blocked watched → Right c true? vs′ blocked′ watched′
+
+-- range r was: v is its verdict
+pub record RangeJudged (c : Catalogue) (true? : ℕ → Bool) (r v : ℕ) (vs blocked watched vs′ blocked′ watched′ : List ℕ) : Type 0 where
+  pub grows : Grows c true? vs blocked watched vs′ blocked′ watched′
+  pub says : Right c true? vs blocked watched → RangeSays c true? blocked′ r v
+
+-- condition x was
+pub record Judged (c : Catalogue) (true? : ℕ → Bool) (x v : ℕ) (vs blocked watched vs′ blocked′ watched′ : List ℕ) : Type 0 where
+  pub grows : Grows c true? vs blocked watched vs′ blocked′ watched′
+  pub says : Right c true? vs blocked watched → Says c true? blocked′ x v
+
+-- the left half tells of an `and` unless it holds, of an `or` if it does
+unfoldable pub toldByLeft : (operator first : ℕ) → Bool
+toldByLeft operator first = cond (eqb operator 0) (not (eqb first 1)) (eqb first 1)
+
+-- or else the right half tells; but not of an `or` that it is barred: the left half tells that
+unfoldable pub ofHalves : (operator first second : ℕ) → ℕ
+ofHalves operator first second = cond (eqb operator 0) second (cond (eqb second 2) first second)
 
 -- ---- part p is decided true
 
@@ -214,24 +199,12 @@ pub record RowBarred (lists blocked : List ℕ) (i : ℕ) : Type 0 where
 pub record RowBars (lists blocked : List ℕ) (i : ℕ) (b : Bool) : Type 0 where
   pub is : b ≡ true → RowBarred lists blocked i
 
--- ranges are blocked besides
-pub record Grows (c : Catalogue) (true? : ℕ → Bool) (blocked watched blocked′ watched′ : List ℕ) : Type 0 where
-  pub room : length blocked′ ≡ length blocked
-  pub long : length watched′ ≡ length watched
-  pub still : (r : ℕ) → rangeBlocked blocked r ≡ true → rangeBlocked blocked′ r ≡ true
-  pub keeps : Blocked c true? blocked watched → Blocked c true? blocked′ watched′
-
--- range r is if b is true
-pub record RangeBars (c : Catalogue) (true? : ℕ → Bool) (r : ℕ) (b : Bool) (blocked watched blocked′ watched′ : List ℕ) : Type 0 where
-  pub grows : Grows c true? blocked watched blocked′ watched′
-  pub is : b ≡ true → length blocked ≡ 768 → rangeBlocked blocked′ r ≡ true
-
--- a range of disjunct i of the lists is
-pub record DisjunctBars (c : Catalogue) (true? : ℕ → Bool) (lists : List ℕ) (i : ℕ) (b : Bool) (blocked watched blocked′ watched′ : List ℕ) : Type 0 where
-  pub grows : Grows c true? blocked watched blocked′ watched′
-  pub is : b ≡ true → length blocked ≡ 768 → RowBarred lists blocked′ i
+-- a range of disjunct i of the lists is blocked if b is true
+pub record DisjunctBars (c : Catalogue) (true? : ℕ → Bool) (lists : List ℕ) (i : ℕ) (b : Bool) (vs blocked watched vs′ blocked′ watched′ : List ℕ) : Type 0 where
+  pub grows : Grows c true? vs blocked watched vs′ blocked′ watched′
+  pub is : b ≡ true → Right c true? vs blocked watched → RowBarred lists blocked′ i
 
 -- a range of each disjunct of condition x is
-pub record EachBars (c : Catalogue) (true? : ℕ → Bool) (x : ℕ) (b : Bool) (blocked watched blocked′ watched′ : List ℕ) : Type 0 where
-  pub grows : Grows c true? blocked watched blocked′ watched′
-  pub barred : b ≡ true → length blocked ≡ 768 → Barred c (rangeBlocked blocked′) x
+pub record EachBars (c : Catalogue) (true? : ℕ → Bool) (x : ℕ) (b : Bool) (vs blocked watched vs′ blocked′ watched′ : List ℕ) : Type 0 where
+  pub grows : Grows c true? vs blocked watched vs′ blocked′ watched′
+  pub barred : b ≡ true → Right c true? vs blocked watched → Barred c (rangeBlocked blocked′) x

@@ -14,89 +14,7 @@ ghost use Rattle.state.specs.Layout.{held};
 ghost use Rattle.variable_map.specs.Mapping.{variables};
 ghost use Rattle.decision_tracker.specs.Tracking.{decisions};
 ghost use Rattle.goals.specs.Goals.{Catalogued, trueOf};
-ghost use Rattle.blocking.specs.Blocking.{Tells, toldByLeft, AsksRange, RangeAsked, Asks, Asked, PartsWatched, RangeWatched, Watched, Sees, Blocks, ReleasesRange, ReleasesRanges, ReleasesConditions, Releases, Listed, AllStand, Lists, Row, RowBars, RangeBars, DisjunctBars, EachBars};
-
-// ---- verdicts: 1, it holds, 2, it does not, and 0, it was not asked. That of condition x is at x, that of range r at 256 + r.
-
-// Verdict i is kept: whether it holds, which is given back.
-fn tell(known: &mut [u8; 768], i: usize, holds: bool) -> bool
-    requires { ⌜ i < 768 ⌝ }
-    ensures { λ r. ⌜ Tells i holds (now (known .entry)) r (now (known .exit)) ⌝ }
-{
-    if holds {
-        known[i] = 1;
-        return true;
-    }
-    known[i] = 2;
-    false
-}
-
-// Does range r hold? It is asked once.
-fn range_holds(
-    marks: &[u8],
-    unions: &[u8],
-    t: &[u8],
-    k: Counts,
-    s: &[u8],
-    l: Limits,
-    n: Counters,
-    known: &mut [u8; 768],
-    r: usize,
-) -> bool
-    requires { ⌜ AsksRange k (now marks) (now unions) (now t) l n (now s) (now known) r ⌝ }
-    ensures { λ b. ⌜ RangeAsked (catalogue k (now (marks .entry)) (now (unions .entry)) (now (t .entry))) (trueOf (variables (n .variables) (held l (now (s .entry)))) (decisions (n .decisions) (held l (now (s .entry))))) r b (now (known .entry)) (now (known .exit)) ⌝ }
-{
-    let place = 256 + r;
-    let v = known[place];
-    if v != 0 {
-        return v != 2;
-    }
-    let holds = goals::range_holds(marks, unions, t, k, s, l, n, r);
-    tell(known, place, holds)
-}
-
-// Does the left half alone tell? An `and` does not hold if its left half does not, and an `or` holds if it does.
-fn told_by_left(operator: u16, first: bool) -> bool
-    ensures { λ b. ⌜ b ≡ toldByLeft operator first ⌝ }
-{
-    if operator == 0 {
-        return !first;
-    }
-    first
-}
-
-// Does some disjunct of condition x hold? Its halves have smaller numbers; the right one is asked only where the left one leaves it open.
-fn some_holds(
-    marks: &[u8],
-    unions: &[u8],
-    t: &[u8],
-    k: Counts,
-    s: &[u8],
-    l: Limits,
-    n: Counters,
-    known: &mut [u8; 768],
-    x: usize,
-) -> bool
-    requires { ⌜ Asks k (now marks) (now unions) (now t) l n (now s) (now known) x ⌝ }
-    ensures { λ b. ⌜ Asked (catalogue k (now (marks .entry)) (now (unions .entry)) (now (t .entry))) (trueOf (variables (n .variables) (held l (now (s .entry)))) (decisions (n .decisions) (held l (now (s .entry))))) x b (now (known .entry)) (now (known .exit)) ⌝ }
-{
-    let v = known[x];
-    if v != 0 {
-        return v != 2;
-    }
-    let it = tables::condition_at(t, k, x);
-    let left = it.left as usize;
-    if it.operator == 2 {
-        return range_holds(marks, unions, t, k, s, l, n, known, left);
-    }
-    let right = it.right as usize;
-    let first = some_holds(marks, unions, t, k, s, l, n, known, left);
-    if told_by_left(it.operator, first) {
-        return tell(known, x, first);
-    }
-    let second = some_holds(marks, unions, t, k, s, l, n, known, right);
-    tell(known, x, second)
-}
+ghost use Rattle.blocking.specs.Blocking.{PartsWatched, Sees, Blocks, RangeBars, RangeJudged, toldByLeft, ofHalves, Judged, ReleasesRange, ReleasesRanges, ReleasesConditions, Releases, Listed, AllStand, Lists, Row, RowBars, DisjunctBars, EachBars};
 
 // ---- watched parts
 
@@ -129,50 +47,135 @@ fn watch_parts(
     left
 }
 
-// The same of a range that was asked and does not hold; of another nothing is watched.
-fn watch_range(
-    marks: &[u8],
-    unions: &[u8],
-    t: &[u8],
-    k: Counts,
-    known: &[u8; 768],
-    r: usize,
-    watched: &mut [u8; 1024],
-    most: usize,
-) -> usize
-    requires { ⌜ Catalogued k (now marks) (now unions) (now t) ⌝ }
-    requires { ⌜ (r < k .ranges) × (length (now watched) ≡ 1024) ⌝ }
-    ensures { λ left. ⌜ RangeWatched (catalogue k (now (marks .entry)) (now (unions .entry)) (now (t .entry))) (now (known .entry)) r left (now (watched .entry)) (now (watched .exit)) ⌝ }
-{
-    if known[256 + r] != 2 {
-        return most;
-    }
-    watch_parts(marks, unions, t, k, r, watched, most)
-}
+// ---- what is blocked: condition x at x, range r at 256 + r. 1, it is blocked, and 2, of a range, that it has too many matching parts to be watched.
 
-// The matching parts of all ranges that were asked and do not hold are watched, if they are 256 at most; whether they are.
-fn watch(
+// Is range r blocked, which does not hold? It is from now on if it has 64 matching parts at most.
+fn bar_range(
     marks: &[u8],
     unions: &[u8],
     t: &[u8],
     k: Counts,
-    known: &[u8; 768],
+    blocked: &mut [u8; 768],
     watched: &mut [u8; 1024],
+    r: usize,
 ) -> bool
     requires { ⌜ Catalogued k (now marks) (now unions) (now t) ⌝ }
-    requires { ⌜ length (now watched) ≡ 1024 ⌝ }
-    ensures { λ b. ⌜ Watched (catalogue k (now (marks .entry)) (now (unions .entry)) (now (t .entry))) (now (known .entry)) b (now (watched .entry)) (now (watched .exit)) ⌝ }
+    requires { ⌜ (r < k .ranges) × (length (now watched) ≡ 1024) ⌝ }
+    ensures { λ b. ⌜ RangeBars (catalogue k (now (marks .entry)) (now (unions .entry)) (now (t .entry))) r b (now (blocked .entry)) (now (watched .entry)) (now (blocked .exit)) (now (watched .exit)) ⌝ }
 {
-    let mut left = 257;
-    let mut r = 0;
-    while r < k.ranges {
-        if left == 0 {
-            return false;
-        }
-        left = watch_range(marks, unions, t, k, known, r, watched, left);
-        r += 1;
+    let place = 256 + r;
+    let flag = blocked[place];
+    if flag != 0 {
+        return flag == 1;
     }
-    left > 0
+    if watch_parts(marks, unions, t, k, r, watched, 65) == 0 {
+        blocked[place] = 2;
+        return false;
+    }
+    blocked[place] = 1;
+    true
+}
+
+// ---- verdicts: 0, it was not asked, 1, it holds, 2, it is barred, and 3, it does not hold. That of condition x is at x, that of range r at 256 + r.
+// A range is barred if it is blocked, and then only its flag says so; a condition if each disjunct has a blocked range.
+
+// The verdict of range r. It is asked once, and blocked if it does not hold and that can be watched.
+fn range_verdict(
+    marks: &[u8],
+    unions: &[u8],
+    t: &[u8],
+    k: Counts,
+    s: &[u8],
+    l: Limits,
+    n: Counters,
+    known: &mut [u8; 768],
+    blocked: &mut [u8; 768],
+    watched: &mut [u8; 1024],
+    r: usize,
+) -> u8
+    requires { ⌜ Sees k (now marks) (now unions) (now t) l n (now s) ⌝ }
+    requires { ⌜ (r < k .ranges) × (length (now watched) ≡ 1024) ⌝ }
+    ensures { λ v. ⌜ RangeJudged (catalogue k (now (marks .entry)) (now (unions .entry)) (now (t .entry))) (trueOf (variables (n .variables) (held l (now (s .entry)))) (decisions (n .decisions) (held l (now (s .entry))))) r v (now (known .entry)) (now (blocked .entry)) (now (watched .entry)) (now (known .exit)) (now (blocked .exit)) (now (watched .exit)) ⌝ }
+{
+    let place = 256 + r;
+    if blocked[place] == 1 {
+        return 2;
+    }
+    let v = known[place];
+    if v != 0 {
+        return v;
+    }
+    if goals::range_holds(marks, unions, t, k, s, l, n, r) {
+        known[place] = 1;
+        return 1;
+    }
+    if bar_range(marks, unions, t, k, blocked, watched, r) {
+        return 2;
+    }
+    known[place] = 3;
+    3
+}
+
+// Does the left half alone tell? An `and` does not hold if its left half does not, and an `or` holds if it does.
+fn told_by_left(operator: u16, first: u8) -> bool
+    ensures { λ b. ⌜ b ≡ toldByLeft operator first ⌝ }
+{
+    if operator == 0 {
+        return first != 1;
+    }
+    first == 1
+}
+
+// The verdict of a condition whose left half leaves it open: the right one tells. But an `or` is barred only if both are.
+fn of_halves(operator: u16, first: u8, second: u8) -> u8
+    ensures { λ v. ⌜ v ≡ ofHalves operator first second ⌝ }
+{
+    if operator == 0 {
+        return second;
+    }
+    if second == 2 {
+        return first;
+    }
+    second
+}
+
+// The verdict of condition x. Its halves have smaller numbers; the right one is asked only where the left one leaves it open.
+fn condition_verdict(
+    marks: &[u8],
+    unions: &[u8],
+    t: &[u8],
+    k: Counts,
+    s: &[u8],
+    l: Limits,
+    n: Counters,
+    known: &mut [u8; 768],
+    blocked: &mut [u8; 768],
+    watched: &mut [u8; 1024],
+    x: usize,
+) -> u8
+    requires { ⌜ Sees k (now marks) (now unions) (now t) l n (now s) ⌝ }
+    requires { ⌜ (x < k .conditions) × (length (now watched) ≡ 1024) ⌝ }
+    ensures { λ v. ⌜ Judged (catalogue k (now (marks .entry)) (now (unions .entry)) (now (t .entry))) (trueOf (variables (n .variables) (held l (now (s .entry)))) (decisions (n .decisions) (held l (now (s .entry))))) x v (now (known .entry)) (now (blocked .entry)) (now (watched .entry)) (now (known .exit)) (now (blocked .exit)) (now (watched .exit)) ⌝ }
+{
+    let v = known[x];
+    if v != 0 {
+        return v;
+    }
+    let it = tables::condition_at(t, k, x);
+    let left = it.left as usize;
+    if it.operator == 2 {
+        return range_verdict(marks, unions, t, k, s, l, n, known, blocked, watched, left);
+    }
+    let right = it.right as usize;
+    let first = condition_verdict(marks, unions, t, k, s, l, n, known, blocked, watched, left);
+    if told_by_left(it.operator, first) {
+        known[x] = first;
+        return first;
+    }
+    let second = condition_verdict(marks, unions, t, k, s, l, n, known, blocked, watched, right);
+    let both = of_halves(it.operator, first, second);
+    known[x] = both;
+    both
 }
 
 // ---- the disjuncts of one condition, listed: range j of disjunct i at 16 i + j, the number of its ranges at 1024 + i, and at 1088 the condition, plus 1, or 0.
@@ -236,7 +239,7 @@ fn note_judged(t: &[u8], k: Counts, c: usize, lists: &mut [u16; 1091])
     }
 }
 
-// ---- blocked ranges: range r at 256 + r is 1 if it is blocked: all its matching parts are watched
+// ---- a condition by its list
 
 // Is some range of disjunct i of the lists blocked?
 fn some_barred(blocked: &[u8; 768], lists: &[u16; 1091], i: usize) -> bool
@@ -255,38 +258,6 @@ fn some_barred(blocked: &[u8; 768], lists: &[u16; 1091], i: usize) -> bool
     false
 }
 
-// Range r is asked, once in a draw: it is blocked if it does not hold and has 64 matching parts at most; whether it is.
-fn bar_range(
-    marks: &[u8],
-    unions: &[u8],
-    t: &[u8],
-    k: Counts,
-    s: &[u8],
-    l: Limits,
-    n: Counters,
-    blocked: &mut [u8; 768],
-    watched: &mut [u8; 1024],
-    asked: &mut [u8; 512],
-    r: usize,
-) -> bool
-    requires { ⌜ Sees k (now marks) (now unions) (now t) l n (now s) ⌝ }
-    requires { ⌜ (r < k .ranges) × (length (now watched) ≡ 1024) ⌝ }
-    ensures { λ b. ⌜ RangeBars (catalogue k (now (marks .entry)) (now (unions .entry)) (now (t .entry))) (trueOf (variables (n .variables) (held l (now (s .entry)))) (decisions (n .decisions) (held l (now (s .entry))))) r b (now (blocked .entry)) (now (watched .entry)) (now (blocked .exit)) (now (watched .exit)) ⌝ }
-{
-    if asked[r] == 1 {
-        return false;
-    }
-    asked[r] = 1;
-    if goals::range_holds(marks, unions, t, k, s, l, n, r) {
-        return false;
-    }
-    if watch_parts(marks, unions, t, k, r, watched, 65) == 0 {
-        return false;
-    }
-    blocked[256 + r] = 1;
-    true
-}
-
 // The ranges of disjunct i of the lists are asked until one is blocked; whether one is.
 fn bar_some(
     marks: &[u8],
@@ -296,22 +267,22 @@ fn bar_some(
     s: &[u8],
     l: Limits,
     n: Counters,
+    known: &mut [u8; 768],
     blocked: &mut [u8; 768],
     watched: &mut [u8; 1024],
-    asked: &mut [u8; 512],
     lists: &[u16; 1091],
     i: usize,
 ) -> bool
     requires { ⌜ Sees k (now marks) (now unions) (now t) l n (now s) ⌝ }
     requires { ⌜ Row (k .ranges) (now lists) i ⌝ }
     requires { ⌜ length (now watched) ≡ 1024 ⌝ }
-    ensures { λ b. ⌜ DisjunctBars (catalogue k (now (marks .entry)) (now (unions .entry)) (now (t .entry))) (trueOf (variables (n .variables) (held l (now (s .entry)))) (decisions (n .decisions) (held l (now (s .entry))))) (now (lists .entry)) i b (now (blocked .entry)) (now (watched .entry)) (now (blocked .exit)) (now (watched .exit)) ⌝ }
+    ensures { λ b. ⌜ DisjunctBars (catalogue k (now (marks .entry)) (now (unions .entry)) (now (t .entry))) (trueOf (variables (n .variables) (held l (now (s .entry)))) (decisions (n .decisions) (held l (now (s .entry))))) (now (lists .entry)) i b (now (known .entry)) (now (blocked .entry)) (now (watched .entry)) (now (known .exit)) (now (blocked .exit)) (now (watched .exit)) ⌝ }
 {
     let len = lists[1024 + i] as usize;
     let mut j = 0;
     while j < len {
         let r = lists[16 * i + j] as usize;
-        if bar_range(marks, unions, t, k, s, l, n, blocked, watched, asked, r) {
+        if range_verdict(marks, unions, t, k, s, l, n, known, blocked, watched, r) == 2 {
             return true;
         }
         j += 1;
@@ -328,16 +299,16 @@ fn bar_disjunct(
     s: &[u8],
     l: Limits,
     n: Counters,
+    known: &mut [u8; 768],
     blocked: &mut [u8; 768],
     watched: &mut [u8; 1024],
-    asked: &mut [u8; 512],
     lists: &[u16; 1091],
     i: usize,
 ) -> bool
     requires { ⌜ Sees k (now marks) (now unions) (now t) l n (now s) ⌝ }
     requires { ⌜ Row (k .ranges) (now lists) i ⌝ }
     requires { ⌜ length (now watched) ≡ 1024 ⌝ }
-    ensures { λ b. ⌜ DisjunctBars (catalogue k (now (marks .entry)) (now (unions .entry)) (now (t .entry))) (trueOf (variables (n .variables) (held l (now (s .entry)))) (decisions (n .decisions) (held l (now (s .entry))))) (now (lists .entry)) i b (now (blocked .entry)) (now (watched .entry)) (now (blocked .exit)) (now (watched .exit)) ⌝ }
+    ensures { λ b. ⌜ DisjunctBars (catalogue k (now (marks .entry)) (now (unions .entry)) (now (t .entry))) (trueOf (variables (n .variables) (held l (now (s .entry)))) (decisions (n .decisions) (held l (now (s .entry))))) (now (lists .entry)) i b (now (known .entry)) (now (blocked .entry)) (now (watched .entry)) (now (known .exit)) (now (blocked .exit)) (now (watched .exit)) ⌝ }
 {
     if some_barred(blocked, lists, i) {
         return true;
@@ -350,9 +321,9 @@ fn bar_disjunct(
         s,
         l,
         n,
+        known,
         blocked,
         watched,
-        asked,
         lists,
         i,
     )
@@ -368,6 +339,7 @@ fn each_barred(
     l: Limits,
     n: Counters,
     c: usize,
+    known: &mut [u8; 768],
     blocked: &mut [u8; 768],
     watched: &mut [u8; 1024],
     lists: &[u16; 1091],
@@ -375,9 +347,8 @@ fn each_barred(
     requires { ⌜ Sees k (now marks) (now unions) (now t) l n (now s) ⌝ }
     requires { ⌜ (c < k .conditions) × (length (now watched) ≡ 1024) ⌝ }
     requires { ⌜ AllStand (tables k (now t) .conditions) (now lists) c ⌝ }
-    ensures { λ b. ⌜ EachBars (catalogue k (now (marks .entry)) (now (unions .entry)) (now (t .entry))) (trueOf (variables (n .variables) (held l (now (s .entry)))) (decisions (n .decisions) (held l (now (s .entry))))) c b (now (blocked .entry)) (now (watched .entry)) (now (blocked .exit)) (now (watched .exit)) ⌝ }
+    ensures { λ b. ⌜ EachBars (catalogue k (now (marks .entry)) (now (unions .entry)) (now (t .entry))) (trueOf (variables (n .variables) (held l (now (s .entry)))) (decisions (n .decisions) (held l (now (s .entry))))) c b (now (known .entry)) (now (blocked .entry)) (now (watched .entry)) (now (known .exit)) (now (blocked .exit)) (now (watched .exit)) ⌝ }
 {
-    let mut asked = [0u8; 512];
     let count = conditions::count(t, k, c);
     let mut i = 0;
     while i < count {
@@ -389,9 +360,9 @@ fn each_barred(
             s,
             l,
             n,
+            known,
             blocked,
             watched,
-            &mut asked,
             lists,
             i,
         ) {
@@ -412,6 +383,7 @@ fn barred_by_lists(
     l: Limits,
     n: Counters,
     c: usize,
+    known: &mut [u8; 768],
     blocked: &mut [u8; 768],
     watched: &mut [u8; 1024],
     lists: &[u16; 1091],
@@ -419,12 +391,25 @@ fn barred_by_lists(
     requires { ⌜ Sees k (now marks) (now unions) (now t) l n (now s) ⌝ }
     requires { ⌜ (c < k .conditions) × (length (now watched) ≡ 1024) ⌝ }
     requires { ⌜ Listed (tables k (now t) .conditions) (now lists) ⌝ }
-    ensures { λ b. ⌜ EachBars (catalogue k (now (marks .entry)) (now (unions .entry)) (now (t .entry))) (trueOf (variables (n .variables) (held l (now (s .entry)))) (decisions (n .decisions) (held l (now (s .entry))))) c b (now (blocked .entry)) (now (watched .entry)) (now (blocked .exit)) (now (watched .exit)) ⌝ }
+    ensures { λ b. ⌜ EachBars (catalogue k (now (marks .entry)) (now (unions .entry)) (now (t .entry))) (trueOf (variables (n .variables) (held l (now (s .entry)))) (decisions (n .decisions) (held l (now (s .entry))))) c b (now (known .entry)) (now (blocked .entry)) (now (watched .entry)) (now (known .exit)) (now (blocked .exit)) (now (watched .exit)) ⌝ }
 {
     if lists[1088] != c as u16 + 1 {
         return false;
     }
-    each_barred(marks, unions, t, k, s, l, n, c, blocked, watched, lists)
+    each_barred(
+        marks,
+        unions,
+        t,
+        k,
+        s,
+        l,
+        n,
+        c,
+        known,
+        blocked,
+        watched,
+        lists,
+    )
 }
 
 // ---- part p is decided true
@@ -475,45 +460,9 @@ pub fn release(marks: &[u8], k: Counts, blocked: &mut [u8; 768], watched: &mut [
     watched[p] = 0;
 }
 
-// ---- conditions: 1, it is blocked, and 2, the parts that it waits for are too many to be watched
+// ---- a condition
 
-// Does no disjunct of condition c hold? It is judged by its halves. If none does it is blocked, if the parts that it waits for can be watched.
-fn judge(
-    marks: &[u8],
-    unions: &[u8],
-    t: &[u8],
-    k: Counts,
-    s: &[u8],
-    l: Limits,
-    n: Counters,
-    c: usize,
-    blocked: &mut [u8; 768],
-    watched: &mut [u8; 1024],
-    lists: &mut [u16; 1091],
-) -> bool
-    requires { ⌜ Sees k (now marks) (now unions) (now t) l n (now s) ⌝ }
-    requires { ⌜ (c < k .conditions) × (length (now watched) ≡ 1024) ⌝ }
-    requires { ⌜ Listed (tables k (now t) .conditions) (now lists) ⌝ }
-    ensures { λ b. ⌜ Blocks (catalogue k (now (marks .entry)) (now (unions .entry)) (now (t .entry))) (trueOf (variables (n .variables) (held l (now (s .entry)))) (decisions (n .decisions) (held l (now (s .entry))))) c b (now (blocked .entry)) (now (watched .entry)) (now (blocked .exit)) (now (watched .exit)) ⌝ }
-    ensures { λ _. ⌜ Listed (tables k (now (t .entry)) .conditions) (now (lists .exit)) ⌝ }
-{
-    let mut known = [0u8; 768];
-    if some_holds(marks, unions, t, k, s, l, n, &mut known, c) {
-        return false;
-    }
-    if blocked[c] == 2 {
-        return true;
-    }
-    if watch(marks, unions, t, k, &known, watched) {
-        blocked[c] = 1;
-        note_judged(t, k, c, lists);
-        return true;
-    }
-    blocked[c] = 2;
-    true
-}
-
-// Does no disjunct of condition c hold? Then it is blocked, if the parts that it waits for can be watched.
+// Does no disjunct of condition c hold? It is judged by its list or by its halves, and blocked if it is barred.
 pub fn blocks(
     marks: &[u8],
     unions: &[u8],
@@ -536,9 +485,41 @@ pub fn blocks(
     if blocked[c] == 1 {
         return true;
     }
-    if barred_by_lists(marks, unions, t, k, s, l, n, c, blocked, watched, lists) {
+    let mut known = [0u8; 768];
+    if barred_by_lists(
+        marks,
+        unions,
+        t,
+        k,
+        s,
+        l,
+        n,
+        c,
+        &mut known,
+        blocked,
+        watched,
+        lists,
+    ) {
         blocked[c] = 1;
         return true;
     }
-    judge(marks, unions, t, k, s, l, n, c, blocked, watched, lists)
+    let v = condition_verdict(
+        marks,
+        unions,
+        t,
+        k,
+        s,
+        l,
+        n,
+        &mut known,
+        blocked,
+        watched,
+        c,
+    );
+    if v == 2 {
+        blocked[c] = 1;
+        note_judged(t, k, c, lists);
+        return true;
+    }
+    v != 1
 }

@@ -8,15 +8,16 @@ use Rattle.decision_tracker.specs.Tracking.{decisions}
 use Rattle.goals.specs.Goals.{trueOf}
 use Rattle.blocking.specs.Blocking.{Grows}
 use native.Mathlib.Omega.{arith}
-use Rattle.blocking.proofs.Bars.{row-there, grows-same, some-room, some-step, disjunct-here, disjunct-not}
+use Rattle.blocking.proofs.Bars.{row-there, some-room, some-step, disjunct-here, disjunct-not}
+use Rattle.blocking.proofs.Verdicts.{grows-same}
 use Rattle.blocking.proofs.bar_some.Statement.{statement}
 use Rattle.blocking.proofs.bar_some.Tie as tie
 
 abbrev Inv-loop : tie.InvT-loop
-Inv-loop marks unions t k s l n blocked₀ watched₀ asked₀ lists i len j₀ blocked watched asked j = Grows (catalogue k marks unions t) (trueOf (variables (n .variables) (held l s)) (decisions (n .decisions) (held l s))) blocked₀ watched₀ blocked watched
+Inv-loop marks unions t k s l n known₀ blocked₀ watched₀ lists i len j₀ known blocked watched j = Grows (catalogue k marks unions t) (trueOf (variables (n .variables) (held l s)) (decisions (n .decisions) (held l s))) known₀ blocked₀ watched₀ known blocked watched
 
 abbrev μ-loop : tie.MeasureT-loop
-μ-loop marks unions t k s l n blocked₀ watched₀ asked₀ lists i len j₀ blocked watched asked j = len - j
+μ-loop marks unions t k s l n known₀ blocked₀ watched₀ lists i len j₀ known blocked watched j = len - j
 
 add-len : tie.Need-add-len Inv-loop μ-loop
 add-len c = search needs
@@ -48,8 +49,8 @@ element-copy-out-r c = search needs
 cast-r : tie.Need-cast-r Inv-loop μ-loop
 cast-r c = let p = (c .before .before .before .before .before .before .before .before .pre) in omega (arith, p .1 .0 .given (c .before .before .loop .j) (c .before .loop-test .taken), p .0 .catalogued .kept .held .laid .ranges)
 
-bar-range-requires : tie.Need-bar-range-requires Inv-loop μ-loop
-bar-range-requires c κs = (search needs, (search (needs, row-there), search (needs, some-room)))
+range-verdict-requires : tie.Need-range-verdict-requires Inv-loop μ-loop
+range-verdict-requires c κs = (search needs, (search (needs, row-there), search (needs, some-room)))
 
 returns : tie.Need-returns Inv-loop μ-loop
 returns c = search (needs, disjunct-here)
@@ -82,7 +83,7 @@ bar-some-spec =
     mul-r-2
     element-copy-out-r
     cast-r
-    bar-range-requires
+    range-verdict-requires
     returns
     add-j
     loop-less
