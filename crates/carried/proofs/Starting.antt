@@ -1,6 +1,5 @@
 -- A state area that was cleared, with the root's variable, and the clauses' area with install, hold the state at the start.
 use mathlib.Core.Path.{_≡_, refl}
-use mathlib.Core.Bool.{false}
 use mathlib.Core.List.{List, [], _∷_}
 use Prim.Native.Nat.{ℕ, _+_, _<_, _≤_, zero-le}
 use native.Mathlib.Omega.{arith}
