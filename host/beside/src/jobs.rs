@@ -2,7 +2,7 @@
 
 use std::{
     fs,
-    iter::repeat_n,
+    iter::{once, repeat_n},
     ops::{Range, RangeInclusive},
 };
 
@@ -177,6 +177,9 @@ fn slow_jobs() -> Vec<Job> {
     ));
     jobs.push(job("draws of a deep condition", draws_of_a_deep_condition()));
     jobs.push(job("draws of watched parts", draws_of_watched_parts()));
+    jobs.push(job("decisions", decided_in_turn(0)));
+    jobs.push(job("a draw a decision", decided_in_turn(1)));
+    jobs.push(job("eight draws a decision", decided_in_turn(8)));
     jobs.push(job("waiting of all conditions", waiting_of_all_conditions()));
     // What follows makes no clause: a branch's limits do.
     let empty_runs = job_of(vec![Record::Run { level: 1 }; 21_845]);
@@ -585,6 +588,33 @@ fn draws_of_watched_parts() -> Vec<Record> {
     let (records, condition) = deep_condition(0..=64);
     let both = |first| [65, first].map(|variable| drawn_and_undone(variable, condition));
     filled_up(records, (1..=64).flat_map(both).flatten().collect())
+}
+
+/// 64 entries wait, each on two ranges of one part. One part after another is decided to be in the kit,
+/// so many conditions are drawn, its own first, and the decision is taken back: no entry ever holds.
+fn decided_in_turn(draws: u16) -> Vec<Record> {
+    const PAIRS: u16 = 64;
+    const OF_PAIRS: u16 = 2 * PAIRS;
+    let mut records = vec![Record::Name { flags: 1 }];
+    records.extend(repeat_n(part(0, 0), OF_PAIRS as usize));
+    records.extend(repeat_n(Record::Range { name: 0 }, OF_PAIRS as usize));
+    records.extend((0..OF_PAIRS).map(|at| Record::Member { range: at, part: at }));
+    records.extend((0..OF_PAIRS).map(|range| Record::Leaf { range }));
+    let both = |left| Record::Joined { operator: 0, left, right: left + 1 };
+    records.extend((0..OF_PAIRS).step_by(2).map(both));
+    // The parts get the variables from 1 on.
+    records.extend((0..OF_PAIRS).map(|range| requirement(ROOT, range)));
+    let waiting =
+        |pair| Record::Requirement { owner: ROOT, form: 0, number: 0, condition: OF_PAIRS + pair };
+    records.extend((0..PAIRS).map(waiting));
+    records.extend(run_of_root());
+    let round = |at: u16| {
+        let drawn = (0..draws).map(move |next| OF_PAIRS + (at / 2 + next) % PAIRS);
+        let decide = Record::Decide { variable: 1 + at, value: 1, level: 1 };
+        let draw = drawn.map(|condition| Record::Draw { condition });
+        once(decide).chain(draw).chain([Record::Undo { level: 0 }])
+    };
+    filled_up(records, (0..OF_PAIRS).flat_map(round).collect())
 }
 
 fn drawn_and_undone(variable: u16, condition: u16) -> [Record; 3] {
