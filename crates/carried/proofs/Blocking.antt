@@ -4,7 +4,8 @@ use mathlib.Core.Logic.{_≢_, inl, inr, ⊎-elim}
 use mathlib.Core.Bool.{Bool, true, false, _&&_, cond, true≢false}
 use mathlib.Core.List.{List, []}
 use mathlib.Core.Option.{Option, none, some}
-use Prim.Native.Nat.{ℕ, _<_}
+use Prim.Native.Nat.{ℕ, _<_, _≤_}
+use native.Mathlib.Omega.{arith}
 use lib.Dec.{eqb}
 use lib.ListN.{length, getD}
 use borrow.Author.Tests.{eqb-true, ne-eqb}
@@ -31,8 +32,6 @@ use Rattle.reader.specs.declared.Command as code
 use Rattle.reader.specs.declared.Command.the-variants as C
 use Rattle.reader.specs.Reading.{commandOf}
 use Rattle.tables.specs.declared.Counts.{Counts}
-use Rattle.state.specs.declared.Limits.{Limits}
-use Rattle.encoder.specs.declared.Counters.{Counters}
 use Rattle.cache.specs.Areas.{catalogue}
 use Rattle.cache.proofs.Laws.{conditions-held}
 use Rattle.entries.specs.Deferred.{isHeld}
@@ -40,9 +39,9 @@ use Rattle.variable_map.specs.declared.Origin as code-origin
 use Rattle.variable_map.specs.Mapping.{originBy, originOf}
 use Rattle.goals.specs.Goals.{trueOf, AllGiven}
 use Rattle.goals.proofs.Given.{all-given}
-use Rattle.blocking.specs.Blocking.{Sees, Blocked, Blocks, Releases}
+use Rattle.blocking.specs.Blocking.{Blocked, Blocks, Releases}
 use Rattle.blocking.proofs.Watching.{held-inside}
-use Rattle.blocking.proofs.Blocking.{blocks-known, blocked-still}
+use Rattle.blocking.proofs.Blocking.{one-blocked, blocked-fails, blocked-still}
 use Rattle.commands.specs.Commands.{Idle}
 use Rattle.commands.proofs.Idling.{idle-draw}
 use Rattle.carried.specs.Carrying.{Settled, Has, Guards, Idles, IsFlagged, MakesTrue, Unblocks}
@@ -118,9 +117,12 @@ blocked-in {v = v} h e = record { is = λ q. inr (h, sym e ∙ eqb-true v 1 q) }
 pub flagged-out : {flags blocked : List ℕ} {conditions k : ℕ} → IsFlagged flags blocked conditions k false
 flagged-out = record { is = λ e. absurd (true≢false (sym e)) }
 
-pub idles-flagged : (j : Counts) (m u t : List ℕ) {vs : List Origin} {ds : List Decision} (k : ℕ) {flags blocked watched : List ℕ} {b : Bool} {l : Limits} (n : Counters) {s : List ℕ} → Sees j m u t l n s
+pub idles-flagged : (j : Counts) (m u t : List ℕ) {vs : List Origin} {ds : List Decision} (k : ℕ) {flags blocked watched : List ℕ} {b : Bool} → j .conditions ≤ 256
     → IsFlagged flags blocked (j .conditions) k b → b ≡ true → Idles (catalogue j m u t) vs ds (Command.draw k) flags blocked watched true blocked watched
-idles-flagged j m u t k n y f q = ⊎-elim (λ e. idles-settled k refl e) (λ e. idles-given j m u t k (e .0) (blocks-known j m u t y (e .0) (e .1))) (f .is q)
+idles-flagged j m u t k {blocked = blocked} few f q = ⊎-elim (λ e. idles-settled k refl e) (λ e. idles-given j m u t k (e .0) (known (e .0) (e .1))) (f .is q)
+  where
+    known : {true? : ℕ → Bool} {watched : List ℕ} → k < j .conditions → getD blocked k 0 ≡ 1 → Blocks (catalogue j m u t) true? k true blocked watched blocked watched
+    known h e = record { none = λ _ w. blocked-fails w k (omega arith) (one-blocked blocked k e); keeps = λ w. w }
 
 -- ---- the code's decision
 

@@ -27,7 +27,7 @@ is-flagged-requires : tie.Need-is-flagged-requires
 is-flagged-requires c κs = search needs
 
 returns : tie.Need-returns
-returns c = let p = (c .before .before .before .before .before .before .before .before .before .before .before .before .before .pre) in (read-carried (c .before .before .before .before .command .given .1) (settled-passes (idles-draw _ _ (c .before .before .before .before .command .given .1) (idles-flagged _ _ _ _ _ (c .before .before .before .before .before .before .before .before .before .before .before .before .before .args .n) (record { catalogued = p .0; fits = p .1 .0; mapped = p .1 .1 .0 .holds .good .state .mapped; kept = p .1 .1 .0 .holds .good .state .kept }) (c .before .is-flagged .ensures) (c .if1 .taken))) refl), (next-carried (after-carried (p .1 .1 .1 .1 .0)) refl, p .1 .1 .1 .1 .1 .1))
+returns c = let p = (c .before .before .before .before .before .before .before .before .before .before .before .before .before .pre) in (read-carried (c .before .before .before .before .command .given .1) (settled-passes (idles-draw _ _ (c .before .before .before .before .command .given .1) (idles-flagged _ _ _ _ _ (search needs) (c .before .is-flagged .ensures) (c .if1 .taken))) refl), (next-carried (after-carried (p .1 .1 .1 .1 .0)) refl, p .1 .1 .1 .1 .1 .1))
 
 carry-other-requires-2 : tie.Need-carry-other-requires-2
 carry-other-requires-2 c κs = search needs
