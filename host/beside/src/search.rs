@@ -1,10 +1,10 @@
-//! Looks for slow jobs: those of the bench are changed at random, record by record, and a change stays
-//! where the job takes longer with it.
+//! Jobs of the bench changed at random, record by record: to look for slow ones, where a change stays
+//! if the job takes longer with it, and to compare long sheets with the Rust.
 
 use std::{ops::Range, time::Duration};
 
 use compare::random::Random;
-use job::{limits::JOB_CEILING, record::body_length};
+use job::{answer::Request, limits::JOB_CEILING, record::body_length};
 use kit::{Kit, Limits};
 
 use crate::{clock::timed, jobs};
@@ -16,8 +16,31 @@ const LISTING: usize = 16 << 20;
 /// A job that takes less is not timed again.
 const SHORT: Duration = Duration::from_micros(200);
 
+/// Jobs of long sheets that the Rust carries out in milliseconds.
+const LONG_SHEETS: [&str; 7] = [
+    "draws of watched parts",
+    "draws of a deep condition",
+    "decisions",
+    "a draw a decision",
+    "eight draws a decision",
+    "draws after decisions",
+    "small runs",
+];
+
 /// The records of a job, each with its kind first.
 pub type Records = Vec<Vec<u8>>;
+
+/// So many jobs, each one of long sheets with up to four changes.
+pub fn changed(seed: u64, count: usize) -> impl Iterator<Item = Request> {
+    let all = jobs::all().into_iter().filter(|job| LONG_SHEETS.contains(&job.name.as_str()));
+    let sheets: Vec<Records> = all.map(|job| records_of(&job.request.job)).collect();
+    (0..count).map(move |at| {
+        let mut random = Random::new(seed, at as u64);
+        let mut records = sheets[at % sheets.len()].clone();
+        (0..random.between(1, 4)).for_each(|_| change(&mut records, &mut random));
+        Request { job: records.concat(), limits: Limits::CEILINGS, listing_area: 1 << 20 }
+    })
+}
 
 /// A job that was found, and the job of the bench that it comes of.
 pub struct Slow {

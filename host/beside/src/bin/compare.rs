@@ -1,11 +1,12 @@
 //! `compare SIDE random SEED COUNT` sets a side beside the Rust on generated jobs; `compare SIDE short
 //! LENGTH`, on all jobs of up to so many records of a small stock; `compare SIDE sheets LENGTH`, on all
 //! sheets of up to so many records for one catalogue; `compare SIDE bytes LENGTH`, on all jobs of up
-//! to so many bytes. SIDE is `kit`, `model`, or a misreading of the model.
+//! to so many bytes; `compare SIDE changed SEED COUNT`, on changed jobs of long sheets. SIDE is `kit`,
+//! `model`, or a misreading of the model.
 
 use std::process::ExitCode;
 
-use beside::side::Kit;
+use beside::{search, side::Kit};
 use compare::{
     comparison::{compare, smallest},
     generate::{self, short},
@@ -14,13 +15,14 @@ use compare::{
 use job::answer::{Request, Side};
 
 const USAGE: &str =
-    "usage: compare kit|model|MISREADING (random SEED COUNT | short|sheets|bytes LENGTH)";
+    "usage: compare kit|model|MISREADING (random|changed SEED COUNT | short|sheets|bytes LENGTH)";
 
 fn main() -> ExitCode {
     let arguments: Vec<String> = std::env::args().skip(1).collect();
     let words: Vec<&str> = arguments.iter().map(String::as_str).collect();
     match words[..] {
         [side, "random", seed, count] => run(side, generate::varied(number(seed), number(count))),
+        [side, "changed", seed, count] => run(side, search::changed(number(seed), number(count))),
         [side, "short", length] => run(side, short::all(number(length))),
         [side, "sheets", length] => run(side, short::all_sheets(number(length))),
         [side, "bytes", length] => run(side, short::all_bytes(number(length))),
