@@ -9,7 +9,7 @@ use native.Mathlib.Decide.{ℕ-discrete, decLt}
 use lib.Dec.{eqb}
 use lib.ListN.{length, getD, set, take, drop, replicate, length-set, length-replicate, getD-replicate}
 use lib.Seq.{getD-set-same, getD-set-other}
-use borrow.Author.Tests.{eqb-true}
+use borrow.Author.Tests.{eqb-true, not-false}
 use Rattle.words.specs.Words.{words, words-in}
 use Rattle.tables.specs.declared.Counts.{Counts}
 use Rattle.tables.specs.Tables.{tables, Laid}
@@ -87,10 +87,6 @@ union-of-row k u i m g h e =
 
 -- ---- a row that is repeated
 
-was-true : (b : Bool) → not b ≡ false → b ≡ true
-was-true true e = refl
-was-true false e = absurd (true≢false e)
-
 -- the same word is the same row
 pub same-words : (n : ℕ) (u : List ℕ) (i j v w : ℕ) → i < n → j < n → v ≡ getD (words u) (2 * i) 0 → w ≡ getD (words u) (2 * j) 0
     → SameRow (rows n u) i j (eqb v w)
@@ -122,9 +118,9 @@ module _ (rs : List Row) (i : ℕ) (h : i < length rs) where
           let e3 : i - 2 + 1 ≡ i - 1 = omega arith in
           let e4 : i - 1 + 1 ≡ i = omega arith in
           let n1 = rw e1 at (one-like (i - 4) (omega arith) (s .same s′)) in
-          let n2 = rw e2 at (one-like (i - 3) (omega arith) (r .same (was-true _ r′))) in
-          let n3 = rw e3 at (one-like (i - 2) (omega arith) (q .same (was-true _ q′))) in
-          let n4 = rw e4 at (one-like (i - 1) (omega arith) (p .same (was-true _ p′))) in
+          let n2 = rw e2 at (one-like (i - 3) (omega arith) (r .same (not-false _ r′))) in
+          let n3 = rw e3 at (one-like (i - 2) (omega arith) (q .same (not-false _ q′))) in
+          let n4 = rw e4 at (one-like (i - 1) (omega arith) (p .same (not-false _ p′))) in
           record { often = omega arith }
 
 pub inside-rows : (n : ℕ) (u : List ℕ) (i : ℕ) → i < n → i < length (rows n u)
@@ -225,7 +221,7 @@ module _ (k : Counts) (t u : List ℕ) (i : ℕ) (u′ : List ℕ) (x first : �
   module _ {b : Bool} (z : Repeated (rows (k .members) u) i b) (p : not b ≡ false) where
     same-heads : (y : ℕ) → y < k .unions → Passes k all y i (getD (words t) (11652 + 3 * y) 0)
     same-heads y h = elim (ℕ-discrete y x) [
-      | yes q ↦ rw q (passes-over to-row-i (rw (o .is) (z .idle (was-true _ p))) (d .heads x (o .low)))
+      | yes q ↦ rw q (passes-over to-row-i (rw (o .is) (z .idle (not-false _ p))) (d .heads x (o .low)))
       | no q ↦ past-other y h q
     ]
 

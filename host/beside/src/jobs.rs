@@ -18,7 +18,7 @@ use job::{
 use crate::slow;
 
 /// Room for the listings of all these jobs that are not refused.
-const LISTING: usize = 16 << 20;
+pub const LISTING: usize = 16 << 20;
 
 pub struct Job {
     pub name: String,

@@ -11,8 +11,6 @@ use crate::{clock::timed, jobs};
 
 /// The first kind of a sheet record.
 const SHEET: u8 = 32;
-/// A listing area in which every listing of such a job has room.
-const LISTING: usize = 16 << 20;
 /// A job that takes less is not timed again.
 const SHORT: Duration = Duration::from_micros(200);
 
@@ -59,7 +57,7 @@ pub struct Search {
 impl Search {
     /// From the jobs of the bench.
     pub fn new(seed: u64) -> Self {
-        let mut kit = Kit::with_listing_area(LISTING);
+        let mut kit = Kit::with_listing_area(jobs::LISTING);
         let of_job = |job: jobs::Job| {
             let records = records_of(&job.request.job);
             Slow { time: time(&mut kit, &records), name: job.name, records }
