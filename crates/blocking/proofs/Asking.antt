@@ -22,7 +22,6 @@ use Rattle.conditions.proofs.Sizing.{row-leaf, row-joined, and-when, or-when}
 use Rattle.cache.specs.Areas.{catalogue}
 use Rattle.cache.proofs.Laws.{ranges-held, conditions-held, conditions-same}
 use Rattle.state.specs.declared.Limits.{Limits}
-use Rattle.encoder.specs.declared.Counters.{Counters}
 use Rattle.blocking.specs.Blocking.{Sees, Says, RangeJudged, Judged, toldByLeft, ofHalves}
 use Rattle.blocking.proofs.Barring.{barred-leaf, barred-or, barred-left, barred-right}
 use Rattle.blocking.proofs.Verdicts.{says-more, grows-then, judged-known, judged-kept}
@@ -91,7 +90,7 @@ module _ (k : Counts) (m u t : List ℕ) where
   abbrev C : Catalogue
   C = catalogue k m u t
 
-  module _ {l : Limits} {n : Counters} {s : List ℕ} (q : Sees k m u t l n s) {x : ℕ} (g : x < k .conditions) where
+  module _ {l : Limits} {nv nd : ℕ} {s : List ℕ} (q : Sees k m u t l nv nd s) {x : ℕ} (g : x < k .conditions) where
     pub condition-low : x < 256
     condition-low = omega (arith, q .catalogued .kept .held .laid .conditions)
 

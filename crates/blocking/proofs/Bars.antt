@@ -21,7 +21,6 @@ use Rattle.conditions.specs.Sizes.{Counted}
 use Rattle.cache.specs.Areas.{catalogue}
 use Rattle.cache.proofs.Laws.{ranges-held, conditions-held, conditions-same}
 use Rattle.state.specs.declared.Limits.{Limits}
-use Rattle.encoder.specs.declared.Counters.{Counters}
 use Rattle.blocking.specs.Blocking.{rangeBlocked, Sees, Right, Grows, RangeJudged, AllStand, Row, RowBarred, RowBars, DisjunctBars, EachBars}
 use Rattle.blocking.proofs.Barring.{halves}
 use Rattle.blocking.proofs.Blocking.{one-blocked}
@@ -59,7 +58,7 @@ module _ (c : Catalogue) (w : WellFormed c) where
 
 -- ---- a row of the lists
 
-module _ (k : Counts) (m u t : List ℕ) {l : Limits} {n : Counters} {s : List ℕ} (y : Sees k m u t l n s) {lists : List ℕ} where
+module _ (k : Counts) (m u t : List ℕ) {l : Limits} {nv nd : ℕ} {s : List ℕ} (y : Sees k m u t l nv nd s) {lists : List ℕ} where
   module _ {x a i : ℕ} (g : x < k .conditions) (z : AllStand (tables k t .conditions) lists x) (c : Counted (tables k t .conditions) x a) (h : i < a) where
     pub row-of : Row (k .ranges) lists i
     row-of = record { low = omega (arith, c .most); short = z .each i inside .short; given = given }

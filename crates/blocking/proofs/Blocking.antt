@@ -25,9 +25,9 @@ use Rattle.entries.specs.Deferred.{isHeld}
 use Rattle.entries.proofs.Places.{is-free}
 use Rattle.goals.specs.Goals.{Catalogued}
 use Rattle.judging.proofs.Judging.{zeros}
-use Rattle.blocking.specs.Blocking.{Barred, allWatched, Unmet, PartsWatched, isBlocked, rangeBlocked, Blocked, RangeBars}
+use Rattle.blocking.specs.Blocking.{Barred, watchedFor, allWatched, Unmet, PartsWatched, isBlocked, rangeBlocked, Blocked, RangeBars}
 use Rattle.blocking.proofs.Barring.{barred-more, barred-fails}
-use Rattle.blocking.proofs.Watching.{all-more}
+use Rattle.blocking.proofs.Watching.{for-held, all-more}
 
 -- ---- flags
 
@@ -99,10 +99,10 @@ module _ {c : Catalogue} {true? : ℕ → Bool} {blocked watched : List ℕ} (h 
   -- a range whose matching parts are watched does not hold
   watched-fails : (r : ℕ) → allWatched c watched r ≡ true → any true? (matching c r) ≡ false
   unfolding allWatched
-  watched-fails r e = none-in true? (matching c r) (λ p m. h .unmet .none p (all-out (isHeld watched) (matching c r) e p m))
+  watched-fails r e = none-in true? (matching c r) (λ p m. h .unmet .none p (for-held watched r p (all-out (watchedFor watched r) (matching c r) e p m)))
 
   pub blocked-fails : (x : ℕ) → x < 256 → isBlocked blocked x ≡ true → (d : Disjunct) → d ∈ disjuncts (c .conditions) x → holdsNow c true? d ≡ false
-  blocked-fails x l e = barred-fails true? watched-fails (h .barred x l e)
+  blocked-fails x l e = barred-fails c true? watched-fails (h .barred x l e)
 
   -- where no watched part is decided true besides
   pub blocked-still : {now? : ℕ → Bool} → ((p : ℕ) → isHeld watched p ≡ true → true? p ≡ false → now? p ≡ false) → Blocked c now? blocked watched
@@ -110,7 +110,7 @@ module _ {c : Catalogue} {true? : ℕ → Bool} {blocked watched : List ℕ} (h 
       record { room = h .room; long = h .long; given = h .given; barred = h .barred; ranges = h .ranges; unmet = record { none = λ p e. f p e (h .unmet .none p e) } }
 
   -- where more is watched
-  pub blocked-more : {watched′ : List ℕ} → length watched′ ≡ length watched → ((p : ℕ) → isHeld watched p ≡ true → isHeld watched′ p ≡ true) → Unmet true? watched′
+  pub blocked-more : {watched′ : List ℕ} → length watched′ ≡ length watched → ((i p : ℕ) → watchedFor watched i p ≡ true → watchedFor watched′ i p ≡ true) → Unmet true? watched′
       → Blocked c true? blocked watched′
   blocked-more {watched′} n s o =
       record {
@@ -123,7 +123,7 @@ module _ {c : Catalogue} {true? : ℕ → Bool} {blocked watched : List ℕ} (h 
       }
 
   -- v is put at condition x
-  pub blocked-put : (x v : ℕ) → x < 256 → x < length (c .conditions) → (v ≡ 1 → Barred c (allWatched c watched) x) → Blocked c true? (set blocked x v) watched
+  pub blocked-put : (x v : ℕ) → x < 256 → x < length (c .conditions) → (v ≡ 1 → Barred (c .conditions) (allWatched c watched) x) → Blocked c true? (set blocked x v) watched
   blocked-put x v low g q =
       record {
         room = length-set blocked x v ∙ h .room;

@@ -12,7 +12,6 @@ use Rattle.tables.specs.declared.Counts.{Counts}
 use Rattle.cache.specs.Areas.{catalogue}
 use Rattle.cache.proofs.Laws.{conditions-held}
 use Rattle.state.specs.declared.Limits.{Limits}
-use Rattle.encoder.specs.declared.Counters.{Counters}
 use Rattle.blocking.specs.Blocking.{Barred, allWatched, rangeBlocked, Blocked, Sees, Blocks, Right, Judged, EachBars}
 use Rattle.blocking.proofs.Barring.{barred-more, barred-fails}
 use Rattle.blocking.proofs.Blocking.{one-blocked, blocked-fails, blocked-put, range-fails}
@@ -26,13 +25,13 @@ module _ (k : Counts) (m u t : List ℕ) where
   abbrev C : Catalogue
   C = catalogue k m u t
 
-  module _ {l : Limits} {n : Counters} {s : List ℕ} (y : Sees k m u t l n s) {x : ℕ} (g : x < k .conditions) where
+  module _ {l : Limits} {nv nd : ℕ} {s : List ℕ} (y : Sees k m u t l nv nd s) {x : ℕ} (g : x < k .conditions) where
     -- it is blocked
     pub blocks-known : {f : ℕ → Bool} {b w : List ℕ} → getD b x 0 ≡ 1 → Blocks C f x true b w b w
     blocks-known {b = b} e = record { none = λ _ h. blocked-fails h x (condition-low k m u t y g) (one-blocked b x e); keeps = λ h. h }
 
     -- each disjunct of it has a blocked range: it is blocked
-    put : {f : ℕ → Bool} {b₁ w₁ : List ℕ} → Blocked C f b₁ w₁ → Barred C (rangeBlocked b₁) x → Blocked C f (set b₁ x 1) w₁
+    put : {f : ℕ → Bool} {b₁ w₁ : List ℕ} → Blocked C f b₁ w₁ → Barred (C .conditions) (rangeBlocked b₁) x → Blocked C f (set b₁ x 1) w₁
     put {w₁ = w₁} h d = blocked-put h x 1 (condition-low k m u t y g) (rw (conditions-held k m u t) g) (λ _. barred-more (allWatched C w₁) (λ r e. h .ranges r e .1) d)
 
     module _ {f : ℕ → Bool} {vs b w : List ℕ} (z : vs ≡ replicate 768 0) {a : Bool} {vs₁ b₁ w₁ : List ℕ} (d : EachBars C f x a vs b w vs₁ b₁ w₁) where
@@ -43,7 +42,7 @@ module _ (k : Counts) (m u t : List ℕ) where
       pub blocks-barred : a ≡ true → Blocks C f x true b w (set b₁ x 1) w₁
       blocks-barred q =
           record {
-            none = λ _ h. barred-fails f (range-fails (first h .flags)) (d .barred q (right-none z h));
+            none = λ _ h. barred-fails C f (range-fails (first h .flags)) (d .barred q (right-none z h));
             keeps = λ h. put (first h .flags) (d .barred q (right-none z h));
           }
 
@@ -55,7 +54,7 @@ module _ (k : Counts) (m u t : List ℕ) where
         pub blocks-judged : v ≡ 2 → Blocks C f x true b w (set b₂ x 1) w₂
         blocks-judged q =
             record {
-              none = λ _ h. barred-fails f (fails-out C f) (j .says (first h) .fails (λ i. omega arith));
+              none = λ _ h. barred-fails C f (fails-out C f) (j .says (first h) .fails (λ i. omega arith));
               keeps = λ h. put (second h .flags) (j .says (first h) .barred q);
             }
 
@@ -63,6 +62,6 @@ module _ (k : Counts) (m u t : List ℕ) where
         pub blocks-open : Blocks C f x (not (eqb v 1)) b w b₂ w₂
         blocks-open =
             record {
-              none = λ i h. barred-fails f (fails-out C f) (j .says (first h) .fails (λ e. true≢false (sym i ∙ rw (eq-eqb v 1 e))));
+              none = λ i h. barred-fails C f (fails-out C f) (j .says (first h) .fails (λ e. true≢false (sym i ∙ rw (eq-eqb v 1 e))));
               keeps = λ h. second h .flags;
             }

@@ -5,5 +5,6 @@ pub mod Releasing
 pub mod Verdicts
 pub mod Asking
 pub mod Listing
+pub mod Sharing
 pub mod Bars
 pub mod Judging

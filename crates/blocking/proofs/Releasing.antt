@@ -19,8 +19,8 @@ use Rattle.marks.specs.Marks.{isMarked}
 use Rattle.cache.specs.Areas.{catalogue}
 use Rattle.cache.proofs.Laws.{ranges-held}
 use Rattle.entries.specs.Deferred.{isHeld}
-use Rattle.blocking.specs.Blocking.{allWatched, isBlocked, rangeBlocked, Blocked, Fewer, ReleasesConditions, ReleasesRange, ReleasesRanges, Releases}
-use Rattle.blocking.proofs.Watching.{held-other, held-gone, match-marked}
+use Rattle.blocking.specs.Blocking.{watchedFor, allWatched, isBlocked, rangeBlocked, Blocked, Fewer, ReleasesConditions, ReleasesRange, ReleasesRanges, ReleasesWatched, Releases}
+use Rattle.blocking.proofs.Watching.{held-other, held-gone, for-out, for-other, match-marked}
 use Rattle.blocking.proofs.Blocking.{set-cases}
 
 -- ---- one flag less
@@ -102,9 +102,29 @@ module _ {m : List ℕ} {p r : ℕ} {flags flags′ : List ℕ} (h : Ranges m p 
   pub releases-end : {k : Counts} → k .ranges ≤ r → ReleasesRanges k m p flags flags′
   releases-end e = record { fewer = h .fewer; free = λ i l. h .free i (omega arith) }
 
+-- ---- the ranges that p is watched for
+
+module _ {k : Counts} {m : List ℕ} {p v : ℕ} {flags : List ℕ} where
+  -- one
+  pub watched-one : v < 513 → ReleasesWatched k m p v flags (set flags (255 + v) 0)
+  unfolding rangeBlocked
+  watched-one h =
+      record {
+        fewer = fewer-gone flags (255 + v);
+        free = λ r l e i. ⊎-elim (named r) (λ n. let no : ⊥ = omega (arith, n) in absurd no) e;
+      }
+    where
+      named : (r : ℕ) → v ≡ 1 + r → rangeBlocked (set flags (255 + v) 0) r ≡ false
+      named r n = let q : 255 + v ≡ 256 + r = omega (arith, n) in rw q (gone flags (256 + r))
+
+  -- several
+  pub watched-several : {flags′ : List ℕ} → ReleasesRanges k m p flags flags′ → ReleasesWatched k m p v flags flags′
+  watched-several d = record { fewer = d .fewer; free = λ r l _ i. d .free r l i }
+
 -- ---- all of it
 
-module _ {k : Counts} {m : List ℕ} {p : ℕ} {blocked watched blocked₁ blocked₂ : List ℕ} (a : ReleasesConditions blocked blocked₁) (b : ReleasesRanges k m p blocked₁ blocked₂) where
+module _ {k : Counts} {m : List ℕ} {p : ℕ} {blocked watched blocked₁ blocked₂ : List ℕ} (a : ReleasesConditions blocked blocked₁)
+    (b : ReleasesWatched k m p (getD watched p 0) blocked₁ blocked₂) where
   pub released : p < 1024 → Releases k m p blocked watched blocked₂ (set watched p 0)
   released inside = record { is = is }
     where
@@ -129,12 +149,16 @@ module _ {k : Counts} {m : List ℕ} {p : ℕ} {blocked watched blocked₁ block
           not-p : (q : ℕ) → isHeld (set watched p 0) q ≡ true → q ≡ p → ⊥
           not-p q e z = true≢false (sym (rw z at e) ∙ held-gone watched p (omega (arith, h .long)))
 
-          apart : (r : ℕ) → r < k .ranges → rangeBlocked blocked₂ r ≡ true → (q : ℕ) → q ∈ matching (catalogue k m u t) r → q ≡ p → ⊥
-          apart r l e q i z = true≢false (sym e ∙ b .free r l (match-marked k m u t r p l (rw z at i)))
+          apart : (r : ℕ) → r < k .ranges → rangeBlocked blocked₂ r ≡ true → allWatched (catalogue k m u t) watched r ≡ true
+              → (q : ℕ) → q ∈ matching (catalogue k m u t) r → q ≡ p → ⊥
+          apart r l e w q i z =
+              let j : p ∈ matching (catalogue k m u t) r = rw z at i in
+              let o = for-out watched r p (all-out (watchedFor watched r) (matching (catalogue k m u t) r) (unfold allWatched in w) p j) in
+              true≢false (sym e ∙ b .free r l o (match-marked k m u t r p l j))
 
           watched-still : (r : ℕ) → r < k .ranges → rangeBlocked blocked₂ r ≡ true → allWatched (catalogue k m u t) watched r ≡ true
               → allWatched (catalogue k m u t) (set watched p 0) r ≡ true
           watched-still r l e w =
               unfold allWatched in
-              all-in (isHeld (set watched p 0)) (matching (catalogue k m u t) r)
-              (λ q i. held-other watched p 0 q (apart r l e q i) ∙ all-out (isHeld watched) (matching (catalogue k m u t) r) (unfold allWatched in w) q i)
+              all-in (watchedFor (set watched p 0) r) (matching (catalogue k m u t) r)
+              (λ q i. for-other watched r p 0 q (apart r l e w q i) ∙ all-out (watchedFor watched r) (matching (catalogue k m u t) r) (unfold allWatched in w) q i)

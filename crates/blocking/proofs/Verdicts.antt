@@ -14,14 +14,13 @@ use Rattle.rules.specs.Candidates.{matching}
 use Rattle.rules.proofs.Bools.{by-cases}
 use Rattle.tables.specs.declared.Counts.{Counts}
 use Rattle.state.specs.declared.Limits.{Limits}
-use Rattle.encoder.specs.declared.Counters.{Counters}
 use Rattle.judging.proofs.Judging.{zeros}
 use Rattle.blocking.specs.Blocking.{rangeBlocked, Blocked, Sees, RangeBars, fails, RangeSays, Says, Right, Grows, RangeJudged, Judged}
 use Rattle.blocking.proofs.Barring.{barred-more}
 use Rattle.blocking.proofs.Blocking.{one-blocked, range-fails}
 
 -- a range's verdict has a place
-pub range-low : (k : Counts) (m u t : List ℕ) {l : Limits} {n : Counters} {s : List ℕ} {r : ℕ} → Sees k m u t l n s → r < k .ranges → r < 512
+pub range-low : (k : Counts) (m u t : List ℕ) {l : Limits} {nv nd : ℕ} {s : List ℕ} {r : ℕ} → Sees k m u t l nv nd s → r < k .ranges → r < 512
 range-low k m u t y g = omega (arith, y .catalogued .kept .held .laid .ranges)
 
 pub fails-in : (c : Catalogue) (f : ℕ → Bool) (r : ℕ) → any f (matching c r) ≡ false → fails c f r ≡ true

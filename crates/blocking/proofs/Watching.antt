@@ -1,19 +1,20 @@
 -- The matching parts of a range are watched.
 use mathlib.Core.Path.{_≡_, refl, sym, _∙_}
-use mathlib.Core.Bool.{Bool, true, false, true≢false, false≢true}
+use mathlib.Core.Logic.{_⊎_, inl, inr, ⊎-elim}
+use mathlib.Core.Bool.{Bool, true, false, cond, _||_, true≢false, false≢true}
 use mathlib.Core.List.{List}
 use Prim.Native.Nat.{ℕ, _+_, _<_, _≤_}
 use native.Mathlib.Omega.{arith}
 use native.Mathlib.Decide.{decLt}
 use lib.Dec.{eqb}
-use lib.ListN.{length, set, length-set, List·getD-eq-default}
+use lib.ListN.{length, getD, set, length-set, List·getD-eq-default}
 use lib.Seq.{getD-set-same, getD-set-other}
-use borrow.Author.Tests.{eqb-true, eqb-false}
+use borrow.Author.Tests.{eqb-true, eqb-false, eq-eqb, ne-eqb}
 use Rattle.rules.specs.Lists.{any, all, upTo}
 use Rattle.rules.specs.Called.{_∈_}
 use Rattle.rules.specs.Catalogue.{Catalogue, nameOf, rangeName}
 use Rattle.rules.specs.Candidates.{member, matching}
-use Rattle.rules.proofs.Bools.{by-cases, and-right}
+use Rattle.rules.proofs.Bools.{by-cases, and-right, or-right}
 use Rattle.rules.proofs.Member.{all-out, all-in, none-out, filter-out, filter-in, upTo-out, upTo-in}
 use Rattle.tables.specs.declared.Counts.{Counts}
 use Rattle.marks.specs.Marks.{isMarked}
@@ -25,15 +26,12 @@ use Rattle.cache.proofs.Lists.{member-in, matching-is}
 use Rattle.index.specs.Chains.{Skips}
 use Rattle.index.proofs.Walking.{walk}
 use Rattle.entries.specs.Deferred.{isHeld, isFree}
-use Rattle.blocking.specs.Blocking.{allWatched, Unmet, PartsWatched}
+use Rattle.entries.proofs.Places.{is-held}
+use Rattle.blocking.specs.Blocking.{watchedFor, besides, allWatched, Unmet, PartsWatched}
 
 -- ---- one flag more or less
 
 module _ (flags : List ℕ) (p : ℕ) where
-  held-there : p < length flags → isHeld (set flags p 1) p ≡ true
-  unfolding isHeld isFree
-  held-there h = rw (getD-set-same flags p 1 0 h)
-
   pub held-other : (v q : ℕ) → (q ≡ p → ⊥) → isHeld (set flags p v) q ≡ isHeld flags q
   unfolding isHeld isFree
   held-other v q n = rw (getD-set-other flags p q v 0 n)
@@ -47,14 +45,64 @@ module _ (flags : List ℕ) (p : ℕ) where
   unfolding isHeld isFree
   held-inside e = elim (decLt p (length flags)) [ yes h ↦ h | no h ↦ absurd (false≢true (rw (List·getD-eq-default flags 0 {n = p} (omega arith)) at e)) ]
 
+-- ---- one part is watched for range r
+
+module _ (w : List ℕ) (r p : ℕ) where
+  pub for-out : watchedFor w r p ≡ true → (getD w p 0 ≡ 1 + r) ⊎ (getD w p 0 ≡ 513)
+  unfolding watchedFor
+  for-out e = by-cases (eqb (getD w p 0) (1 + r)) (λ h. inl (eqb-true (getD w p 0) (1 + r) h)) (λ h. inr (eqb-true (getD w p 0) 513 (rw h at e)))
+
+  for-in : (getD w p 0 ≡ 1 + r) ⊎ (getD w p 0 ≡ 513) → watchedFor w r p ≡ true
+  unfolding watchedFor
+  for-in = ⊎-elim (λ h. rw (eq-eqb (getD w p 0) (1 + r) h)) (λ h. or-right (eqb (getD w p 0) (1 + r)) (eqb (getD w p 0) 513) (eq-eqb (getD w p 0) 513 h))
+
+  -- it is watched
+  pub for-held : watchedFor w r p ≡ true → isHeld w p ≡ true
+  unfolding isHeld
+  for-held e = rw (is-held w p (λ z. ⊎-elim (λ h. omega arith) (λ h. omega arith) (for-out e)))
+
+-- so are others where v is put at p
+pub for-other : (w : List ℕ) (r p v q : ℕ) → (q ≡ p → ⊥) → watchedFor (set w p v) r q ≡ watchedFor w r q
+unfolding watchedFor
+for-other w r p v q n = rw (getD-set-other w p q v 0 n)
+
+module _ (v r : ℕ) where
+  pub besides-none : v ≡ 0 → 1 + r ≡ besides v r
+  unfolding besides
+  besides-none e = rw (eq-eqb v 0 e)
+
+  pub besides-same : v ≡ 1 + r → 1 + r ≡ besides v r
+  unfolding besides
+  besides-same e = rw (or-right (eqb v 0) (eqb v (1 + r)) (eq-eqb v (1 + r) e))
+
+  pub besides-other : (v ≡ 0 → ⊥) → (v ≡ 1 + r → ⊥) → 513 ≡ besides v r
+  unfolding besides
+  besides-other n o = rw (ne-eqb v 0 n, ne-eqb v (1 + r) o)
+
+-- what stands at it names range r, or several
+besides-is : (v r : ℕ) → (besides v r ≡ 1 + r) ⊎ (besides v r ≡ 513)
+unfolding besides
+besides-is v r = by-cases (eqb v 0 || eqb v (1 + r)) (λ e. inl (rw e)) (λ e. inr (rw e))
+
+-- and what was watched for range i still is
+besides-still : (v r i : ℕ) → r < 512 → (v ≡ 1 + i) ⊎ (v ≡ 513) → (besides v r ≡ 1 + i) ⊎ (besides v r ≡ 513)
+unfolding besides
+besides-still v r i low h = by-cases (eqb v 0 || eqb v (1 + r)) own (λ e. inr (rw e))
+  where
+    own : (eqb v 0 || eqb v (1 + r)) ≡ true → (cond (eqb v 0 || eqb v (1 + r)) (1 + r) 513 ≡ 1 + i) ⊎ (cond (eqb v 0 || eqb v (1 + r)) (1 + r) 513 ≡ 513)
+    own e =
+        let n : v ≡ 0 → ⊥ = λ z. ⊎-elim (λ a. omega arith) (λ a. omega arith) h in
+        let q : v ≡ 1 + r = eqb-true v (1 + r) (rw (ne-eqb v 0 n) at e) in
+        inl (rw e (⊎-elim (λ a. omega (arith, q)) (λ a. let no : ⊥ = omega (arith, q) in absurd no) h))
+
 -- ---- the parts of range r
 
 -- the loop at part p
 pub record Watching (c : Catalogue) (r p : ℕ) (watched watched′ : List ℕ) : Type 0 where
   pub room : length watched ≡ 1024
   pub long : length watched′ ≡ length watched
-  pub still : (q : ℕ) → isHeld watched q ≡ true → isHeld watched′ q ≡ true
-  pub passed : (q : ℕ) → q < p → chosen c r Matching q ≡ true → isHeld watched′ q ≡ true
+  pub still : (i q : ℕ) → watchedFor watched i q ≡ true → watchedFor watched′ i q ≡ true
+  pub passed : (q : ℕ) → q < p → chosen c r Matching q ≡ true → watchedFor watched′ r q ≡ true
   pub unmet : (f : ℕ → Bool) → any f (matching c r) ≡ false → Unmet f watched → Unmet f watched′
 
 module _ (k : Counts) (m u t : List ℕ) (r : ℕ) where
@@ -94,30 +142,37 @@ module _ (k : Counts) (m u t : List ℕ) (r : ℕ) where
 
     pub watch-first : {x : ℕ} → length w ≡ 1024 → Skips (k .parts) (chosen C r Matching) 0 x → Watching C r x w w
     watch-first h s =
-        watch-on s (record { room = h; long = refl; still = λ q e. e; passed = λ q l d. let no : ⊥ = omega arith in absurd no; unmet = λ f e o. o })
+        watch-on s (record { room = h; long = refl; still = λ i q e. e; passed = λ q l d. let no : ⊥ = omega arith in absurd no; unmet = λ f e o. o })
 
     module _ {p x : ℕ} {w′ : List ℕ} (y : Watching C r p w w′) (b : Bool) (h : p < k .parts) (e : b ≡ chosen C r Matching p)
         (s : Skips (k .parts) (chosen C r Matching) (p + 1) x) where
       pub watch-past : {w″ : List ℕ} → b ≡ false → w″ ≡ w′ → Watching C r x w w″
       watch-past d v = rw v (watch-on s (watch-next p (sym e ∙ d) y))
 
-      pub watch-flag : {w″ : List ℕ} → k .parts ≤ 1024 → b ≡ true → w″ ≡ set w′ p 1 → Watching C r x w w″
-      watch-flag most d v =
-          rw v (watch-on s (record {
+      pub watch-flag : {v : ℕ} {w″ : List ℕ} → k .parts ≤ 1024 → r < 512 → b ≡ true → v ≡ besides (getD w′ p 0) r → w″ ≡ set w′ p v → Watching C r x w w″
+      watch-flag {v} most low d n a =
+          rw a (watch-on s (record {
             room = y .room;
-            long = length-set w′ p 1 ∙ y .long;
-            still = λ q i. by-cases (eqb q p) (λ j. here q j) (λ j. other q j ∙ y .still q i);
-            passed = λ q l c. by-cases (eqb q p) (λ j. here q j) (λ j. other q j ∙ y .passed q (omega (arith, eqb-false q p j)) c);
-            unmet = λ f n o. record {
-              none = λ q i. by-cases (eqb q p) (λ j. rw (eqb-true q p j) (none-out f (matching C r) n p (is-match p h (sym e ∙ d)))) (λ j. y .unmet f n o .none q (sym (other q j) ∙ i));
+            long = length-set w′ p v ∙ y .long;
+            still = λ i q j. by-cases (eqb q p) (λ o. let z = eqb-true q p o in rw z (still i (y .still i p (rw z at j)))) (λ o. other i q o (y .still i q j));
+            passed = λ q l c. by-cases (eqb q p) (λ o. rw (eqb-true q p o) here) (λ o. other r q o (y .passed q (omega (arith, eqb-false q p o)) c));
+            unmet = λ f o u. record {
+              none = λ q i. by-cases (eqb q p) (λ j. rw (eqb-true q p j) (none-out f (matching C r) o p (is-match p h (sym e ∙ d))))
+                  (λ j. y .unmet f o u .none q (sym (held-other w′ p v q (eqb-false q p j)) ∙ i));
             };
           }))
         where
-          here : (q : ℕ) → eqb q p ≡ true → isHeld (set w′ p 1) q ≡ true
-          here q j = rw (eqb-true q p j) (held-there w′ p (omega (arith, y .long, y .room)))
+          there : getD (set w′ p v) p 0 ≡ besides (getD w′ p 0) r
+          there = getD-set-same w′ p v 0 (omega (arith, y .long, y .room)) ∙ n
 
-          other : (q : ℕ) → eqb q p ≡ false → isHeld (set w′ p 1) q ≡ isHeld w′ q
-          other q j = held-other w′ p 1 q (eqb-false q p j)
+          here : watchedFor (set w′ p v) r p ≡ true
+          here = for-in (set w′ p v) r p (rw there (besides-is (getD w′ p 0) r))
+
+          still : (i : ℕ) → watchedFor w′ i p ≡ true → watchedFor (set w′ p v) i p ≡ true
+          still i j = for-in (set w′ p v) i p (rw there (besides-still (getD w′ p 0) r i low (for-out w′ i p j)))
+
+          other : (i q : ℕ) → eqb q p ≡ false → watchedFor w′ i q ≡ true → watchedFor (set w′ p v) i q ≡ true
+          other i q j o = for-other w′ i p v q (eqb-false q p j) ∙ o
 
     module _ {p : ℕ} {w′ : List ℕ} (y : Watching C r p w w′) where
       watched-parts : (left : ℕ) → (1 ≤ left → allWatched C w′ r ≡ true) → PartsWatched C r left w w′
@@ -130,9 +185,9 @@ module _ (k : Counts) (m u t : List ℕ) (r : ℕ) where
       -- all
       pub watched-all : (left : ℕ) → k .parts ≤ p → PartsWatched C r left w w′
       unfolding allWatched
-      watched-all left h = watched-parts left (λ _. all-in (isHeld w′) (matching C r) (λ q m. let d = match-is q m in y .passed q (omega (arith, d .0)) (d .1)))
+      watched-all left h = watched-parts left (λ _. all-in (watchedFor w′ r) (matching C r) (λ q m. let d = match-is q m in y .passed q (omega (arith, d .0)) (d .1)))
 
 -- where more is watched
-pub all-more : (c : Catalogue) (w w′ : List ℕ) → ((p : ℕ) → isHeld w p ≡ true → isHeld w′ p ≡ true) → (r : ℕ) → allWatched c w r ≡ true → allWatched c w′ r ≡ true
+pub all-more : (c : Catalogue) (w w′ : List ℕ) → ((i p : ℕ) → watchedFor w i p ≡ true → watchedFor w′ i p ≡ true) → (r : ℕ) → allWatched c w r ≡ true → allWatched c w′ r ≡ true
 unfolding allWatched
-all-more c w w′ h r e = all-in (isHeld w′) (matching c r) (λ p m. h p (all-out (isHeld w) (matching c r) e p m))
+all-more c w w′ h r e = all-in (watchedFor w′ r) (matching c r) (λ p m. h r p (all-out (watchedFor w r) (matching c r) e p m))

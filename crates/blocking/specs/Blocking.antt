@@ -1,6 +1,7 @@
 -- Whether a disjunct of a condition holds, and conditions that are blocked: as long as no watched part is decided true, none of their disjuncts holds.
 use mathlib.Core.Path.{_≡_}
-use mathlib.Core.Bool.{Bool, true, false, not, cond}
+use mathlib.Core.Logic.{_⊎_}
+use mathlib.Core.Bool.{Bool, true, false, not, cond, _&&_, _||_}
 use mathlib.Core.List.{List, []}
 use Prim.Native.Nat.{ℕ, _+_, _*_, _<_, _≤_}
 use lib.Dec.{eqb}
@@ -19,18 +20,25 @@ use Rattle.state.specs.Layout.{held, Fits}
 use Rattle.variable_map.specs.Mapping.{variables, Mapped}
 use Rattle.decision_tracker.specs.Tracking.{decisions, Kept}
 use Rattle.entries.specs.Deferred.{isHeld}
-use Rattle.encoder.specs.declared.Counters.{Counters}
 use Rattle.goals.specs.Goals.{Catalogued}
 
 -- each disjunct of condition x has a range that passes
-pub record Barred (c : Catalogue) (f : ℕ → Bool) (x : ℕ) : Type 0 where
-  pub each : (d : Disjunct) → d ∈ disjuncts (c .conditions) x → any f d ≡ true
+pub record Barred (cs : List Condition) (f : ℕ → Bool) (x : ℕ) : Type 0 where
+  pub each : (d : Disjunct) → d ∈ disjuncts cs x → any f d ≡ true
 
--- ---- watched parts
+-- ---- watched parts: 1 + r stands at one that is watched for range r alone, 513 at one for several
 
--- every matching part of range r is watched
+-- part p is watched for range r, and perhaps for others
+unfoldable pub watchedFor : (watched : List ℕ) → (r p : ℕ) → Bool
+watchedFor watched r p = eqb (getD watched p 0) (1 + r) || eqb (getD watched p 0) 513
+
+-- what stands at a part where v stood once it is watched for range r besides
+unfoldable pub besides : (v r : ℕ) → ℕ
+besides v r = cond (eqb v 0 || eqb v (1 + r)) (1 + r) 513
+
+-- every matching part of range r is watched for it
 unfoldable pub allWatched : Catalogue → (watched : List ℕ) → ℕ → Bool
-allWatched c watched r = all (isHeld watched) (matching c r)
+allWatched c watched r = all (watchedFor watched r) (matching c r)
 
 -- no watched part is decided true
 pub record Unmet (true? : ℕ → Bool) (watched : List ℕ) : Type 0 where
@@ -39,7 +47,7 @@ pub record Unmet (true? : ℕ → Bool) (watched : List ℕ) : Type 0 where
 -- matching parts of range r are watched besides: all of them, unless nothing is left
 pub record PartsWatched (c : Catalogue) (r left : ℕ) (watched watched′ : List ℕ) : Type 0 where
   pub long : length watched′ ≡ length watched
-  pub still : (p : ℕ) → isHeld watched p ≡ true → isHeld watched′ p ≡ true
+  pub still : (i p : ℕ) → watchedFor watched i p ≡ true → watchedFor watched′ i p ≡ true
   pub all : 1 ≤ left → allWatched c watched′ r ≡ true
   pub unmet : (f : ℕ → Bool) → any f (matching c r) ≡ false → Unmet f watched → Unmet f watched′
 
@@ -57,16 +65,16 @@ pub record Blocked (c : Catalogue) (true? : ℕ → Bool) (blocked watched : Lis
   pub room : length blocked ≡ 768
   pub long : length watched ≡ 1024
   pub given : (x : ℕ) → x < 256 → isBlocked blocked x ≡ true → x < length (c .conditions)
-  pub barred : (x : ℕ) → x < 256 → isBlocked blocked x ≡ true → Barred c (allWatched c watched) x
+  pub barred : (x : ℕ) → x < 256 → isBlocked blocked x ≡ true → Barred (c .conditions) (allWatched c watched) x
   pub ranges : (r : ℕ) → rangeBlocked blocked r ≡ true → (r < length (c .ranges)) × (allWatched c watched r ≡ true)
   pub unmet : Unmet true? watched
 
--- the catalogue and the state are held
-pub record Sees (k : Counts) (m u t : List ℕ) (l : Limits) (n : Counters) (s : List ℕ) : Type 0 where
+-- the catalogue and the state are held, with n variables and d decisions
+pub record Sees (k : Counts) (m u t : List ℕ) (l : Limits) (n d : ℕ) (s : List ℕ) : Type 0 where
   pub catalogued : Catalogued k m u t
   pub fits : Fits l (length s)
-  pub mapped : Mapped l (n .variables) (held l s)
-  pub kept : Kept l (n .decisions) (held l s)
+  pub mapped : Mapped l n (held l s)
+  pub kept : Kept l d (held l s)
 
 -- if b is true no disjunct of condition x holds; what is blocked stays so
 pub record Blocks (c : Catalogue) (true? : ℕ → Bool) (x : ℕ) (b : Bool) (blocked watched blocked′ watched′ : List ℕ) : Type 0 where
@@ -95,8 +103,8 @@ pub record RangeSays (c : Catalogue) (true? : ℕ → Bool) (blocked : List ℕ)
 
 -- the same of condition x: each disjunct has such a range
 pub record Says (c : Catalogue) (true? : ℕ → Bool) (blocked : List ℕ) (x v : ℕ) : Type 0 where
-  pub fails : (v ≡ 1 → ⊥) → Barred c (fails c true?) x
-  pub barred : v ≡ 2 → Barred c (rangeBlocked blocked) x
+  pub fails : (v ≡ 1 → ⊥) → Barred (c .conditions) (fails c true?) x
+  pub barred : v ≡ 2 → Barred (c .conditions) (rangeBlocked blocked) x
 
 -- what is blocked is so rightly, and the verdicts are right of what was asked
 pub record Right (c : Catalogue) (true? : ℕ → Bool) (vs blocked watched : List ℕ) : Type 0 where
@@ -151,6 +159,11 @@ pub record ReleasesRanges (k : Counts) (m : List ℕ) (p : ℕ) (blocked blocked
   pub fewer : Fewer blocked blocked′
   pub free : (r : ℕ) → r < k .ranges → isMarked m r p ≡ true → rangeBlocked blocked′ r ≡ false
 
+-- no range is that p is watched for, where that is told by v, which stands at p
+pub record ReleasesWatched (k : Counts) (m : List ℕ) (p v : ℕ) (blocked blocked′ : List ℕ) : Type 0 where
+  pub fewer : Fewer blocked blocked′
+  pub free : (r : ℕ) → r < k .ranges → (v ≡ 1 + r) ⊎ (v ≡ 513) → isMarked m r p ≡ true → rangeBlocked blocked′ r ≡ false
+
 -- where no part but p was made true, what is blocked now is so rightly
 pub record Releases (k : Counts) (m : List ℕ) (p : ℕ) (blocked watched blocked′ watched′ : List ℕ) : Type 0 where
   pub is : (u t : List ℕ) {true? now? : ℕ → Bool} → ((q : ℕ) → (q ≡ p → ⊥) → now? q ≡ true? q)
@@ -166,20 +179,44 @@ pub record Stands (cs : List Condition) (lists : List ℕ) (x i : ℕ) : Type 0 
 
 -- all disjuncts of condition x do
 pub record AllStand (cs : List Condition) (lists : List ℕ) (x : ℕ) : Type 0 where
-  pub long : length lists ≡ 1091
+  pub long : length lists ≡ 1604
   pub few : length (disjuncts cs x) ≤ 64
   pub each : (i : ℕ) → i < length (disjuncts cs x) → Stands cs lists x i
 
--- all disjuncts of the condition do that is listed, if one is
+-- v is 0, or 1 + r for a range r that each disjunct of condition x has
+pub record Shares (cs : List Condition) (x v : ℕ) : Type 0 where
+  pub low : v ≤ 512
+  pub is : (r : ℕ) → v ≡ 1 + r → Barred cs (eqb r) x
+
+-- all disjuncts of the condition do that is listed, if one is; and two numbers are such of each condition
 pub record Listed (cs : List Condition) (lists : List ℕ) : Type 0 where
-  pub long : length lists ≡ 1091
+  pub long : length lists ≡ 1604
   pub is : (x : ℕ) → getD lists 1088 0 ≡ x + 1 → AllStand cs lists x
+  pub first : (x : ℕ) → Shares cs x (getD lists (1092 + 2 * x) 0)
+  pub second : (x : ℕ) → Shares cs x (getD lists (1093 + 2 * x) 0)
 
 -- disjunct i of condition x was put, and those before it stand as they did
 pub record Lists (cs : List Condition) (x i : ℕ) (lists lists′ : List ℕ) : Type 0 where
   pub long : length lists′ ≡ length lists
   pub stands : Stands cs lists′ x i
   pub before : (h : ℕ) → h < i → Stands cs lists x h → Stands cs lists′ x h
+  pub behind : (p : ℕ) → 1088 ≤ p → getD lists′ p 0 ≡ getD lists p 0
+
+-- ---- a condition by the ranges that its disjuncts share
+
+-- v is 1 + r for a blocked range r
+unfoldable pub namesBlocked : (blocked : List ℕ) → (v : ℕ) → Bool
+namesBlocked blocked v = not (eqb v 0) && isBlocked blocked (255 + v)
+
+-- one of the two numbers of condition x is
+unfoldable pub sharedBars : (lists blocked : List ℕ) → (x : ℕ) → Bool
+sharedBars lists blocked x = namesBlocked blocked (getD lists (1092 + 2 * x) 0) || namesBlocked blocked (getD lists (1093 + 2 * x) 0)
+
+-- if b is true v is 1 + r for a range r that is blocked now; what is blocked stays so
+pub record AskedBars (c : Catalogue) (true? : ℕ → Bool) (v : ℕ) (b : Bool) (blocked watched blocked′ watched′ : List ℕ) : Type 0 where
+  pub long : length watched′ ≡ length watched
+  pub is : b ≡ true → Blocked c true? blocked watched → namesBlocked blocked′ v ≡ true
+  pub keeps : Blocked c true? blocked watched → Blocked c true? blocked′ watched′
 
 -- ---- a condition by its list
 
@@ -207,4 +244,4 @@ pub record DisjunctBars (c : Catalogue) (true? : ℕ → Bool) (lists : List ℕ
 -- a range of each disjunct of condition x is
 pub record EachBars (c : Catalogue) (true? : ℕ → Bool) (x : ℕ) (b : Bool) (vs blocked watched vs′ blocked′ watched′ : List ℕ) : Type 0 where
   pub grows : Grows c true? vs blocked watched vs′ blocked′ watched′
-  pub barred : b ≡ true → Right c true? vs blocked watched → Barred c (rangeBlocked blocked′) x
+  pub barred : b ≡ true → Right c true? vs blocked watched → Barred (c .conditions) (rangeBlocked blocked′) x

@@ -1,11 +1,10 @@
 // Whether a disjunct of a condition holds; and conditions that are blocked: as long as no watched part is decided true, none of their disjuncts holds.
 use cache::Choice;
-use encoder::Counters;
 use state::Limits;
 use tables::Counts;
 ghost use mathlib.Core.Path.{_≡_};
-ghost use Prim.Native.Nat.{_+_, _<_, _≤_};
-ghost use lib.ListN.{length};
+ghost use Prim.Native.Nat.{_+_, _*_, _<_, _≤_};
+ghost use lib.ListN.{length, getD};
 ghost use Rattle.rules.specs.Conditions.{disjuncts};
 ghost use Rattle.tables.specs.Tables.{tables, Laid};
 ghost use Rattle.conditions.specs.Sizes.{Sized};
@@ -14,9 +13,24 @@ ghost use Rattle.state.specs.Layout.{held};
 ghost use Rattle.variable_map.specs.Mapping.{variables};
 ghost use Rattle.decision_tracker.specs.Tracking.{decisions};
 ghost use Rattle.goals.specs.Goals.{Catalogued, trueOf};
-ghost use Rattle.blocking.specs.Blocking.{PartsWatched, Sees, Blocks, RangeBars, RangeJudged, toldByLeft, ofHalves, Judged, ReleasesRange, ReleasesRanges, ReleasesConditions, Releases, Listed, AllStand, Lists, Row, RowBars, DisjunctBars, EachBars};
+ghost use Rattle.blocking.specs.Blocking.{besides, PartsWatched, Sees, Blocks, RangeBars, RangeJudged, toldByLeft, ofHalves, Judged, ReleasesRange, ReleasesRanges, ReleasesConditions, ReleasesWatched, Releases, Listed, AllStand, Lists, namesBlocked, sharedBars, AskedBars, Row, RowBars, DisjunctBars, EachBars};
 
-// ---- watched parts
+// ---- watched parts: 1 + r stands at one that is watched for range r alone, 513 at one that is for several, 0 at any other
+
+// What stands at a part, where v stood, that is watched for range r besides.
+fn besides(v: u16, r: usize) -> u16
+    requires { ⌜ r < 512 ⌝ }
+    ensures { λ w. ⌜ w ≡ besides v r ⌝ }
+{
+    let own = 1 + r as u16;
+    if v == 0 {
+        return own;
+    }
+    if v == own {
+        return own;
+    }
+    513
+}
 
 // The matching parts of range r are watched: `most` of them at most. Gives how many may follow; 0 if not all are watched.
 fn watch_parts(
@@ -25,7 +39,7 @@ fn watch_parts(
     t: &[u8],
     k: Counts,
     r: usize,
-    watched: &mut [u8; 1024],
+    watched: &mut [u16; 1024],
     most: usize,
 ) -> usize
     requires { ⌜ Catalogued k (now marks) (now unions) (now t) ⌝ }
@@ -40,7 +54,7 @@ fn watch_parts(
         }
         left -= 1;
         if cache::chosen(marks, unions, t, k, r, Choice::Matching, p) {
-            watched[p] = 1;
+            watched[p] = besides(watched[p], r);
         }
         p = index::next_chosen(marks, unions, t, k, r, Choice::Matching, p);
     }
@@ -56,7 +70,7 @@ fn bar_range(
     t: &[u8],
     k: Counts,
     blocked: &mut [u8; 768],
-    watched: &mut [u8; 1024],
+    watched: &mut [u16; 1024],
     r: usize,
 ) -> bool
     requires { ⌜ Catalogued k (now marks) (now unions) (now t) ⌝ }
@@ -87,15 +101,16 @@ fn range_verdict(
     k: Counts,
     s: &[u8],
     l: Limits,
-    n: Counters,
+    n: usize,
+    d: usize,
     known: &mut [u8; 768],
     blocked: &mut [u8; 768],
-    watched: &mut [u8; 1024],
+    watched: &mut [u16; 1024],
     r: usize,
 ) -> u8
-    requires { ⌜ Sees k (now marks) (now unions) (now t) l n (now s) ⌝ }
+    requires { ⌜ Sees k (now marks) (now unions) (now t) l n d (now s) ⌝ }
     requires { ⌜ (r < k .ranges) × (length (now watched) ≡ 1024) ⌝ }
-    ensures { λ v. ⌜ RangeJudged (catalogue k (now (marks .entry)) (now (unions .entry)) (now (t .entry))) (trueOf (variables (n .variables) (held l (now (s .entry)))) (decisions (n .decisions) (held l (now (s .entry))))) r v (now (known .entry)) (now (blocked .entry)) (now (watched .entry)) (now (known .exit)) (now (blocked .exit)) (now (watched .exit)) ⌝ }
+    ensures { λ v. ⌜ RangeJudged (catalogue k (now (marks .entry)) (now (unions .entry)) (now (t .entry))) (trueOf (variables n (held l (now (s .entry)))) (decisions d (held l (now (s .entry))))) r v (now (known .entry)) (now (blocked .entry)) (now (watched .entry)) (now (known .exit)) (now (blocked .exit)) (now (watched .exit)) ⌝ }
 {
     let place = 256 + r;
     if blocked[place] == 1 {
@@ -105,7 +120,7 @@ fn range_verdict(
     if v != 0 {
         return v;
     }
-    if goals::range_holds(marks, unions, t, k, s, l, n, r) {
+    if goals::range_holds(marks, unions, t, k, s, l, n, d, r) {
         known[place] = 1;
         return 1;
     }
@@ -147,15 +162,16 @@ fn condition_verdict(
     k: Counts,
     s: &[u8],
     l: Limits,
-    n: Counters,
+    n: usize,
+    d: usize,
     known: &mut [u8; 768],
     blocked: &mut [u8; 768],
-    watched: &mut [u8; 1024],
+    watched: &mut [u16; 1024],
     x: usize,
 ) -> u8
-    requires { ⌜ Sees k (now marks) (now unions) (now t) l n (now s) ⌝ }
+    requires { ⌜ Sees k (now marks) (now unions) (now t) l n d (now s) ⌝ }
     requires { ⌜ (x < k .conditions) × (length (now watched) ≡ 1024) ⌝ }
-    ensures { λ v. ⌜ Judged (catalogue k (now (marks .entry)) (now (unions .entry)) (now (t .entry))) (trueOf (variables (n .variables) (held l (now (s .entry)))) (decisions (n .decisions) (held l (now (s .entry))))) x v (now (known .entry)) (now (blocked .entry)) (now (watched .entry)) (now (known .exit)) (now (blocked .exit)) (now (watched .exit)) ⌝ }
+    ensures { λ v. ⌜ Judged (catalogue k (now (marks .entry)) (now (unions .entry)) (now (t .entry))) (trueOf (variables n (held l (now (s .entry)))) (decisions d (held l (now (s .entry))))) x v (now (known .entry)) (now (blocked .entry)) (now (watched .entry)) (now (known .exit)) (now (blocked .exit)) (now (watched .exit)) ⌝ }
 {
     let v = known[x];
     if v != 0 {
@@ -164,28 +180,68 @@ fn condition_verdict(
     let it = tables::condition_at(t, k, x);
     let left = it.left as usize;
     if it.operator == 2 {
-        return range_verdict(marks, unions, t, k, s, l, n, known, blocked, watched, left);
+        return range_verdict(
+            marks,
+            unions,
+            t,
+            k,
+            s,
+            l,
+            n,
+            d,
+            known,
+            blocked,
+            watched,
+            left,
+        );
     }
     let right = it.right as usize;
-    let first = condition_verdict(marks, unions, t, k, s, l, n, known, blocked, watched, left);
+    let first = condition_verdict(
+        marks,
+        unions,
+        t,
+        k,
+        s,
+        l,
+        n,
+        d,
+        known,
+        blocked,
+        watched,
+        left,
+    );
     if told_by_left(it.operator, first) {
         known[x] = first;
         return first;
     }
-    let second = condition_verdict(marks, unions, t, k, s, l, n, known, blocked, watched, right);
+    let second = condition_verdict(
+        marks,
+        unions,
+        t,
+        k,
+        s,
+        l,
+        n,
+        d,
+        known,
+        blocked,
+        watched,
+        right,
+    );
     let both = of_halves(it.operator, first, second);
     known[x] = both;
     both
 }
 
 // ---- the disjuncts of one condition, listed: range j of disjunct i at 16 i + j, the number of its ranges at 1024 + i, and at 1088 the condition, plus 1, or 0.
-// At 1089 is the condition that was judged last by its halves, plus 1, and at 1090 how often again in a row.
+// At 1089 is the condition that was judged last by its halves, plus 1, and at 1090 how often again in a row. Two numbers of condition x at 1092 + 2 x are 0,
+// or 1 + r for a range r that each of its disjuncts has; at 1091 is 1 once they were looked for.
 
 // Disjunct i of condition c is put into the lists.
-fn list_disjunct(t: &[u8], k: Counts, c: usize, lists: &mut [u16; 1091], i: usize)
+fn list_disjunct(t: &[u8], k: Counts, c: usize, lists: &mut [u16; 1604], i: usize)
     requires { ⌜ Laid k (length (now t)) ⌝ }
     requires { ⌜ Sized (tables k (now t)) ⌝ }
-    requires { ⌜ (c < k .conditions) × (i < 64) × (length (now lists) ≡ 1091) ⌝ }
+    requires { ⌜ (c < k .conditions) × (i < 64) × (length (now lists) ≡ 1604) ⌝ }
     requires { ⌜ i < length (disjuncts (tables k (now t) .conditions) c) ⌝ }
     ensures { λ _. ⌜ Lists (tables k (now (t .entry)) .conditions) c i (now (lists .entry)) (now (lists .exit)) ⌝ }
 {
@@ -199,10 +255,11 @@ fn list_disjunct(t: &[u8], k: Counts, c: usize, lists: &mut [u16; 1091], i: usiz
 }
 
 // Condition c is listed.
-fn list_condition(t: &[u8], k: Counts, c: usize, lists: &mut [u16; 1091])
+fn list_condition(t: &[u8], k: Counts, c: usize, lists: &mut [u16; 1604])
     requires { ⌜ Laid k (length (now t)) ⌝ }
     requires { ⌜ Sized (tables k (now t)) ⌝ }
-    requires { ⌜ (c < k .conditions) × (length (now lists) ≡ 1091) ⌝ }
+    requires { ⌜ c < k .conditions ⌝ }
+    requires { ⌜ Listed (tables k (now t) .conditions) (now lists) ⌝ }
     ensures { λ _. ⌜ Listed (tables k (now (t .entry)) .conditions) (now (lists .exit)) ⌝ }
 {
     let count = conditions::count(t, k, c);
@@ -214,14 +271,65 @@ fn list_condition(t: &[u8], k: Counts, c: usize, lists: &mut [u16; 1091])
     lists[1088] = c as u16 + 1;
 }
 
-// Condition c was judged by its halves. The 32nd time again in a row it is listed: that takes as long as many a draw.
-fn note_judged(t: &[u8], k: Counts, c: usize, lists: &mut [u16; 1091])
+// The first number of condition x; 0 past the conditions.
+fn first_shared(lists: &[u16; 1604], x: u16) -> u16
+    requires { ⌜ length (now lists) ≡ 1604 ⌝ }
+    ensures { λ v. ⌜ v ≡ getD (now (lists .entry)) (1092 + 2 * x) 0 ⌝ }
+{
+    if x < 256 {
+        return lists[1092 + 2 * x as usize];
+    }
+    0
+}
+
+// The numbers of condition x: its range, or those of its halves if it is an `and`.
+fn note_shared(t: &[u8], k: Counts, lists: &mut [u16; 1604], x: usize)
+    requires { ⌜ Laid k (length (now t)) ⌝ }
+    requires { ⌜ Sized (tables k (now t)) ⌝ }
+    requires { ⌜ x < k .conditions ⌝ }
+    requires { ⌜ Listed (tables k (now t) .conditions) (now lists) ⌝ }
+    ensures { λ _. ⌜ Listed (tables k (now (t .entry)) .conditions) (now (lists .exit)) ⌝ }
+{
+    let it = tables::condition_at(t, k, x);
+    if it.operator == 2 {
+        if it.left < 512 {
+            lists[1092 + 2 * x] = 1 + it.left;
+        }
+        return;
+    }
+    if it.operator == 0 {
+        lists[1092 + 2 * x] = first_shared(lists, it.left);
+        lists[1093 + 2 * x] = first_shared(lists, it.right);
+    }
+}
+
+// Those of all conditions, unless they were looked for.
+fn note_all_shared(t: &[u8], k: Counts, lists: &mut [u16; 1604])
+    requires { ⌜ Laid k (length (now t)) ⌝ }
+    requires { ⌜ Sized (tables k (now t)) ⌝ }
+    requires { ⌜ Listed (tables k (now t) .conditions) (now lists) ⌝ }
+    ensures { λ _. ⌜ Listed (tables k (now (t .entry)) .conditions) (now (lists .exit)) ⌝ }
+{
+    if lists[1091] == 1 {
+        return;
+    }
+    let mut x = 0;
+    while x < k.conditions {
+        note_shared(t, k, lists, x);
+        x += 1;
+    }
+    lists[1091] = 1;
+}
+
+// Condition c was judged by its halves. The first time ranges that are shared are looked for. The 32nd time again in a row it is listed: that takes as long as many a draw.
+fn note_judged(t: &[u8], k: Counts, c: usize, lists: &mut [u16; 1604])
     requires { ⌜ Laid k (length (now t)) ⌝ }
     requires { ⌜ Sized (tables k (now t)) ⌝ }
     requires { ⌜ c < k .conditions ⌝ }
     requires { ⌜ Listed (tables k (now t) .conditions) (now lists) ⌝ }
     ensures { λ _. ⌜ Listed (tables k (now (t .entry)) .conditions) (now (lists .exit)) ⌝ }
 {
+    note_all_shared(t, k, lists);
     let number = c as u16 + 1;
     if lists[1089] != number {
         lists[1089] = number;
@@ -239,10 +347,115 @@ fn note_judged(t: &[u8], k: Counts, c: usize, lists: &mut [u16; 1091])
     }
 }
 
+// ---- a condition by the ranges that its disjuncts share
+
+// Does v name a blocked range?
+fn names_blocked(blocked: &[u8; 768], v: u16) -> bool
+    requires { ⌜ v ≤ 512 ⌝ }
+    ensures { λ b. ⌜ b ≡ namesBlocked (now (blocked .entry)) v ⌝ }
+{
+    if v == 0 {
+        return false;
+    }
+    blocked[255 + v as usize] == 1
+}
+
+// Does a number of condition x?
+pub fn shared_bars(blocked: &[u8; 768], lists: &[u16; 1604], x: usize) -> bool
+    requires { ⌜ (x < 256) × (getD (now lists) (1092 + 2 * x) 0 ≤ 512) × (getD (now lists) (1093 + 2 * x) 0 ≤ 512) ⌝ }
+    ensures { λ b. ⌜ b ≡ sharedBars (now (lists .entry)) (now (blocked .entry)) x ⌝ }
+{
+    if names_blocked(blocked, lists[1092 + 2 * x]) {
+        return true;
+    }
+    names_blocked(blocked, lists[1093 + 2 * x])
+}
+
+// The range that v names is asked: is it blocked, because it does not hold?
+fn bar_shared(
+    marks: &[u8],
+    unions: &[u8],
+    t: &[u8],
+    k: Counts,
+    s: &[u8],
+    l: Limits,
+    n: usize,
+    d: usize,
+    blocked: &mut [u8; 768],
+    watched: &mut [u16; 1024],
+    v: u16,
+) -> bool
+    requires { ⌜ Sees k (now marks) (now unions) (now t) l n d (now s) ⌝ }
+    requires { ⌜ length (now watched) ≡ 1024 ⌝ }
+    ensures { λ b. ⌜ AskedBars (catalogue k (now (marks .entry)) (now (unions .entry)) (now (t .entry))) (trueOf (variables n (held l (now (s .entry)))) (decisions d (held l (now (s .entry))))) v b (now (blocked .entry)) (now (watched .entry)) (now (blocked .exit)) (now (watched .exit)) ⌝ }
+{
+    if v == 0 {
+        return false;
+    }
+    let r = v as usize - 1;
+    if r >= k.ranges {
+        return false;
+    }
+    if goals::range_holds(marks, unions, t, k, s, l, n, d, r) {
+        return false;
+    }
+    bar_range(marks, unions, t, k, blocked, watched, r)
+}
+
+// Does no disjunct of condition c hold, because one of the ranges that they share does not?
+pub fn blocks_by_shared(
+    marks: &[u8],
+    unions: &[u8],
+    t: &[u8],
+    k: Counts,
+    s: &[u8],
+    l: Limits,
+    n: usize,
+    d: usize,
+    c: usize,
+    blocked: &mut [u8; 768],
+    watched: &mut [u16; 1024],
+    lists: &[u16; 1604],
+) -> bool
+    requires { ⌜ Sees k (now marks) (now unions) (now t) l n d (now s) ⌝ }
+    requires { ⌜ (c < 256) × (length (now watched) ≡ 1024) ⌝ }
+    requires { ⌜ Listed (tables k (now t) .conditions) (now lists) ⌝ }
+    ensures { λ b. ⌜ Blocks (catalogue k (now (marks .entry)) (now (unions .entry)) (now (t .entry))) (trueOf (variables n (held l (now (s .entry)))) (decisions d (held l (now (s .entry))))) c b (now (blocked .entry)) (now (watched .entry)) (now (blocked .exit)) (now (watched .exit)) ⌝ }
+{
+    if bar_shared(
+        marks,
+        unions,
+        t,
+        k,
+        s,
+        l,
+        n,
+        d,
+        blocked,
+        watched,
+        lists[1092 + 2 * c],
+    ) {
+        return true;
+    }
+    bar_shared(
+        marks,
+        unions,
+        t,
+        k,
+        s,
+        l,
+        n,
+        d,
+        blocked,
+        watched,
+        lists[1093 + 2 * c],
+    )
+}
+
 // ---- a condition by its list
 
 // Is some range of disjunct i of the lists blocked?
-fn some_barred(blocked: &[u8; 768], lists: &[u16; 1091], i: usize) -> bool
+fn some_barred(blocked: &[u8; 768], lists: &[u16; 1604], i: usize) -> bool
     requires { ⌜ Row 512 (now lists) i ⌝ }
     ensures { λ b. ⌜ RowBars (now (lists .entry)) (now (blocked .entry)) i b ⌝ }
 {
@@ -266,23 +479,24 @@ fn bar_some(
     k: Counts,
     s: &[u8],
     l: Limits,
-    n: Counters,
+    n: usize,
+    d: usize,
     known: &mut [u8; 768],
     blocked: &mut [u8; 768],
-    watched: &mut [u8; 1024],
-    lists: &[u16; 1091],
+    watched: &mut [u16; 1024],
+    lists: &[u16; 1604],
     i: usize,
 ) -> bool
-    requires { ⌜ Sees k (now marks) (now unions) (now t) l n (now s) ⌝ }
+    requires { ⌜ Sees k (now marks) (now unions) (now t) l n d (now s) ⌝ }
     requires { ⌜ Row (k .ranges) (now lists) i ⌝ }
     requires { ⌜ length (now watched) ≡ 1024 ⌝ }
-    ensures { λ b. ⌜ DisjunctBars (catalogue k (now (marks .entry)) (now (unions .entry)) (now (t .entry))) (trueOf (variables (n .variables) (held l (now (s .entry)))) (decisions (n .decisions) (held l (now (s .entry))))) (now (lists .entry)) i b (now (known .entry)) (now (blocked .entry)) (now (watched .entry)) (now (known .exit)) (now (blocked .exit)) (now (watched .exit)) ⌝ }
+    ensures { λ b. ⌜ DisjunctBars (catalogue k (now (marks .entry)) (now (unions .entry)) (now (t .entry))) (trueOf (variables n (held l (now (s .entry)))) (decisions d (held l (now (s .entry))))) (now (lists .entry)) i b (now (known .entry)) (now (blocked .entry)) (now (watched .entry)) (now (known .exit)) (now (blocked .exit)) (now (watched .exit)) ⌝ }
 {
     let len = lists[1024 + i] as usize;
     let mut j = 0;
     while j < len {
         let r = lists[16 * i + j] as usize;
-        if range_verdict(marks, unions, t, k, s, l, n, known, blocked, watched, r) == 2 {
+        if range_verdict(marks, unions, t, k, s, l, n, d, known, blocked, watched, r) == 2 {
             return true;
         }
         j += 1;
@@ -298,17 +512,18 @@ fn bar_disjunct(
     k: Counts,
     s: &[u8],
     l: Limits,
-    n: Counters,
+    n: usize,
+    d: usize,
     known: &mut [u8; 768],
     blocked: &mut [u8; 768],
-    watched: &mut [u8; 1024],
-    lists: &[u16; 1091],
+    watched: &mut [u16; 1024],
+    lists: &[u16; 1604],
     i: usize,
 ) -> bool
-    requires { ⌜ Sees k (now marks) (now unions) (now t) l n (now s) ⌝ }
+    requires { ⌜ Sees k (now marks) (now unions) (now t) l n d (now s) ⌝ }
     requires { ⌜ Row (k .ranges) (now lists) i ⌝ }
     requires { ⌜ length (now watched) ≡ 1024 ⌝ }
-    ensures { λ b. ⌜ DisjunctBars (catalogue k (now (marks .entry)) (now (unions .entry)) (now (t .entry))) (trueOf (variables (n .variables) (held l (now (s .entry)))) (decisions (n .decisions) (held l (now (s .entry))))) (now (lists .entry)) i b (now (known .entry)) (now (blocked .entry)) (now (watched .entry)) (now (known .exit)) (now (blocked .exit)) (now (watched .exit)) ⌝ }
+    ensures { λ b. ⌜ DisjunctBars (catalogue k (now (marks .entry)) (now (unions .entry)) (now (t .entry))) (trueOf (variables n (held l (now (s .entry)))) (decisions d (held l (now (s .entry))))) (now (lists .entry)) i b (now (known .entry)) (now (blocked .entry)) (now (watched .entry)) (now (known .exit)) (now (blocked .exit)) (now (watched .exit)) ⌝ }
 {
     if some_barred(blocked, lists, i) {
         return true;
@@ -321,6 +536,7 @@ fn bar_disjunct(
         s,
         l,
         n,
+        d,
         known,
         blocked,
         watched,
@@ -337,17 +553,18 @@ fn each_barred(
     k: Counts,
     s: &[u8],
     l: Limits,
-    n: Counters,
+    n: usize,
+    d: usize,
     c: usize,
     known: &mut [u8; 768],
     blocked: &mut [u8; 768],
-    watched: &mut [u8; 1024],
-    lists: &[u16; 1091],
+    watched: &mut [u16; 1024],
+    lists: &[u16; 1604],
 ) -> bool
-    requires { ⌜ Sees k (now marks) (now unions) (now t) l n (now s) ⌝ }
+    requires { ⌜ Sees k (now marks) (now unions) (now t) l n d (now s) ⌝ }
     requires { ⌜ (c < k .conditions) × (length (now watched) ≡ 1024) ⌝ }
     requires { ⌜ AllStand (tables k (now t) .conditions) (now lists) c ⌝ }
-    ensures { λ b. ⌜ EachBars (catalogue k (now (marks .entry)) (now (unions .entry)) (now (t .entry))) (trueOf (variables (n .variables) (held l (now (s .entry)))) (decisions (n .decisions) (held l (now (s .entry))))) c b (now (known .entry)) (now (blocked .entry)) (now (watched .entry)) (now (known .exit)) (now (blocked .exit)) (now (watched .exit)) ⌝ }
+    ensures { λ b. ⌜ EachBars (catalogue k (now (marks .entry)) (now (unions .entry)) (now (t .entry))) (trueOf (variables n (held l (now (s .entry)))) (decisions d (held l (now (s .entry))))) c b (now (known .entry)) (now (blocked .entry)) (now (watched .entry)) (now (known .exit)) (now (blocked .exit)) (now (watched .exit)) ⌝ }
 {
     let count = conditions::count(t, k, c);
     let mut i = 0;
@@ -360,6 +577,7 @@ fn each_barred(
             s,
             l,
             n,
+            d,
             known,
             blocked,
             watched,
@@ -381,17 +599,18 @@ fn barred_by_lists(
     k: Counts,
     s: &[u8],
     l: Limits,
-    n: Counters,
+    n: usize,
+    d: usize,
     c: usize,
     known: &mut [u8; 768],
     blocked: &mut [u8; 768],
-    watched: &mut [u8; 1024],
-    lists: &[u16; 1091],
+    watched: &mut [u16; 1024],
+    lists: &[u16; 1604],
 ) -> bool
-    requires { ⌜ Sees k (now marks) (now unions) (now t) l n (now s) ⌝ }
+    requires { ⌜ Sees k (now marks) (now unions) (now t) l n d (now s) ⌝ }
     requires { ⌜ (c < k .conditions) × (length (now watched) ≡ 1024) ⌝ }
     requires { ⌜ Listed (tables k (now t) .conditions) (now lists) ⌝ }
-    ensures { λ b. ⌜ EachBars (catalogue k (now (marks .entry)) (now (unions .entry)) (now (t .entry))) (trueOf (variables (n .variables) (held l (now (s .entry)))) (decisions (n .decisions) (held l (now (s .entry))))) c b (now (known .entry)) (now (blocked .entry)) (now (watched .entry)) (now (known .exit)) (now (blocked .exit)) (now (watched .exit)) ⌝ }
+    ensures { λ b. ⌜ EachBars (catalogue k (now (marks .entry)) (now (unions .entry)) (now (t .entry))) (trueOf (variables n (held l (now (s .entry)))) (decisions d (held l (now (s .entry))))) c b (now (known .entry)) (now (blocked .entry)) (now (watched .entry)) (now (known .exit)) (now (blocked .exit)) (now (watched .exit)) ⌝ }
 {
     if lists[1088] != c as u16 + 1 {
         return false;
@@ -404,6 +623,7 @@ fn barred_by_lists(
         s,
         l,
         n,
+        d,
         c,
         known,
         blocked,
@@ -450,13 +670,31 @@ fn release_ranges(marks: &[u8], k: Counts, blocked: &mut [u8; 768], p: usize)
     }
 }
 
-// No condition is blocked any more, and no range that p is a member of; p is not watched any more. What else is blocked or watched stays so.
-pub fn release(marks: &[u8], k: Counts, blocked: &mut [u8; 768], watched: &mut [u8; 1024], p: usize)
+// Nor is a range that p is watched for: v stands at p, and names it, or else the members tell.
+fn release_watched(marks: &[u8], k: Counts, blocked: &mut [u8; 768], p: usize, v: u16)
+    requires { ⌜ (k .ranges ≤ 512) × (65536 ≤ length (now marks)) ⌝ }
+    ensures { λ _. ⌜ ReleasesWatched k (now (marks .entry)) p v (now (blocked .entry)) (now (blocked .exit)) ⌝ }
+{
+    if v < 513 {
+        blocked[255 + v as usize] = 0;
+        return;
+    }
+    release_ranges(marks, k, blocked, p);
+}
+
+// No condition is blocked any more, and no range that p is watched for; p is not watched any more. What else is blocked or watched stays so.
+pub fn release(
+    marks: &[u8],
+    k: Counts,
+    blocked: &mut [u8; 768],
+    watched: &mut [u16; 1024],
+    p: usize,
+)
     requires { ⌜ (k .ranges ≤ 512) × (65536 ≤ length (now marks)) × (p < 1024) ⌝ }
     ensures { λ _. ⌜ Releases k (now (marks .entry)) p (now (blocked .entry)) (now (watched .entry)) (now (blocked .exit)) (now (watched .exit)) ⌝ }
 {
     release_conditions(blocked);
-    release_ranges(marks, k, blocked, p);
+    release_watched(marks, k, blocked, p, watched[p]);
     watched[p] = 0;
 }
 
@@ -470,16 +708,17 @@ pub fn blocks(
     k: Counts,
     s: &[u8],
     l: Limits,
-    n: Counters,
+    n: usize,
+    d: usize,
     c: usize,
     blocked: &mut [u8; 768],
-    watched: &mut [u8; 1024],
-    lists: &mut [u16; 1091],
+    watched: &mut [u16; 1024],
+    lists: &mut [u16; 1604],
 ) -> bool
-    requires { ⌜ Sees k (now marks) (now unions) (now t) l n (now s) ⌝ }
+    requires { ⌜ Sees k (now marks) (now unions) (now t) l n d (now s) ⌝ }
     requires { ⌜ (c < k .conditions) × (length (now watched) ≡ 1024) ⌝ }
     requires { ⌜ Listed (tables k (now t) .conditions) (now lists) ⌝ }
-    ensures { λ b. ⌜ Blocks (catalogue k (now (marks .entry)) (now (unions .entry)) (now (t .entry))) (trueOf (variables (n .variables) (held l (now (s .entry)))) (decisions (n .decisions) (held l (now (s .entry))))) c b (now (blocked .entry)) (now (watched .entry)) (now (blocked .exit)) (now (watched .exit)) ⌝ }
+    ensures { λ b. ⌜ Blocks (catalogue k (now (marks .entry)) (now (unions .entry)) (now (t .entry))) (trueOf (variables n (held l (now (s .entry)))) (decisions d (held l (now (s .entry))))) c b (now (blocked .entry)) (now (watched .entry)) (now (blocked .exit)) (now (watched .exit)) ⌝ }
     ensures { λ _. ⌜ Listed (tables k (now (t .entry)) .conditions) (now (lists .exit)) ⌝ }
 {
     if blocked[c] == 1 {
@@ -494,6 +733,7 @@ pub fn blocks(
         s,
         l,
         n,
+        d,
         c,
         &mut known,
         blocked,
@@ -511,6 +751,7 @@ pub fn blocks(
         s,
         l,
         n,
+        d,
         &mut known,
         blocked,
         watched,

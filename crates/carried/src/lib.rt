@@ -9,8 +9,8 @@ use solver::Stored;
 use state::Limits;
 use tables::Counts;
 ghost use mathlib.Core.Path.{_≡_};
-ghost use Prim.Native.Nat.{_*_, _<_, _≤_};
-ghost use lib.ListN.{length, set};
+ghost use Prim.Native.Nat.{_+_, _*_, _<_, _≤_};
+ghost use lib.ListN.{length, getD, set};
 ghost use Rattle.rules.specs.Records as rules;
 ghost use Rattle.rules.specs.State.{start};
 ghost use Rattle.rules.proofs.Reached.{Given};
@@ -22,13 +22,14 @@ ghost use Rattle.state.specs.Changed.{Cleared};
 ghost use Rattle.state.specs.Layout.{held, Fits};
 ghost use Rattle.variable_map.specs.Mapping.{variables};
 ghost use Rattle.decision_tracker.specs.Tracking.{decisions};
+ghost use Rattle.entries.specs.Deferred.{isHeld};
 ghost use Rattle.encoder.specs.Held.{LongEnough};
 ghost use Rattle.goals.specs.Goals.{Catalogued};
 ghost use Rattle.blocking.specs.Blocking.{Sees, Listed};
 ghost use Rattle.encoding.specs.Running.{Holds, Reaches};
 ghost use Rattle.serving.specs.Flags.{Flagged};
 ghost use Rattle.sheet.specs.Sheet.{FlaggedAfter};
-ghost use Rattle.carried.specs.Carrying.{Started, MakesTrue, Unblocks, Idles, Notes, SettledDid, IsFlagged, ReadDid, StepDid, FlaggedNext, SheetDid};
+ghost use Rattle.carried.specs.Carrying.{Started, MakesTrue, Unblocks, Idles, Notes, SettledDid, IsFlagged, DrawIdles, ReadDid, StepDid, FlaggedNext, SheetDid};
 
 // Variable 0 is the root; clause 0, install, is stored at the start. The state area was cleared.
 pub fn start(s: &mut [u8], clauses: &mut [u8], l: Limits) -> Counters
@@ -116,10 +117,21 @@ fn made_true(s: &[u8], l: Limits, n: Counters, variable: u16, value: u8) -> usiz
     origin.number as usize
 }
 
+// Is part p watched? Past the parts none is.
+fn is_watched(watched: &[u16; 1024], p: usize) -> bool
+    requires { ⌜ length (now watched) ≡ 1024 ⌝ }
+    ensures { λ b. ⌜ b ≡ isHeld (now (watched .entry)) p ⌝ }
+{
+    if p < 1024 {
+        return watched[p] != 0;
+    }
+    false
+}
+
 // A decision: where it makes a watched part true, no condition is blocked any more, and no range that has the part.
 fn unblock(
     blocked: &mut [u8; 768],
-    watched: &mut [u8; 1024],
+    watched: &mut [u16; 1024],
     marks: &[u8],
     k: Counts,
     s: &[u8],
@@ -134,7 +146,7 @@ fn unblock(
     ensures { λ _. ⌜ Unblocks k (now (marks .entry)) (variables (n .variables) (held l (now (s .entry)))) variable value (now (blocked .entry)) (now (watched .entry)) (now (blocked .exit)) (now (watched .exit)) ⌝ }
 {
     let p = made_true(s, l, n, variable, value);
-    if commands::is_set(watched, p) {
+    if is_watched(watched, p) {
         blocking::release(marks, k, blocked, watched, p);
     }
 }
@@ -143,8 +155,8 @@ fn unblock(
 fn draws_nothing(
     settled: &[u8],
     blocked: &mut [u8; 768],
-    watched: &mut [u8; 1024],
-    lists: &mut [u16; 1091],
+    watched: &mut [u16; 1024],
+    lists: &mut [u16; 1604],
     marks: &[u8],
     unions: &[u8],
     t: &[u8],
@@ -154,7 +166,7 @@ fn draws_nothing(
     n: Counters,
     c: usize,
 ) -> bool
-    requires { ⌜ Sees k (now marks) (now unions) (now t) l n (now s) ⌝ }
+    requires { ⌜ Sees k (now marks) (now unions) (now t) l (n .variables) (n .decisions) (now s) ⌝ }
     requires { ⌜ length (now watched) ≡ 1024 ⌝ }
     requires { ⌜ Listed (tables k (now t) .conditions) (now lists) ⌝ }
     ensures { λ b. ⌜ Idles (catalogue k (now (marks .entry)) (now (unions .entry)) (now (t .entry))) (variables (n .variables) (held l (now (s .entry)))) (decisions (n .decisions) (held l (now (s .entry)))) (rules.Command.draw c) (now (settled .entry)) (now (blocked .entry)) (now (watched .entry)) b (now (blocked .exit)) (now (watched .exit)) ⌝ }
@@ -164,7 +176,20 @@ fn draws_nothing(
         return true;
     }
     if c < k.conditions {
-        return blocking::blocks(marks, unions, t, k, s, l, n, c, blocked, watched, lists);
+        return blocking::blocks(
+            marks,
+            unions,
+            t,
+            k,
+            s,
+            l,
+            n.variables,
+            n.decisions,
+            c,
+            blocked,
+            watched,
+            lists,
+        );
     }
     false
 }
@@ -173,8 +198,8 @@ fn draws_nothing(
 fn is_idle(
     settled: &[u8],
     blocked: &mut [u8; 768],
-    watched: &mut [u8; 1024],
-    lists: &mut [u16; 1091],
+    watched: &mut [u16; 1024],
+    lists: &mut [u16; 1604],
     marks: &[u8],
     unions: &[u8],
     t: &[u8],
@@ -184,7 +209,7 @@ fn is_idle(
     n: Counters,
     command: Command,
 ) -> bool
-    requires { ⌜ Sees k (now marks) (now unions) (now t) l n (now s) ⌝ }
+    requires { ⌜ Sees k (now marks) (now unions) (now t) l (n .variables) (n .decisions) (now s) ⌝ }
     requires { ⌜ length (now watched) ≡ 1024 ⌝ }
     requires { ⌜ Listed (tables k (now t) .conditions) (now lists) ⌝ }
     ensures { λ b. ⌜ Idles (catalogue k (now (marks .entry)) (now (unions .entry)) (now (t .entry))) (variables (n .variables) (held l (now (s .entry)))) (decisions (n .decisions) (held l (now (s .entry)))) (commandOf command) (now (settled .entry)) (now (blocked .entry)) (now (watched .entry)) b (now (blocked .exit)) (now (watched .exit)) ⌝ }
@@ -223,8 +248,8 @@ fn is_idle(
 fn carry_command(
     settled: &[u8],
     blocked: &mut [u8; 768],
-    watched: &mut [u8; 1024],
-    lists: &mut [u16; 1091],
+    watched: &mut [u16; 1024],
+    lists: &mut [u16; 1604],
     marks: &[u8],
     unions: &[u8],
     t: &[u8],
@@ -279,16 +304,63 @@ pub enum Step {
     Refused(Refusal),
 }
 
-// Is a draw of condition c known to change nothing? It is flagged, or blocked.
-fn is_flagged(settled: &[u8], blocked: &[u8; 768], k: Counts, c: usize) -> bool
+// Is a draw of condition c known to change nothing? It is flagged, or blocked, or a range is that its disjuncts share.
+fn is_flagged(settled: &[u8], blocked: &[u8; 768], lists: &[u16; 1604], k: Counts, c: usize) -> bool
     requires { ⌜ k .conditions ≤ 256 ⌝ }
-    ensures { λ b. ⌜ IsFlagged (now (settled .entry)) (now (blocked .entry)) (k .conditions) c b ⌝ }
+    requires { ⌜ (getD (now lists) (1092 + 2 * c) 0 ≤ 512) × (getD (now lists) (1093 + 2 * c) 0 ≤ 512) ⌝ }
+    ensures { λ b. ⌜ IsFlagged (now (settled .entry)) (now (blocked .entry)) (now (lists .entry)) (k .conditions) c b ⌝ }
 {
     if commands::is_set(settled, c) {
         return true;
     }
+    if c >= k.conditions {
+        return false;
+    }
+    if blocked[c] == 1 {
+        return true;
+    }
+    blocking::shared_bars(blocked, lists, c)
+}
+
+// Does it change nothing, as a flag tells or a range that the disjuncts share? These are asked without the counters.
+fn is_passed(
+    settled: &[u8],
+    blocked: &mut [u8; 768],
+    watched: &mut [u16; 1024],
+    lists: &[u16; 1604],
+    marks: &[u8],
+    unions: &[u8],
+    t: &[u8],
+    k: Counts,
+    s: &[u8],
+    l: Limits,
+    n: usize,
+    d: usize,
+    c: usize,
+) -> bool
+    requires { ⌜ Sees k (now marks) (now unions) (now t) l n d (now s) ⌝ }
+    requires { ⌜ length (now watched) ≡ 1024 ⌝ }
+    requires { ⌜ Listed (tables k (now t) .conditions) (now lists) ⌝ }
+    ensures { λ b. ⌜ DrawIdles (catalogue k (now (marks .entry)) (now (unions .entry)) (now (t .entry))) (variables n (held l (now (s .entry)))) (decisions d (held l (now (s .entry)))) c (now (settled .entry)) (now (blocked .entry)) (now (watched .entry)) b (now (blocked .exit)) (now (watched .exit)) ⌝ }
+{
+    if is_flagged(settled, blocked, lists, k, c) {
+        return true;
+    }
     if c < k.conditions {
-        return blocked[c] == 1;
+        return blocking::blocks_by_shared(
+            marks,
+            unions,
+            t,
+            k,
+            s,
+            l,
+            n,
+            d,
+            c,
+            blocked,
+            watched,
+            lists,
+        );
     }
     false
 }
@@ -297,8 +369,8 @@ fn is_flagged(settled: &[u8], blocked: &[u8; 768], k: Counts, c: usize) -> bool
 fn carry_other(
     settled: &[u8],
     blocked: &mut [u8; 768],
-    watched: &mut [u8; 1024],
-    lists: &mut [u16; 1091],
+    watched: &mut [u16; 1024],
+    lists: &mut [u16; 1604],
     marks: &[u8],
     unions: &[u8],
     t: &[u8],
@@ -354,8 +426,8 @@ fn carry_other(
 fn carry_read(
     settled: &[u8],
     blocked: &mut [u8; 768],
-    watched: &mut [u8; 1024],
-    lists: &mut [u16; 1091],
+    watched: &mut [u16; 1024],
+    lists: &mut [u16; 1604],
     marks: &[u8],
     unions: &[u8],
     t: &[u8],
@@ -400,7 +472,21 @@ fn carry_read(
             goals,
         ),
         Command::Draw(c) => {
-            if is_flagged(settled, blocked, k, c as usize) {
+            if is_passed(
+                settled,
+                blocked,
+                watched,
+                lists,
+                marks,
+                unions,
+                t,
+                k,
+                s,
+                l,
+                n.variables,
+                n.decisions,
+                c as usize,
+            ) {
                 return Step::Next {
                     at: next,
                     counters: n,
@@ -484,8 +570,8 @@ fn carry_record(
     at: usize,
     settled: &[u8],
     blocked: &mut [u8; 768],
-    watched: &mut [u8; 1024],
-    lists: &mut [u16; 1091],
+    watched: &mut [u16; 1024],
+    lists: &mut [u16; 1604],
     marks: &[u8],
     unions: &[u8],
     t: &[u8],
@@ -562,8 +648,8 @@ pub fn carry_sheet(
 {
     let mut settled = [0u8; 256];
     let mut blocked = [0u8; 768];
-    let mut watched = [0u8; 1024];
-    let mut lists = [0u16; 1091];
+    let mut watched = [0u16; 1024];
+    let mut lists = [0u16; 1604];
     let mut goals = [0u8; 640];
     let mut at = from;
     let mut m = n;

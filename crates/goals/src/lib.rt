@@ -154,14 +154,14 @@ pub fn part_origin(p: u16) -> Origin
 }
 
 // Part p has a variable that is decided true.
-pub fn decided_true(s: &[u8], l: Limits, n: Counters, p: u16) -> bool
+pub fn decided_true(s: &[u8], l: Limits, n: usize, d: usize, p: u16) -> bool
     requires { ⌜ Fits l (length (now s)) ⌝ }
-    requires { ⌜ Mapped l (n .variables) (held l (now s)) × Kept l (n .decisions) (held l (now s)) × (p < 1024) ⌝ }
-    ensures { λ b. ⌜ b ≡ trueOf (variables (n .variables) (held l (now (s .entry)))) (decisions (n .decisions) (held l (now (s .entry)))) p ⌝ }
+    requires { ⌜ Mapped l n (held l (now s)) × Kept l d (held l (now s)) × (p < 1024) ⌝ }
+    ensures { λ b. ⌜ b ≡ trueOf (variables n (held l (now (s .entry)))) (decisions d (held l (now (s .entry)))) p ⌝ }
 {
-    let place = variable_map::variable(s, l, n.variables, part_origin(p));
+    let place = variable_map::variable(s, l, n, part_origin(p));
     if place > 0 {
-        decision_tracker::is_true(s, l, n.decisions, place - 1)
+        decision_tracker::is_true(s, l, d, place - 1)
     } else {
         false
     }
@@ -175,14 +175,15 @@ fn true_match(
     k: Counts,
     s: &[u8],
     l: Limits,
-    n: Counters,
+    n: usize,
+    d: usize,
     r: usize,
     p: u16,
 ) -> bool
     requires { ⌜ Catalogued k (now marks) (now unions) (now t) ⌝ }
     requires { ⌜ Fits l (length (now s)) ⌝ }
-    requires { ⌜ Mapped l (n .variables) (held l (now s)) × Kept l (n .decisions) (held l (now s)) ⌝ }
-    ensures { λ b. ⌜ b ≡ trueMatch (catalogue k (now (marks .entry)) (now (unions .entry)) (now (t .entry))) (variables (n .variables) (held l (now (s .entry)))) (decisions (n .decisions) (held l (now (s .entry)))) r p ⌝ }
+    requires { ⌜ Mapped l n (held l (now s)) × Kept l d (held l (now s)) ⌝ }
+    ensures { λ b. ⌜ b ≡ trueMatch (catalogue k (now (marks .entry)) (now (unions .entry)) (now (t .entry))) (variables n (held l (now (s .entry)))) (decisions d (held l (now (s .entry)))) r p ⌝ }
 {
     if p as usize >= k.parts {
         return false;
@@ -190,7 +191,7 @@ fn true_match(
     if !cache::chosen(marks, unions, t, k, r, Choice::Matching, p as usize) {
         return false;
     }
-    decided_true(s, l, n, p)
+    decided_true(s, l, n, d, p)
 }
 
 // Does decision i make such a part true?
@@ -201,25 +202,26 @@ fn decides_for(
     k: Counts,
     s: &[u8],
     l: Limits,
-    n: Counters,
+    n: usize,
+    d: usize,
     r: usize,
     i: usize,
 ) -> bool
     requires { ⌜ Catalogued k (now marks) (now unions) (now t) ⌝ }
     requires { ⌜ Fits l (length (now s)) ⌝ }
-    requires { ⌜ Mapped l (n .variables) (held l (now s)) × Kept l (n .decisions) (held l (now s)) ⌝ }
-    requires { ⌜ i < n .decisions ⌝ }
-    ensures { λ b. ⌜ b ≡ decidesFor (catalogue k (now (marks .entry)) (now (unions .entry)) (now (t .entry))) (variables (n .variables) (held l (now (s .entry)))) (decisions (n .decisions) (held l (now (s .entry)))) r (getD (decisions (n .decisions) (held l (now (s .entry)))) i noDecision) ⌝ }
+    requires { ⌜ Mapped l n (held l (now s)) × Kept l d (held l (now s)) ⌝ }
+    requires { ⌜ i < d ⌝ }
+    ensures { λ b. ⌜ b ≡ decidesFor (catalogue k (now (marks .entry)) (now (unions .entry)) (now (t .entry))) (variables n (held l (now (s .entry)))) (decisions d (held l (now (s .entry)))) r (getD (decisions d (held l (now (s .entry)))) i noDecision) ⌝ }
 {
-    let decision = decision_tracker::decision_at(s, l, n.decisions, i);
+    let decision = decision_tracker::decision_at(s, l, d, i);
     if !decision.value {
         return false;
     }
-    let origin = variable_map::origin_at(s, l, n.variables, decision.variable as usize);
+    let origin = variable_map::origin_at(s, l, n, decision.variable as usize);
     if origin.kind != 1 {
         return false;
     }
-    true_match(marks, unions, t, k, s, l, n, r, origin.number)
+    true_match(marks, unions, t, k, s, l, n, d, r, origin.number)
 }
 
 // Some matching part of range r is decided true: by the decisions.
@@ -230,18 +232,19 @@ fn some_decides(
     k: Counts,
     s: &[u8],
     l: Limits,
-    n: Counters,
+    n: usize,
+    d: usize,
     r: usize,
 ) -> bool
     requires { ⌜ Catalogued k (now marks) (now unions) (now t) ⌝ }
     requires { ⌜ Fits l (length (now s)) ⌝ }
-    requires { ⌜ Mapped l (n .variables) (held l (now s)) × Kept l (n .decisions) (held l (now s)) ⌝ }
-    ensures { λ b. ⌜ b ≡ any (trueOf (variables (n .variables) (held l (now (s .entry)))) (decisions (n .decisions) (held l (now (s .entry)))))
+    requires { ⌜ Mapped l n (held l (now s)) × Kept l d (held l (now s)) ⌝ }
+    ensures { λ b. ⌜ b ≡ any (trueOf (variables n (held l (now (s .entry)))) (decisions d (held l (now (s .entry)))))
         (matching (catalogue k (now (marks .entry)) (now (unions .entry)) (now (t .entry))) r) ⌝ }
 {
     let mut i = 0;
-    while i < n.decisions {
-        if decides_for(marks, unions, t, k, s, l, n, r, i) {
+    while i < d {
+        if decides_for(marks, unions, t, k, s, l, n, d, r, i) {
             return true;
         }
         i += 1;
@@ -257,24 +260,25 @@ pub fn range_holds(
     k: Counts,
     s: &[u8],
     l: Limits,
-    n: Counters,
+    n: usize,
+    d: usize,
     r: usize,
 ) -> bool
     requires { ⌜ Catalogued k (now marks) (now unions) (now t) ⌝ }
     requires { ⌜ Fits l (length (now s)) ⌝ }
-    requires { ⌜ Mapped l (n .variables) (held l (now s)) × Kept l (n .decisions) (held l (now s)) ⌝ }
-    ensures { λ b. ⌜ b ≡ any (trueOf (variables (n .variables) (held l (now (s .entry)))) (decisions (n .decisions) (held l (now (s .entry)))))
+    requires { ⌜ Mapped l n (held l (now s)) × Kept l d (held l (now s)) ⌝ }
+    ensures { λ b. ⌜ b ≡ any (trueOf (variables n (held l (now (s .entry)))) (decisions d (held l (now (s .entry)))))
         (matching (catalogue k (now (marks .entry)) (now (unions .entry)) (now (t .entry))) r) ⌝ }
 {
-    let mut left = n.decisions;
+    let mut left = d;
     let mut p = index::first_chosen(marks, unions, t, k, r, Choice::Matching);
     while p < k.parts {
         if left == 0 {
-            return some_decides(marks, unions, t, k, s, l, n, r);
+            return some_decides(marks, unions, t, k, s, l, n, d, r);
         }
         left -= 1;
         if cache::chosen(marks, unions, t, k, r, Choice::Matching, p) {
-            if decided_true(s, l, n, p as u16) {
+            if decided_true(s, l, n, d, p as u16) {
                 return true;
             }
         }
@@ -307,7 +311,17 @@ pub fn disjunct_holds(
     let mut j = 0;
     while j < d.len {
         let r = d.ranges[j];
-        if range_holds(marks, unions, t, k, s, l, n, r as usize) {
+        if range_holds(
+            marks,
+            unions,
+            t,
+            k,
+            s,
+            l,
+            n.variables,
+            n.decisions,
+            r as usize,
+        ) {
             j += 1;
         } else {
             return false;

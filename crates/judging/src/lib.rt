@@ -99,7 +99,7 @@ fn range_verdict(
     if known != 0 {
         return known;
     }
-    let holds = goals::range_holds(marks, unions, t, k, s, l, n, r);
+    let holds = goals::range_holds(marks, unions, t, k, s, l, n.variables, n.decisions, r);
     let v = verdict(holds);
     verdicts[place] = v;
     v

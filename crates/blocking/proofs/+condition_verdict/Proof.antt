@@ -17,7 +17,7 @@ use Rattle.blocking.proofs.+condition_verdict.{statement}
 use Rattle.blocking.proofs.+condition_verdict.Tie.{close}
 
 abbrev number : Measures 7 kinds.ps ℕ
-number κs a = a .1 .1 .1 .1 .1 .1 .1 .1 .1 .1 .0
+number κs a = a .1 .1 .1 .1 .1 .1 .1 .1 .1 .1 .1 .0
 
 -- what `condition_verdict` is given at condition number t, and what a call of it asks below t
 abbrev at : ℕ → In 7 kinds.ps

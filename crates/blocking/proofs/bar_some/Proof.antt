@@ -14,10 +14,10 @@ use Rattle.blocking.proofs.bar_some.Statement.{statement}
 use Rattle.blocking.proofs.bar_some.Tie as tie
 
 abbrev Inv-loop : tie.InvT-loop
-Inv-loop marks unions t k s l n known₀ blocked₀ watched₀ lists i len j₀ known blocked watched j = Grows (catalogue k marks unions t) (trueOf (variables (n .variables) (held l s)) (decisions (n .decisions) (held l s))) known₀ blocked₀ watched₀ known blocked watched
+Inv-loop marks unions t k s l n d known₀ blocked₀ watched₀ lists i len j₀ known blocked watched j = Grows (catalogue k marks unions t) (trueOf (variables n (held l s)) (decisions d (held l s))) known₀ blocked₀ watched₀ known blocked watched
 
 abbrev μ-loop : tie.MeasureT-loop
-μ-loop marks unions t k s l n known₀ blocked₀ watched₀ lists i len j₀ known blocked watched j = len - j
+μ-loop marks unions t k s l n d known₀ blocked₀ watched₀ lists i len j₀ known blocked watched j = len - j
 
 add-len : tie.Need-add-len Inv-loop μ-loop
 add-len c = search needs

@@ -11,10 +11,10 @@ use Rattle.blocking.proofs.each_barred.Statement.{statement}
 use Rattle.blocking.proofs.each_barred.Tie as tie
 
 abbrev Inv-loop : tie.InvT-loop
-Inv-loop marks unions t k s l n c known₀ blocked₀ watched₀ lists count i₀ known blocked watched i = Each (catalogue k marks unions t) (trueOf (variables (n .variables) (held l s)) (decisions (n .decisions) (held l s))) lists i known₀ blocked₀ watched₀ known blocked watched
+Inv-loop marks unions t k s l n d c known₀ blocked₀ watched₀ lists count i₀ known blocked watched i = Each (catalogue k marks unions t) (trueOf (variables n (held l s)) (decisions d (held l s))) lists i known₀ blocked₀ watched₀ known blocked watched
 
 abbrev μ-loop : tie.MeasureT-loop
-μ-loop marks unions t k s l n c known₀ blocked₀ watched₀ lists count i₀ known blocked watched i = count - i
+μ-loop marks unions t k s l n d c known₀ blocked₀ watched₀ lists count i₀ known blocked watched i = count - i
 
 count-requires : tie.Need-count-requires Inv-loop μ-loop
 count-requires c κs = search needs

@@ -7,7 +7,7 @@ use Rattle.blocking.proofs.list_condition.Statement.{statement}
 use Rattle.blocking.proofs.list_condition.Tie as tie
 
 abbrev Inv-loop : tie.InvT-loop
-Inv-loop t k c lists₀ count i₀ lists i = Listing (tables k t .conditions) c i lists
+Inv-loop t k c lists₀ count i₀ lists i = Listing (tables k t .conditions) c i lists₀ lists
 
 abbrev μ-loop : tie.MeasureT-loop
 μ-loop t k c lists₀ count i₀ lists i = count - i

@@ -4,6 +4,9 @@ use Rattle.blocking.proofs.Listing.{listed-times, listed-other}
 use Rattle.blocking.proofs.note_judged.Statement.{statement}
 use Rattle.blocking.proofs.note_judged.Tie as tie
 
+note-all-shared-requires : tie.Need-note-all-shared-requires
+note-all-shared-requires c κs = search needs
+
 cast-number : tie.Need-cast-number
 cast-number c = search needs
 
@@ -41,7 +44,7 @@ element-copy-out-if3 : tie.Need-element-copy-out-if3
 element-copy-out-if3 c = search needs
 
 list-condition-requires : tie.Need-list-condition-requires
-list-condition-requires c κs = search needs
+list-condition-requires c κs = (search needs, (search needs, (search needs, search (needs, listed-times))))
 
 returns-3 : tie.Need-returns-3
 returns-3 c = search needs
@@ -53,6 +56,7 @@ pub note-judged-spec : {M : Type 1} → statement M
 note-judged-spec =
     tie.close
     (tie.spec
+    note-all-shared-requires
     cast-number
     add-number
     element-copy-out-if1

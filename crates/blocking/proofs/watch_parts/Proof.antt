@@ -2,6 +2,7 @@
 use borrow.Author.Needs.{needs}
 use Prim.Native.Nat.{_-_}
 use mathlib.Core.Logic.{⊎-elim}
+use native.Mathlib.Omega.{arith}
 use Rattle.cache.specs.Areas.{catalogue}
 use Rattle.blocking.proofs.Watching.{Watching, watch-first, watch-past, watch-flag, watched-some, watched-all}
 use Rattle.blocking.proofs.watch_parts.Statement.{statement}
@@ -28,6 +29,18 @@ sub-left c = search needs
 chosen-requires : tie.Need-chosen-requires Inv-loop μ-loop
 chosen-requires c κs = search needs
 
+mul-besides : tie.Need-mul-besides Inv-loop μ-loop
+mul-besides c = search needs
+
+element-copy-out-besides : tie.Need-element-copy-out-besides Inv-loop μ-loop
+element-copy-out-besides c = search needs
+
+besides-requires : tie.Need-besides-requires Inv-loop μ-loop
+besides-requires c κs = search needs
+
+mul-watched : tie.Need-mul-watched Inv-loop μ-loop
+mul-watched c = search needs
+
 element-write-watched : tie.Need-element-write-watched Inv-loop μ-loop
 element-write-watched c = search needs
 
@@ -38,7 +51,7 @@ loop-less : tie.Need-loop-less Inv-loop μ-loop
 loop-less c = search needs
 
 loop-again : tie.Need-loop-again Inv-loop μ-loop
-loop-again c = ⊎-elim (λ w. watch-flag _ _ _ _ _ (c .before .before .before .before .before .before .loop .inv) _ (c .before .before .before .before .if1 .taken) (c .before .before .chosen .ensures) (c .next-chosen .ensures) (c .before .before .before .before .before .before .before .before .before .before .before .pre .0 .kept .held .laid .parts) (w .0 .taken) (w .1)) (λ w. search (needs, watch-past)) (c .before .if3 .came)
+loop-again c = ⊎-elim (λ w. let q = c .before .before .before .before .before .before .before .before .before .before .before .pre in watch-flag _ _ _ _ _ (c .before .before .before .before .before .before .loop .inv) _ (c .before .before .before .before .if1 .taken) (c .before .before .chosen .ensures) (c .next-chosen .ensures) (q .0 .kept .held .laid .parts) (omega (arith, q .1 .0, q .0 .kept .held .laid .ranges)) (w .0 .taken) (w .2 .ensures) (w .3)) (λ w. search (needs, watch-past)) (c .before .if3 .came)
 
 returns-2 : tie.Need-returns-2 Inv-loop μ-loop
 returns-2 c = search (needs, watched-all)
@@ -54,6 +67,10 @@ watch-parts-spec =
     returns
     sub-left
     chosen-requires
+    mul-besides
+    element-copy-out-besides
+    besides-requires
+    mul-watched
     element-write-watched
     next-chosen-requires
     loop-less

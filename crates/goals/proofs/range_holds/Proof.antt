@@ -12,10 +12,10 @@ use Rattle.goals.proofs.range_holds.Statement.{statement}
 use Rattle.goals.proofs.range_holds.Tie as tie
 
 abbrev Inv-loop : tie.InvT-loop
-Inv-loop marks unions t k s l n r left₀ p₀ left p = Seeking (catalogue k marks unions t) r (trueOf (variables (n .variables) (held l s)) (decisions (n .decisions) (held l s))) p
+Inv-loop marks unions t k s l n d r left₀ p₀ left p = Seeking (catalogue k marks unions t) r (trueOf (variables n (held l s)) (decisions d (held l s))) p
 
 abbrev μ-loop : tie.MeasureT-loop
-μ-loop marks unions t k s l n r left₀ p₀ left p = k .parts - p
+μ-loop marks unions t k s l n d r left₀ p₀ left p = k .parts - p
 
 first-chosen-requires : tie.Need-first-chosen-requires Inv-loop μ-loop
 first-chosen-requires c κs = search needs

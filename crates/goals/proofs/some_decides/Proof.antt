@@ -10,10 +10,10 @@ use Rattle.goals.proofs.some_decides.Statement.{statement}
 use Rattle.goals.proofs.some_decides.Tie as tie
 
 abbrev Inv-loop : tie.InvT-loop
-Inv-loop marks unions t k s l n r i₀ i = Unmade (catalogue k marks unions t) (variables (n .variables) (held l s)) r (n .decisions) (decisions (n .decisions) (held l s)) i
+Inv-loop marks unions t k s l n d r i₀ i = Unmade (catalogue k marks unions t) (variables n (held l s)) r d (decisions d (held l s)) i
 
 abbrev μ-loop : tie.MeasureT-loop
-μ-loop marks unions t k s l n r i₀ i = n .decisions - i
+μ-loop marks unions t k s l n d r i₀ i = d - i
 
 loop-holds : tie.Need-loop-holds Inv-loop μ-loop
 loop-holds c = search (needs, unmade-start)
