@@ -4,13 +4,13 @@ use mathlib.Core.Logic.{_≢_, inl, inr, ⊎-elim}
 use mathlib.Core.Bool.{Bool, true, false, _&&_, cond, true≢false}
 use mathlib.Core.List.{List, []}
 use mathlib.Core.Option.{Option, none, some}
-use Prim.Native.Nat.{ℕ, _<_, _≤_}
+use Prim.Native.Nat.{ℕ, _+_, _*_, _<_, _≤_}
 use native.Mathlib.Omega.{arith}
 use lib.Dec.{eqb}
 use lib.ListN.{length, getD}
 use borrow.Author.Tests.{eqb-true, ne-eqb}
 use Rattle.rules.specs.Called.{_∈_}
-use Rattle.rules.specs.Catalogue.{root, part, range, union, Catalogue, conditionAt}
+use Rattle.rules.specs.Catalogue.{root, part, range, union, Catalogue, Condition, conditionAt}
 use Rattle.rules.specs.Conditions.{Disjunct, disjuncts, disjunctsIf, disjunctsOf, disjunctAt, isCondition}
 use Rattle.rules.specs.Refusals.{ok}
 use Rattle.rules.specs.Records.{Command}
@@ -32,19 +32,26 @@ use Rattle.reader.specs.declared.Command as code
 use Rattle.reader.specs.declared.Command.the-variants as C
 use Rattle.reader.specs.Reading.{commandOf}
 use Rattle.tables.specs.declared.Counts.{Counts}
+use Rattle.tables.specs.Tables.{tables}
 use Rattle.cache.specs.Areas.{catalogue}
 use Rattle.cache.proofs.Laws.{conditions-held}
+use Rattle.state.specs.declared.Limits.{Limits}
+use Rattle.state.specs.Layout.{held, Fits}
 use Rattle.entries.specs.Deferred.{isHeld}
 use Rattle.variable_map.specs.declared.Origin as code-origin
 use Rattle.variable_map.specs.Mapping.{originBy, originOf}
-use Rattle.goals.specs.Goals.{trueOf, AllGiven}
+use Rattle.goals.specs.Goals.{Catalogued, trueOf, AllGiven}
 use Rattle.goals.proofs.Given.{all-given}
-use Rattle.blocking.specs.Blocking.{Blocked, Blocks, Releases}
+use Rattle.blocking.specs.Blocking.{Blocked, Sees, Blocks, Releases, Listed, sharedBars}
 use Rattle.blocking.proofs.Watching.{held-inside}
 use Rattle.blocking.proofs.Blocking.{one-blocked, blocked-fails, blocked-still}
+use Rattle.blocking.proofs.Sharing.{shared-blocks}
+use Rattle.encoder.specs.declared.Counters.{Counters}
+use Rattle.encoding.specs.Running.{Reaches}
 use Rattle.commands.specs.Commands.{Idle}
+use Rattle.commands.proofs.Drawing.{set-past}
 use Rattle.commands.proofs.Idling.{idle-draw}
-use Rattle.carried.specs.Carrying.{Settled, Has, Guards, Idles, IsFlagged, MakesTrue, Unblocks}
+use Rattle.carried.specs.Carrying.{Settled, Has, Guards, Idles, DrawIdles, IsFlagged, MakesTrue, Unblocks}
 use Rattle.carried.proofs.Undoing.{decided-before}
 use Rattle.carried.proofs.Settling.{drawn-is, carried-is, settled-draw}
 
@@ -65,9 +72,25 @@ module _ (c : Catalogue) (f : ℕ → Bool) (k : ℕ) (h : (d : Disjunct) → d 
   idle-failing : (s : Opening) → AllGiven c (s .waiting) → Idle c f k s
   idle-failing s a = record { none = each-imp entry-idle (a .given) }
 
+-- ---- what draws and decisions see
+
+pub sees : (k : Counts) (m u t : List ℕ) {l : Limits} {n : Counters} {s cl wt : List ℕ} → Catalogued k m u t → Fits l (length s) → Reaches (catalogue k m u t) l n (held l s) cl wt
+    → Sees k m u t l (n .variables) (n .decisions) s
+sees k m u t a f r = record { catalogued = a; fits = f; mapped = r .holds .good .state .mapped; kept = r .holds .good .state .kept }
+
+pub few-conditions : (k : Counts) (m u t : List ℕ) {l : Limits} {n d : ℕ} {s : List ℕ} → Sees k m u t l n d s → k .conditions ≤ 256
+few-conditions k m u t y = y .catalogued .kept .held .laid .conditions
+
+module _ {cs : List Condition} {lists : List ℕ} (y : Listed cs lists) (x : ℕ) where
+  pub first-low : getD lists (1092 + 2 * x) 0 ≤ 512
+  first-low = y .first x .low
+
+  pub second-low : getD lists (1093 + 2 * x) 0 ≤ 512
+  second-low = y .second x .low
+
 -- ---- the code's draw
 
-has-true : {vs : List Origin} {ds : List Decision} {s : State} → Has vs ds s → decidedTrue s ≡ trueOf vs ds
+pub has-true : {vs : List Origin} {ds : List Decision} {s : State} → Has vs ds s → decidedTrue s ≡ trueOf vs ds
 unfolding decidedTrue trueOf
 has-true h = fun-ext (λ p. rw (h .variables, h .decisions))
 
@@ -107,22 +130,45 @@ pub idles-given : (j : Counts) (m u t : List ℕ) {vs : List Origin} {ds : List 
     → Blocks (catalogue j m u t) (trueOf vs ds) k b blocked watched blocked′ watched′ → Idles (catalogue j m u t) vs ds (Command.draw k) flags blocked watched b blocked′ watched′
 idles-given j m u t k h d = idles-asked k (rw (conditions-held j m u t) h) d
 
--- it is flagged, or blocked
-pub flagged-in : {flags blocked : List ℕ} {conditions k : ℕ} {b : Bool} → b ≡ isHeld flags k → b ≡ true → IsFlagged flags blocked conditions k true
-flagged-in e q = record { is = λ _. inl (sym e ∙ q) }
+-- it is flagged, or blocked, or a range is that its disjuncts share
+module _ {flags blocked lists : List ℕ} {conditions k : ℕ} where
+  pub flagged-in : {b : Bool} → b ≡ isHeld flags k → b ≡ true → IsFlagged flags blocked lists conditions k true
+  flagged-in e q = record { is = λ _. inl (sym e ∙ q) }
 
-pub blocked-in : {flags blocked : List ℕ} {conditions k v : ℕ} → k < conditions → v ≡ getD blocked k 0 → IsFlagged flags blocked conditions k (eqb v 1)
-blocked-in {v = v} h e = record { is = λ q. inr (h, sym e ∙ eqb-true v 1 q) }
+  pub blocked-in : {v : ℕ} → k < conditions → v ≡ getD blocked k 0 → v ≡ 1 → IsFlagged flags blocked lists conditions k true
+  blocked-in h e q = record { is = λ _. inr (h, inl (sym e ∙ q)) }
 
-pub flagged-out : {flags blocked : List ℕ} {conditions k : ℕ} → IsFlagged flags blocked conditions k false
-flagged-out = record { is = λ e. absurd (true≢false (sym e)) }
+  pub shared-in : {b : Bool} → k < conditions → b ≡ sharedBars lists blocked k → IsFlagged flags blocked lists conditions k b
+  shared-in h e = record { is = λ q. inr (h, inr (sym e ∙ q)) }
 
-pub idles-flagged : (j : Counts) (m u t : List ℕ) {vs : List Origin} {ds : List Decision} (k : ℕ) {flags blocked watched : List ℕ} {b : Bool} → j .conditions ≤ 256
-    → IsFlagged flags blocked (j .conditions) k b → b ≡ true → Idles (catalogue j m u t) vs ds (Command.draw k) flags blocked watched true blocked watched
-idles-flagged j m u t k {blocked = blocked} few f q = ⊎-elim (λ e. idles-settled k refl e) (λ e. idles-given j m u t k (e .0) (known (e .0) (e .1))) (f .is q)
-  where
-    known : {true? : ℕ → Bool} {watched : List ℕ} → k < j .conditions → getD blocked k 0 ≡ 1 → Blocks (catalogue j m u t) true? k true blocked watched blocked watched
-    known h e = record { none = λ _ w. blocked-fails w k (omega arith) (one-blocked blocked k e); keeps = λ w. w }
+  pub flagged-out : IsFlagged flags blocked lists conditions k false
+  flagged-out = record { is = λ e. absurd (true≢false (sym e)) }
+
+module _ (j : Counts) (m u t : List ℕ) {vs : List Origin} {ds : List Decision} (k : ℕ) {flags blocked watched : List ℕ} where
+  pub passed-flagged : {lists : List ℕ} {b : Bool} → j .conditions ≤ 256 → Listed (tables j t .conditions) lists
+      → IsFlagged flags blocked lists (j .conditions) k b → b ≡ true → DrawIdles (catalogue j m u t) vs ds k flags blocked watched true blocked watched
+  passed-flagged {lists} few y f q =
+      record {
+        long = refl;
+        idles = ⊎-elim (λ e. idles-settled k refl e) (λ e. ⊎-elim (λ z. idles-given j m u t k (e .0) (known (e .0) z)) (λ z. idles-given j m u t k (e .0) (shared-blocks j m u t y z)) (e .1)) (f .is q);
+        keeps = λ w. w;
+      }
+    where
+      known : {true? : ℕ → Bool} {watched : List ℕ} → k < j .conditions → getD blocked k 0 ≡ 1 → Blocks (catalogue j m u t) true? k true blocked watched blocked watched
+      known h e = record { none = λ _ w. blocked-fails w k (omega arith) (one-blocked blocked k e); keeps = λ w. w }
+
+  -- a range that they share is asked
+  pub passed-asked : {b : Bool} {blocked′ watched′ : List ℕ} → k < j .conditions → Blocks (catalogue j m u t) (trueOf vs ds) k b blocked watched blocked′ watched′ → length watched′ ≡ length watched
+      → DrawIdles (catalogue j m u t) vs ds k flags blocked watched b blocked′ watched′
+  passed-asked h d n = record { long = n; idles = idles-given j m u t k h d; keeps = d .keeps }
+
+  -- there is no such condition
+  pub passed-not : DrawIdles (catalogue j m u t) vs ds k flags blocked watched false blocked watched
+  passed-not = record { long = refl; idles = idles-not k; keeps = λ w. w }
+
+pub passed-room : {c : Catalogue} {vs : List Origin} {ds : List Decision} {x : ℕ} {flags blocked watched : List ℕ} {b : Bool} {blocked′ watched′ : List ℕ}
+    → DrawIdles c vs ds x flags blocked watched b blocked′ watched′ → length watched ≡ 1024 → length watched′ ≡ 1024
+passed-room d h = d .long ∙ h
 
 -- ---- the code's decision
 
@@ -157,6 +203,10 @@ module _ {vs : List Origin} {x value p : ℕ} where
 
 pub makes-part : {vs : List Origin} {x value : ℕ} (o : code-origin.Origin) → originOf o ≡ getD vs x (chosen root) → o .kind ≡ 1 → MakesTrue vs x value (o .number)
 makes-part o h k = record { is = λ _ q e. sym (part-number o q k (h ∙ e)) }
+
+-- past the parts none is watched
+pub past-watched : (watched : List ℕ) (p : ℕ) → length watched ≡ 1024 → 1024 ≤ p → false ≡ isHeld watched p
+past-watched watched p l h = set-past watched p (omega arith)
 
 -- a watched part is one of 1,024
 pub watched-inside : {b : Bool} (watched : List ℕ) (p : ℕ) → b ≡ isHeld watched p → b ≡ true → length watched ≡ 1024 → p < 1024

@@ -33,6 +33,7 @@ use Rattle.decision_tracker.specs.Tracking.{decisions}
 use Rattle.encoder.specs.declared.Counters.{Counters}
 use Rattle.encoder.specs.Held.{stateOf}
 use Rattle.encoder.specs.Did.{limitsOf}
+use Rattle.goals.specs.Goals.{trueOf}
 use Rattle.blocking.specs.Blocking.{Blocked}
 use Rattle.encoding.specs.Running.{Holds}
 use Rattle.commands.specs.declared.Outcome.{Outcome}
@@ -41,6 +42,7 @@ use Rattle.sheet.specs.Sheet.{CommandDid}
 use Rattle.carried.specs.declared.Step.{Step}
 use Rattle.carried.specs.declared.Step.the-variants as Step
 use Rattle.carried.specs.Carrying.{endFrom, Settled, Has, Idles, SettledDid, ReadDid, Passed, StepDid}
+use Rattle.carried.proofs.Blocking.{has-true}
 
 -- ---- a sheet record has three bytes or more
 
@@ -119,6 +121,21 @@ module _ {c : Catalogue} {flags blocked watched : List ℕ} {l : Limits} {o : Co
       → SettledDid c flags blocked watched l o n st cl wt r st′ cl′ wt′ blocked′ watched′
   settled-carries k = record { carried = λ m e s g z h _ _. k .carried m e s g z h; guards = d .guards; refused = k .refused }
 
+-- where ranges were asked before it
+settled-after : {c : Catalogue} {flags blocked watched blocked₁ watched₁ : List ℕ} {l : Limits} {o : Command} {n : Counters} {st : ℕ → List ℕ} {cl wt : List ℕ} {r : Outcome}
+    {st′ : ℕ → List ℕ} {cl′ wt′ blocked′ watched′ : List ℕ}
+    → (Blocked c (trueOf (variables (n .variables) st) (decisions (n .decisions) st)) blocked watched → Blocked c (trueOf (variables (n .variables) st) (decisions (n .decisions) st)) blocked₁ watched₁)
+    → SettledDid c flags blocked₁ watched₁ l o n st cl wt r st′ cl′ wt′ blocked′ watched′ → SettledDid c flags blocked watched l o n st cl wt r st′ cl′ wt′ blocked′ watched′
+settled-after {c} {blocked = blocked} {watched} {blocked₁} {watched₁} {n = n} {st} f d =
+    record {
+      carried = λ m e s g z h x w. d .carried m e s g z h x (on (has-held h) w);
+      guards = record { is = λ l s s′ r h e w. d .guards .is l s s′ r h e (on h w) };
+      refused = d .refused;
+    }
+  where
+    on : {s : State} → Has (variables (n .variables) st) (decisions (n .decisions) st) s → Blocked c (decidedTrue s) blocked watched → Blocked c (decidedTrue s) blocked₁ watched₁
+    on h w = rw (has-true h) (f (rw (has-true h) at w))
+
 -- that was read
 module _ {c : Catalogue} {flags blocked watched : List ℕ} {l : Limits} {next : ℕ} {x : code.Command} {n : Counters} {st : ℕ → List ℕ} {cl wt : List ℕ} {st′ : ℕ → List ℕ}
     {cl′ wt′ blocked′ watched′ : List ℕ} where
@@ -136,6 +153,15 @@ module _ {c : Catalogue} {flags blocked watched : List ℕ} {l : Limits} {next :
       record {
         carried = λ a m y v. absurd (not-one (cc));
         refused = λ g v. let q : g ≡ f = cc in rw q d;
+      }
+
+  pub read-after : {blocked₁ watched₁ : List ℕ} {r : Step}
+      → (Blocked c (trueOf (variables (n .variables) st) (decisions (n .decisions) st)) blocked watched → Blocked c (trueOf (variables (n .variables) st) (decisions (n .decisions) st)) blocked₁ watched₁)
+      → ReadDid c flags blocked₁ watched₁ l next x n st cl wt r st′ cl′ wt′ blocked′ watched′ → ReadDid c flags blocked watched l next x n st cl wt r st′ cl′ wt′ blocked′ watched′
+  read-after f d =
+      record {
+        carried = λ a m y v. let p = d .carried a m y v in (p .0, p .1, settled-after f (p .2));
+        refused = λ g v. settled-after f (d .refused g v);
       }
 
   -- under another name

@@ -28,7 +28,8 @@ use Rattle.decision_tracker.specs.Tracking.{decisions}
 use Rattle.entries.specs.Deferred.{isHeld}
 use Rattle.encoder.specs.declared.Counters.{Counters}
 use Rattle.encoder.specs.Did.{limitsOf}
-use Rattle.blocking.specs.Blocking.{Blocked}
+use Rattle.goals.specs.Goals.{trueOf}
+use Rattle.blocking.specs.Blocking.{Blocked, sharedBars}
 use Rattle.serving.specs.Flags.{Flagged}
 use Rattle.encoding.specs.Running.{Holds}
 use Rattle.commands.specs.declared.Outcome as commands
@@ -71,6 +72,12 @@ pub record Idles (c : Catalogue) (vs : List Origin) (ds : List Decision) (o : Co
       → carryOut l c o s ≡ ok s
   pub guards : Guards c vs ds o blocked watched blocked′ watched′
 
+-- b says so of a draw of condition x; where it does not, what is flagged is blocked before the draw
+pub record DrawIdles (c : Catalogue) (vs : List Origin) (ds : List Decision) (x : ℕ) (settled blocked watched : List ℕ) (b : Bool) (blocked′ watched′ : List ℕ) : Type 0 where
+  pub long : length watched′ ≡ length watched
+  pub idles : Idles c vs ds (Command.draw x) settled blocked watched b blocked′ watched′
+  pub keeps : Blocked c (trueOf vs ds) blocked watched → Blocked c (trueOf vs ds) blocked′ watched′
+
 -- only part p can be made true by value `value` of variable x
 pub record MakesTrue (vs : List Origin) (x value p : ℕ) : Type 0 where
   pub is : value ≡ 1 → (q : ℕ) → getD vs x (chosen root) ≡ partOrigin q → q ≡ p
@@ -93,9 +100,9 @@ pub record SettledDid (c : Catalogue) (flags blocked watched : List ℕ) (l : Li
   pub refused : (f : Refusal) → r ≡ outcome.Refused f → (s : State) → Given c → Reached (limitsOf l) c s → Holds c l s n st cl wt
       → carryOut (limitsOf l) c o s ≡ refuse (refusalOf f)
 
--- if b is true condition x is flagged, or blocked
-pub record IsFlagged (flags blocked : List ℕ) (conditions x : ℕ) (b : Bool) : Type 0 where
-  pub is : b ≡ true → (isHeld flags x ≡ true) ⊎ ((x < conditions) × (getD blocked x 0 ≡ 1))
+-- if b is true condition x is flagged, or blocked, or a range is that its disjuncts share
+pub record IsFlagged (flags blocked lists : List ℕ) (conditions x : ℕ) (b : Bool) : Type 0 where
+  pub is : b ≡ true → (isHeld flags x ≡ true) ⊎ ((x < conditions) × ((getD blocked x 0 ≡ 1) ⊎ (sharedBars lists blocked x ≡ true)))
 
 -- the command x, which was read up to byte `next`, was carried out or refused
 pub record ReadDid (c : Catalogue) (flags blocked watched : List ℕ) (l : Limits) (next : ℕ) (x : code.Command) (n : Counters) (st : ℕ → List ℕ) (cl wt : List ℕ)

@@ -1,12 +1,13 @@
 -- `carried::carry_command` carries a command out or refuses it; a draw that changes nothing it passes over.
 use borrow.Author.Needs.{needs}
+use Rattle.carried.proofs.Blocking.{sees}
 use Rattle.carried.proofs.Records.{settled-passes, settled-carries}
 use Rattle.sheet.proofs.Flags.{after-carried}
 use Rattle.carried.proofs.carry_command.Statement.{statement}
 use Rattle.carried.proofs.carry_command.Tie as tie
 
 is-idle-requires : tie.Need-is-idle-requires
-is-idle-requires c κs = search needs
+is-idle-requires c κs = (search (needs, sees), search needs)
 
 same-length : tie.Need-same-length
 same-length c = search needs

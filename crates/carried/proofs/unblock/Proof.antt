@@ -7,8 +7,8 @@ use Rattle.carried.proofs.unblock.Tie as tie
 made-true-requires : tie.Need-made-true-requires
 made-true-requires c κs = search needs
 
-is-set-requires : tie.Need-is-set-requires
-is-set-requires c κs = search needs
+is-watched-requires : tie.Need-is-watched-requires
+is-watched-requires c κs = search needs
 
 release-requires : tie.Need-release-requires
 release-requires c κs = (search needs, search needs, search (needs, watched-inside))
@@ -21,4 +21,4 @@ returns-2 c = search (needs, unblocks-none)
 
 pub unblock-spec : {M : Type 1} → statement M
 unblock-spec =
-    tie.close (tie.spec made-true-requires is-set-requires release-requires returns returns-2)
+    tie.close (tie.spec made-true-requires is-watched-requires release-requires returns returns-2)
