@@ -9,8 +9,10 @@ HOST_RUN = host/with-reference cargo run --quiet --release
 .PHONY: test host-test compare bench record demo
 
 # `rt ci` proves everything from nothing; the host tests link what it built, and its last line is said again at the end.
-# rt waits for each batch of crates or edits; docs/DECISIONS.md 60 says why there are eight in one.
+# rt waits for each batch of crates or edits; docs/DECISIONS.md 60 says why there are eight in one. The Rust is built
+# beside it: what fails there fails again in host/test, which says why.
 test:
+	@host/with-reference cargo test --no-run --quiet --release --package oracle --package compare >/dev/null 2>&1 &
 	@RT_JOBS=8 rt ci | tee ci.log
 	@host/test
 	@tail -n 1 ci.log

@@ -1,27 +1,25 @@
 -- Ranges that each disjunct of a condition has: it has its halves' if it is an `and`. Where one of them is blocked no disjunct holds.
 use mathlib.Core.Path.{_≡_, refl, sym, _∙_}
-use mathlib.Core.Logic.{⊎-elim}
-use mathlib.Core.Bool.{Bool, true, false, not, _&&_, _||_, true≢false, false≢true}
+use mathlib.Core.Bool.{Bool, true, false, not, false≢true}
 use mathlib.Core.List.{List}
 use Prim.Native.Nat.{ℕ, _+_, _-_, _*_, _<_, _≤_}
 use native.Mathlib.Omega.{arith}
 use lib.Dec.{eqb}
 use lib.ListN.{length, getD, set, List·getD-eq-default}
-use borrow.Author.Tests.{eqb-true, eqb-false, eq-eqb, ne-eqb}
+use borrow.Author.Tests.{eq-eqb, ne-eqb}
 use Rattle.rules.specs.Lists.{any}
 use Rattle.rules.specs.Called.{_∈_}
 use Rattle.rules.specs.Catalogue.{Catalogue, Condition, and, joined, noCondition}
 use Rattle.rules.specs.Candidates.{matching}
 use Rattle.rules.specs.Conditions.{Disjunct, combined, disjuncts}
-use Rattle.rules.specs.Items.{operatorOf}
 use Rattle.rules.specs.Opening.{holdsNow}
-use Rattle.rules.proofs.Bools.{by-cases, and-left, and-right, and-both, or-right}
+use Rattle.rules.proofs.Bools.{by-cases, and-right}
 use Rattle.rules.proofs.DisjunctLaws.{disjuncts-leaf, disjuncts-joined}
 use Rattle.tables.specs.declared.Counts.{Counts}
 use Rattle.tables.specs.declared.Condition as table
 use Rattle.tables.specs.Tables.{tables, conditionIs}
 use Rattle.tables.proofs.Laws.{conditions-counted}
-use Rattle.conditions.specs.Sizes.{Earlier, Sized}
+use Rattle.conditions.specs.Sizes.{Sized}
 use Rattle.conditions.proofs.Sizing.{row-leaf, row-joined, and-when}
 use Rattle.cache.specs.Areas.{catalogue}
 use Rattle.cache.proofs.Laws.{conditions-same}

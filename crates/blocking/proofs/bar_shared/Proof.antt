@@ -1,3 +1,4 @@
+-- `blocking::bar_shared` asks the range that a number names, and blocks it if it does not hold and that can be watched.
 use borrow.Author.Needs.{needs}
 use Rattle.blocking.proofs.Sharing.{asked-not, asked-bars}
 use Rattle.blocking.proofs.bar_shared.Statement.{statement}

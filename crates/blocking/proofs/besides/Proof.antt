@@ -1,3 +1,4 @@
+-- `blocking::besides` tells what stands at a part that is watched for one more range.
 use borrow.Author.Needs.{needs}
 use Rattle.blocking.proofs.Watching.{besides-none, besides-same, besides-other}
 use Rattle.blocking.proofs.besides.Statement.{statement}

@@ -1,3 +1,4 @@
+-- `blocking::first_shared` reads the first number of a condition; past the conditions there is none.
 use borrow.Author.Needs.{needs}
 use Rattle.blocking.proofs.Sharing.{past-shared}
 use Rattle.blocking.proofs.first_shared.Statement.{statement}

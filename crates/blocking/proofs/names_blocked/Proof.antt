@@ -1,3 +1,4 @@
+-- `blocking::names_blocked` tells whether a number names a blocked range.
 use borrow.Author.Needs.{needs}
 use Rattle.blocking.proofs.Sharing.{bars-none, bars-some}
 use Rattle.blocking.proofs.names_blocked.Statement.{statement}

@@ -1,3 +1,4 @@
+-- `blocking::note_all_shared` notes them of all conditions, once. The invariant: what is noted is so.
 use borrow.Author.Needs.{needs}
 use Prim.Native.Nat.{_-_}
 use Rattle.tables.specs.Tables.{tables}

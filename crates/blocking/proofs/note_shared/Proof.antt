@@ -1,3 +1,4 @@
+-- `blocking::note_shared` notes ranges that each disjunct of a condition has.
 use borrow.Author.Needs.{needs}
 use Rattle.blocking.proofs.Sharing.{noted-leaf, noted-and}
 use Rattle.blocking.proofs.note_shared.Statement.{statement}

@@ -1,3 +1,4 @@
+-- `blocking::release` unblocks what may hold once a part is decided true.
 use borrow.Author.Needs.{needs}
 use Rattle.blocking.proofs.Releasing.{released}
 use Rattle.blocking.proofs.release.Statement.{statement}

@@ -1,3 +1,4 @@
+-- `blocking::release_watched` unblocks the ranges that a part is watched for: the one that stands at it, or all that it is a member of.
 use borrow.Author.Needs.{needs}
 use Rattle.blocking.proofs.Releasing.{watched-one, watched-several}
 use Rattle.blocking.proofs.release_watched.Statement.{statement}

@@ -1,3 +1,4 @@
+-- `blocking::shared_bars` tells whether a number of a condition names a blocked range.
 use borrow.Author.Needs.{needs}
 use Rattle.blocking.proofs.Sharing.{shared-first, shared-second}
 use Rattle.blocking.proofs.shared_bars.Statement.{statement}

@@ -1,3 +1,4 @@
+-- `carried::is_flagged` asks flags: of the condition, and of ranges that its disjuncts share.
 use borrow.Author.Needs.{needs}
 use Rattle.carried.proofs.Blocking.{flagged-in, blocked-in, shared-in, flagged-out}
 use Rattle.carried.proofs.is_flagged.Statement.{statement}

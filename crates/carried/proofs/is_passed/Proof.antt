@@ -1,3 +1,4 @@
+-- `carried::is_passed` tells that a draw changes nothing: as a flag says, or a range that the disjuncts share.
 use borrow.Author.Needs.{needs}
 use Rattle.blocking.proofs.Asking.{condition-low}
 use Rattle.carried.proofs.Blocking.{few-conditions, first-low, second-low, passed-flagged, passed-asked, passed-not}

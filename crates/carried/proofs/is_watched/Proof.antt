@@ -1,3 +1,4 @@
+-- `carried::is_watched` tells whether a part is watched; past the parts none is.
 use borrow.Author.Needs.{needs}
 use Rattle.commands.proofs.Drawing.{set-within}
 use Rattle.carried.proofs.Blocking.{past-watched}
