@@ -4,6 +4,7 @@ use mathlib.Core.Bool.{true, false}
 use mathlib.Core.List.{List}
 use Prim.Native.Nat.{ℕ, _+_, _*_, _<_, _≤_}
 use lib.ListN.{length, getD, take, drop}
+use Rattle.rules.specs.Bytes.{byteAt, wordAt}
 use Rattle.rules.specs.Catalogue.{Catalogue, emptyCatalogue}
 use Rattle.rules.specs.Refusals.{ok, numberAndPlace}
 use Rattle.rules.specs.Records.{kindOf, read}
@@ -18,6 +19,7 @@ use Rattle.kept.specs.Kept.{Kept}
 use Rattle.kept.specs.Entered.{Entered}
 use Rattle.kept.specs.declared.Added.{Added}
 use Rattle.kept.specs.declared.Added.the-variants as Added
+use Rattle.part_items.specs.Flags.{Unflagged, Plain, Free}
 use Rattle.catalogue.specs.declared.Step.{Step}
 use Rattle.catalogue.specs.declared.Step.the-variants as Step
 use Rattle.catalogue.specs.declared.Read.{Read}
@@ -86,6 +88,45 @@ module _ (job : List ℕ) (at : ℕ) (k : Counts) where
 pub record Stepped (job : List ℕ) (at : ℕ) (k : Counts) (m u t : List ℕ) (s : Step) (m′ u′ t′ : List ℕ) : Type 0 where
   pub same : Same job at (reading (catalogue k m u t)) (placeAfter job at k s) (progressAfter job at k s m′ u′ t′)
   pub then : Then job at k s m′ u′ t′
+
+-- ---- parts that follow a part
+
+abbrev pub nameAt : (job : List ℕ) → ℕ → ℕ
+nameAt job at = wordAt (bodyAt job at 2) 0
+
+abbrev pub flagsAt : (job : List ℕ) → ℕ → ℕ
+flagsAt job at = byteAt (bodyAt job at 2) 2
+
+-- a part stands at `at`, whole
+pub record PartAt (job : List ℕ) (at : ℕ) : Type 0 where
+  pub there : at + 8 ≤ length job
+  pub here : getD job at 0 ≡ 2
+
+pub record PlainAt (job : List ℕ) (at : ℕ) (k : Counts) : Type 0 where
+  pub part : PartAt job at
+  pub plain : Plain k (nameAt job at) (flagsAt job at)
+
+pub record FreeAt (job : List ℕ) (at : ℕ) (k : Counts) (c : Catalogue) : Type 0 where
+  pub part : PartAt job at
+  pub free : Free k c (nameAt job at) (flagsAt job at)
+
+-- the part at `at`, of areas m, u and t that hold k things: the counts r and the tables after it
+pub record PartTaken (job : List ℕ) (at : ℕ) (k : Counts) (m u t : List ℕ) (r : Counts) (t′ : List ℕ) : Type 0 where
+  pub stepped : Stepped job at k m u t (Step.Next (at + 8) r) m u t′
+  pub unflagged : (end : ℕ) → Plain k (nameAt job at) (flagsAt job at) → Unflagged (catalogue k m u t) end → Unflagged (catalogue r m u t′) end
+
+-- from byte `at` the walks come to byte a, where the areas hold r things
+pub record Onward (job : List ℕ) (at : ℕ) (k : Counts) (m u t : List ℕ) (a : ℕ) (r : Counts) (t′ : List ℕ) : Type 0 where
+  pub onward : at ≤ a
+  pub inside : a ≤ length job
+  pub ready : Ready a r m u t′
+  pub same : Same job at (reading (catalogue k m u t)) a (reading (catalogue r m u t′))
+
+pub record GoneOn (job : List ℕ) (at : ℕ) (k : Counts) (m u t : List ℕ) (s : Step) (t′ : List ℕ) : Type 0 where
+  pub next : ℕ
+  pub counts : Counts
+  pub step : s ≡ Step.Next next counts
+  pub onward : Onward job at k m u t next counts t′
 
 -- ---- the whole catalogue
 

@@ -11,9 +11,10 @@ ghost use Rattle.rules.specs.Records.{kindOf};
 ghost use Rattle.rules.specs.Job.{startsSheet};
 ghost use Rattle.reader.specs.Reading.{bodyLength, itemRead};
 ghost use Rattle.cache.specs.Areas.{catalogue};
+ghost use Rattle.part_items.specs.Flags.{Unflagged, If};
 ghost use Rattle.kept.specs.Kept.{Kept};
 ghost use Rattle.kept.specs.Entered.{rowsOf};
-ghost use Rattle.catalogue.specs.Walking.{Ready, bodyAt, stepTo, Taken, ItemAt, Stepped, ReadUp};
+ghost use Rattle.catalogue.specs.Walking.{Ready, bodyAt, stepTo, Taken, ItemAt, PartAt, PlainAt, FreeAt, PartTaken, Stepped, GoneOn, ReadUp};
 
 // After the record at a place: the place and the counts after it, or the place is that of the first sheet record, or why it is refused.
 pub enum Step {
@@ -183,6 +184,113 @@ pub fn starts_sheet(kind: u8) -> bool
     true
 }
 
+// ---- parts that follow a part
+
+// Does a part stand at `at`, whole?
+fn is_part(job: &[u8], at: usize) -> bool
+    requires { ⌜ at ≤ length (now job) ⌝ }
+    ensures { λ r. ⌜ If r (PartAt (now (job .entry)) at) ⌝ }
+{
+    if job.len() - at < 8 {
+        return false;
+    }
+    job[at] == 2
+}
+
+// One that nothing speaks against, whatever parts came before it?
+fn is_plain_part(job: &[u8], at: usize, k: Counts) -> bool
+    requires { ⌜ at ≤ length (now job) ⌝ }
+    ensures { λ r. ⌜ If r (PlainAt (now (job .entry)) at k) ⌝ }
+{
+    if is_part(job, at) {
+        let body = reader::body(job, at, at + 8);
+        return part_items::is_plain(k, reader::word(body, 0), reader::byte(body, 2));
+    }
+    false
+}
+
+// One that nothing speaks against? No part from `end` on is locked or favoured.
+fn is_free_part(
+    job: &[u8],
+    at: usize,
+    marks: &[u8],
+    unions: &[u8],
+    t: &[u8],
+    k: Counts,
+    end: usize,
+) -> bool
+    requires { ⌜ at ≤ length (now job) ⌝ }
+    requires { ⌜ Kept k (now marks) (now unions) (now t) ⌝ }
+    requires { ⌜ Unflagged (catalogue k (now marks) (now unions) (now t)) end ⌝ }
+    ensures { λ r. ⌜ If r (FreeAt (now (job .entry)) at k (catalogue k (now (marks .entry)) (now (unions .entry)) (now (t .entry)))) ⌝ }
+{
+    if is_part(job, at) {
+        let body = reader::body(job, at, at + 8);
+        return part_items::is_free(
+            marks,
+            unions,
+            t,
+            k,
+            reader::word(body, 0),
+            reader::byte(body, 2),
+            end,
+        );
+    }
+    false
+}
+
+// Such a part.
+fn add_free_part(
+    job: &[u8],
+    at: usize,
+    marks: &[u8],
+    unions: &[u8],
+    t: &mut [u8],
+    k: Counts,
+) -> Counts
+    requires { ⌜ Ready at k (now marks) (now unions) (now t) ⌝ }
+    requires { ⌜ FreeAt (now job) at k (catalogue k (now marks) (now unions) (now t)) ⌝ }
+    ensures { λ r. ⌜ PartTaken (now (job .entry)) at k (now (marks .entry)) (now (unions .entry)) (now (t .entry)) r (now (t .exit)) ⌝ }
+{
+    let body = reader::body(job, at, at + 8);
+    part_items::add_free(
+        marks,
+        unions,
+        t,
+        k,
+        reader::word(body, 0),
+        reader::byte(body, 2),
+        reader::word(body, 3),
+        reader::word(body, 5),
+    )
+}
+
+// The parts from `from` on that are neither locked nor favoured, and one behind them that may be either: of those before it, only the parts before `from` are looked at.
+// The first part that is refused, if any, is left to be read as any other record.
+fn pass_parts(job: &[u8], from: usize, marks: &[u8], unions: &[u8], t: &mut [u8], k: Counts) -> Step
+    requires { ⌜ (from ≤ length (now job)) × (length (now job) ≤ 65536) ⌝ }
+    requires { ⌜ Ready from k (now marks) (now unions) (now t) ⌝ }
+    ensures { λ r. ⌜ GoneOn (now (job .entry)) from k (now (marks .entry)) (now (unions .entry)) (now (t .entry)) r (now (t .exit)) ⌝ }
+{
+    let mut at = from;
+    let mut counts = k;
+    while is_plain_part(job, at, counts) {
+        counts = add_free_part(job, at, marks, unions, t, counts);
+        at += 8;
+    }
+    if is_free_part(job, at, marks, unions, t, counts, k.parts) {
+        let next = at + 8;
+        let more = add_free_part(job, at, marks, unions, t, counts);
+        return Step::Next {
+            at: next,
+            counts: more,
+        };
+    }
+    Step::Next { at, counts }
+}
+
+// ---- one record, and all of them
+
 // The item of the record at `at`, of this kind.
 fn enter(
     job: &[u8],
@@ -200,6 +308,36 @@ fn enter(
         r (now (marks .exit)) (now (unions .exit)) (now (t .exit)) ⌝ }
 {
     add_item(job, at, marks, unions, t, k, kind)
+}
+
+// And behind a part, the parts that follow.
+fn enter_run(
+    job: &[u8],
+    at: usize,
+    marks: &mut [u8],
+    unions: &mut [u8],
+    t: &mut [u8],
+    k: Counts,
+    kind: u8,
+) -> Step
+    requires { ⌜ length (now job) ≤ 65536 ⌝ }
+    requires { ⌜ Ready at k (now marks) (now unions) (now t) ⌝ }
+    requires { ⌜ ItemAt (now job) at kind ⌝ }
+    ensures { λ r. ⌜ Stepped (now (job .entry)) at k (now (marks .entry)) (now (unions .entry)) (now (t .entry))
+        r (now (marks .exit)) (now (unions .exit)) (now (t .exit)) ⌝ }
+{
+    let step = enter(job, at, marks, unions, t, k, kind);
+    if kind != 2 {
+        return step;
+    }
+    match step {
+        Step::Next {
+            at: next,
+            counts: more,
+        } => pass_parts(job, next, marks, unions, t, more),
+        Step::Sheet => Step::Sheet,
+        Step::Refused(refusal) => Step::Refused(refusal),
+    }
 }
 
 // The record at `at`. A sheet record is left as it is, its body not looked at.
@@ -224,7 +362,7 @@ pub fn read_record(
     match record {
         Record::Refused(refusal) => Step::Refused(refusal),
         Record::Sheet => Step::Sheet,
-        Record::Item => enter(job, at, marks, unions, t, k, kind),
+        Record::Item => enter_run(job, at, marks, unions, t, k, kind),
     }
 }
 

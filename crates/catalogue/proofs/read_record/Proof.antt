@@ -25,8 +25,8 @@ enum-told c = search needs
 enum-told-2 : tie.Need-enum-told-2
 enum-told-2 c = search needs
 
-enter-requires : tie.Need-enter-requires
-enter-requires c κs = (search needs, (search needs, search (needs, item-at)))
+enter-run-requires : tie.Need-enter-run-requires
+enter-run-requires c κs = (search needs, (search needs, search (needs, item-at)))
 
 returns-2 : tie.Need-returns-2
 returns-2 c = search (needs, step-unread)
@@ -57,7 +57,7 @@ read-record-spec =
     enum-known-record
     enum-told
     enum-told-2
-    enter-requires
+    enter-run-requires
     returns-2
     returns-3
     same-length

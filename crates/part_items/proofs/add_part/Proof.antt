@@ -1,6 +1,7 @@
--- `part_items::add_part` enters a part or refuses it; a second locked or favoured one of its name is looked for only where the flag is set.
+-- `part_items::add_part` enters a part or refuses it; which of two it would be the second of, locked or favoured, is asked only where it is one of them.
 use borrow.Author.Needs.{needs}
-use Rattle.part_items.proofs.Items.{part-full, part-nameless, part-bits, part-locked, part-favoured, part-entered}
+use Rattle.part_items.proofs.Items.{part-full, part-nameless, part-bits, part-locked, part-favoured, part-first}
+use Rattle.part_items.proofs.Search.{all-before}
 use Rattle.part_items.proofs.add_part.Statement.{statement}
 use Rattle.part_items.proofs.add_part.Tie as tie
 
@@ -13,6 +14,9 @@ returns-2 c = search (needs, part-nameless)
 returns-3 : tie.Need-returns-3
 returns-3 c = search (needs, part-bits)
 
+is-second-requires : tie.Need-is-second-requires
+is-second-requires c κs = (search needs, search (needs, all-before))
+
 second-locked-requires : tie.Need-second-locked-requires
 second-locked-requires c κs = search needs
 
@@ -21,9 +25,6 @@ same-length c = search needs
 
 returns-4 : tie.Need-returns-4
 returns-4 c = search (needs, part-locked)
-
-second-favoured-requires : tie.Need-second-favoured-requires
-second-favoured-requires c κs = search needs
 
 same-length-2 : tie.Need-same-length-2
 same-length-2 c = search needs
@@ -38,7 +39,7 @@ same-length-3 : tie.Need-same-length-3
 same-length-3 c = search needs
 
 returns-6 : tie.Need-returns-6
-returns-6 c = search (needs, part-entered)
+returns-6 c = search (needs, part-first)
 
 pub add-part-spec : {M : Type 1} → statement M
 add-part-spec =
@@ -47,10 +48,10 @@ add-part-spec =
     returns
     returns-2
     returns-3
+    is-second-requires
     second-locked-requires
     same-length
     returns-4
-    second-favoured-requires
     same-length-2
     returns-5
     put-part-requires
