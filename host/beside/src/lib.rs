@@ -2,7 +2,6 @@
 
 pub mod areas;
 pub mod checking;
-pub mod clock;
 pub mod jobs;
 pub mod measure;
 pub mod search;

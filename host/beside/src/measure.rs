@@ -14,7 +14,7 @@ use job::answer::{Answer, Refusal, Request, Side as _};
 use kit::{Kit, Limits, Listing, lent};
 use oracle::Rust;
 
-use crate::{clock::timed, jobs::Job};
+use crate::jobs::Job;
 
 /// A round calls a short job so often that it takes about so long: asking the clock takes time too.
 const ROUND: Duration = Duration::from_micros(200);
@@ -81,6 +81,14 @@ impl Found {
         let best = Duration::from_nanos(numbers.next()??);
         Some(Found { best, listing: numbers.next()?? as usize, answer: numbers.next()?? })
     }
+}
+
+/// How long a call takes by the clock on the wall, and what it gives. The processor time of a thread is
+/// told too small now and then, where processors are shared; the best of many rounds does without it.
+pub fn timed<T>(call: impl FnOnce() -> T) -> (Duration, T) {
+    let start = Instant::now();
+    let given = call();
+    (start.elapsed(), given)
 }
 
 // ---- in the process

@@ -7,7 +7,7 @@ use compare::random::Random;
 use job::{answer::Request, limits::JOB_CEILING, record::body_length};
 use kit::{Kit, Limits};
 
-use crate::{clock::timed, jobs};
+use crate::{jobs, measure::timed};
 
 /// The first kind of a sheet record.
 const SHEET: u8 = 32;

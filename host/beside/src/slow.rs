@@ -8,6 +8,7 @@ pub fn jobs() -> Vec<(&'static str, Vec<u8>)> {
         ("members", members()),
         ("union members", union_members()),
         ("parts", parts()),
+        ("locked parts", locked_parts()),
         ("joined conditions", joined()),
         ("requirements", requirements()),
     ]
@@ -44,11 +45,22 @@ fn union_members() -> Vec<u8> {
     filled(before, |_| Record::UnionMember { union: 0, range: 0 })
 }
 
-/// 1,024 parts of one name, the last one locked: the search for a second locked part sees them all.
+/// 1,024 parts of one name, the last one locked and favoured.
 fn parts() -> Vec<u8> {
     let last = Record::Part { name: 0, flags: 4 + 8, unknown_reason: 0, exclusion_reason: 0 };
     let parts = std::iter::repeat_n(part(), 1_023).chain([last]);
     job_of([Record::Name { flags: 1 }].into_iter().chain(parts))
+}
+
+/// 1,024 parts, at the end the locked one and the favoured one of each of 64 names: whoever looks for a
+/// second one among all parts sees them all 128 times.
+fn locked_parts() -> Vec<u8> {
+    let names = std::iter::repeat_n(Record::Name { flags: 1 }, 64);
+    let parts = std::iter::repeat_n(part(), 896);
+    let flagged = (0..64).flat_map(|name| {
+        [4, 8].map(|flags| Record::Part { name, flags, unknown_reason: 0, exclusion_reason: 0 })
+    });
+    job_of(names.chain(parts).chain(flagged))
 }
 
 /// 256 conditions: doubled until 64 disjuncts are there, then each the "and" of those with one range.

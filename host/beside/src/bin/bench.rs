@@ -1,8 +1,8 @@
-//! `bench` sets the proved library beside the Rust, job by job: processor time, the best of several
-//! rounds, and instructions, counted by callgrind where valgrind is installed; then how long the areas
-//! take to clear, and families of jobs of rising size. Both sides must give the same answer. `bench
-//! times`, `bench clearing` and `bench growth` are parts of it. `bench time SIDE JOB` measures one job on one side (`ours`, `rust`, `unlisted`), `bench once
-//! SIDE JOB` runs it once.
+//! `bench` sets the proved library beside the Rust, job by job: time, the best of several rounds, and
+//! instructions, counted by callgrind where valgrind is installed; then how long the areas take to
+//! clear, and families of jobs of rising size. Both sides must give the same answer. `bench times`,
+//! `bench clearing` and `bench growth` are parts of it. `bench time SIDE JOB` measures one job on one
+//! side (`ours`, `rust`, `unlisted`), `bench once SIDE JOB` runs it once.
 
 use std::time::Duration;
 
