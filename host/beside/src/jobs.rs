@@ -180,6 +180,7 @@ fn slow_jobs() -> Vec<Job> {
     jobs.push(job("decisions", decided_in_turn(0)));
     jobs.push(job("a draw a decision", decided_in_turn(1)));
     jobs.push(job("eight draws a decision", decided_in_turn(8)));
+    jobs.push(job("two ranges a part", decided_of_two_ranges()));
     jobs.push(job("waiting of all conditions", waiting_of_all_conditions()));
     // What follows makes no clause: a branch's limits do.
     let empty_runs = job_of(vec![Record::Run { level: 1 }; 21_845]);
@@ -593,12 +594,32 @@ fn draws_of_watched_parts() -> Vec<Record> {
 /// 64 entries wait, each on two ranges of one part. One part after another is decided to be in the kit,
 /// so many conditions are drawn, its own first, and the decision is taken back: no entry ever holds.
 fn decided_in_turn(draws: u16) -> Vec<Record> {
-    const PAIRS: u16 = 64;
-    const OF_PAIRS: u16 = 2 * PAIRS;
+    let records = waiting_on_pairs(OF_PAIRS);
+    let round = |at: u16| {
+        let drawn = (0..draws).map(move |next| OF_PAIRS + (at / 2 + next) % PAIRS);
+        decided_and_drawn(at, drawn)
+    };
+    filled_up(records, (0..OF_PAIRS).flat_map(round).collect())
+}
+
+/// The same with each part in two ranges, and both conditions of a part that is decided are drawn: it is
+/// watched for both.
+fn decided_of_two_ranges() -> Vec<Record> {
+    let records = waiting_on_pairs(PAIRS);
+    let round =
+        |at: u16| decided_and_drawn(at, [0, PAIRS / 2].map(|next| OF_PAIRS + at / 2 + next));
+    filled_up(records, (0..PAIRS).flat_map(round).collect())
+}
+
+const PAIRS: u16 = 64;
+const OF_PAIRS: u16 = 2 * PAIRS;
+
+/// So many parts, in turn the only one of a range; an entry waits on each pair of ranges.
+fn waiting_on_pairs(parts: u16) -> Vec<Record> {
     let mut records = vec![Record::Name { flags: 1 }];
-    records.extend(repeat_n(part(0, 0), OF_PAIRS as usize));
+    records.extend(repeat_n(part(0, 0), parts as usize));
     records.extend(repeat_n(Record::Range { name: 0 }, OF_PAIRS as usize));
-    records.extend((0..OF_PAIRS).map(|at| Record::Member { range: at, part: at }));
+    records.extend((0..OF_PAIRS).map(|at| Record::Member { range: at, part: at % parts }));
     records.extend((0..OF_PAIRS).map(|range| Record::Leaf { range }));
     let both = |left| Record::Joined { operator: 0, left, right: left + 1 };
     records.extend((0..OF_PAIRS).step_by(2).map(both));
@@ -608,13 +629,13 @@ fn decided_in_turn(draws: u16) -> Vec<Record> {
         |pair| Record::Requirement { owner: ROOT, form: 0, number: 0, condition: OF_PAIRS + pair };
     records.extend((0..PAIRS).map(waiting));
     records.extend(run_of_root());
-    let round = |at: u16| {
-        let drawn = (0..draws).map(move |next| OF_PAIRS + (at / 2 + next) % PAIRS);
-        let decide = Record::Decide { variable: 1 + at, value: 1, level: 1 };
-        let draw = drawn.map(|condition| Record::Draw { condition });
-        once(decide).chain(draw).chain([Record::Undo { level: 0 }])
-    };
-    filled_up(records, (0..OF_PAIRS).flat_map(round).collect())
+    records
+}
+
+fn decided_and_drawn(part: u16, drawn: impl IntoIterator<Item = u16>) -> Vec<Record> {
+    let decide = Record::Decide { variable: 1 + part, value: 1, level: 1 };
+    let draws = drawn.into_iter().map(|condition| Record::Draw { condition });
+    once(decide).chain(draws).chain([Record::Undo { level: 0 }]).collect()
 }
 
 fn drawn_and_undone(variable: u16, condition: u16) -> [Record; 3] {
