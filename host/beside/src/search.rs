@@ -1,18 +1,30 @@
 //! Jobs of the bench changed at random, record by record: to look for slow ones, where a change stays
-//! if the job takes longer with it, and to compare long sheets with the Rust.
+//! if the job takes longer with it, for those on which we are behind the Rust, where it stays if we take
+//! longer beside it, and to compare long sheets with the Rust.
 
 use std::{ops::Range, time::Duration};
 
 use compare::random::Random;
-use job::{answer::Request, limits::JOB_CEILING, record::body_length};
+use job::{
+    answer::{Request, Side as _},
+    limits::JOB_CEILING,
+    record::body_length,
+};
 use kit::{Kit, Limits};
+use oracle::Rust;
 
 use crate::{jobs, measure::timed};
 
 /// The first kind of a sheet record.
 const SHEET: u8 = 32;
+/// The kind of a union.
+const UNION: u8 = 5;
 /// A job that takes less is not timed again.
 const SHORT: Duration = Duration::from_micros(200);
+/// A job that takes the Rust less says little of the job itself: clearing the areas takes a tenth of it.
+const TOLD: Duration = Duration::from_micros(100);
+/// One that takes it longer is passed over,
+const PATIENCE: Duration = Duration::from_millis(20);
 
 /// Jobs of long sheets that the Rust carries out in milliseconds.
 const LONG_SHEETS: [&str; 7] = [
@@ -40,62 +52,98 @@ pub fn changed(seed: u64, count: usize) -> impl Iterator<Item = Request> {
     })
 }
 
-/// A job that was found, and the job of the bench that it comes of.
-pub struct Slow {
+/// What is looked for.
+#[derive(Clone, Copy, Debug, PartialEq, Eq)]
+pub enum Sought {
+    /// A job that takes long.
+    Slow,
+    /// A job that takes long beside the Rust.
+    Behind,
+}
+
+/// A job that was found, and the job of the bench that it comes of: how long it takes in nanoseconds, or
+/// how many times as long as the Rust.
+pub struct Found {
     pub name: String,
     pub records: Records,
-    pub time: Duration,
+    pub weight: f64,
 }
 
 pub struct Search {
+    sought: Sought,
     kit: Kit,
     random: Random,
-    /// The slowest first.
-    pub slowest: Vec<Slow>,
+    /// The heaviest first.
+    pub found: Vec<Found>,
 }
 
 impl Search {
-    /// From the jobs of the bench.
-    pub fn new(seed: u64) -> Self {
-        let mut kit = Kit::with_listing_area(jobs::LISTING);
-        let of_job = |job: jobs::Job| {
-            let records = records_of(&job.request.job);
-            Slow { time: time(&mut kit, &records), name: job.name, records }
+    /// From the jobs of the bench; beside the Rust only from those without unions, which can take it
+    /// minutes.
+    pub fn new(sought: Sought, seed: u64) -> Self {
+        let mut search = Search {
+            sought,
+            kit: Kit::with_listing_area(jobs::LISTING),
+            random: Random::new(seed, 0),
+            found: Vec::new(),
         };
-        let slowest = jobs::all().into_iter().map(of_job).collect();
-        let mut search = Search { kit, random: Random::new(seed, 0), slowest };
+        for job in jobs::all() {
+            let records = records_of(&job.request.job);
+            if sought == Sought::Slow || records.iter().all(|record| record[0] != UNION) {
+                let weight = search.weight(&records);
+                search.found.push(Found { name: job.name, records, weight });
+            }
+        }
         search.sort();
         search
     }
 
-    /// One job is changed; a slow one rather than a quick one.
+    /// One job is changed; a heavy one rather than a light one.
     pub fn step(&mut self) {
-        let count = self.slowest.len();
+        let count = self.found.len();
         let at = self.random.below(count).min(self.random.below(count));
-        let mut records = self.slowest[at].records.clone();
+        let mut records = self.found[at].records.clone();
         for _ in 0..self.random.between(1, 3) {
             change(&mut records, &mut self.random);
         }
-        let longer = self.slowest[at].time * 101 / 100;
-        let taken = time(&mut self.kit, &records);
-        if taken > longer {
-            self.slowest[at].time = taken;
-            self.slowest[at].records = records;
+        let weight = self.weight(&records);
+        if weight > self.found[at].weight * 1.01 {
+            self.found[at].weight = weight;
+            self.found[at].records = records;
             self.sort();
         }
     }
 
+    fn weight(&mut self, records: &Records) -> f64 {
+        let request = Request {
+            job: records.concat(),
+            limits: Limits::CEILINGS,
+            listing_area: jobs::LISTING,
+        };
+        let ours = best(|| drop(self.kit.run(&request.job, &request.limits)));
+        match self.sought {
+            Sought::Slow => ours.as_nanos() as f64,
+            Sought::Behind => {
+                let rust = best(|| drop(Rust.answer(&request)));
+                if rust < TOLD || rust > PATIENCE {
+                    0.0
+                } else {
+                    ours.as_secs_f64() / rust.as_secs_f64()
+                }
+            }
+        }
+    }
+
     fn sort(&mut self) {
-        self.slowest.sort_by_key(|slow| std::cmp::Reverse(slow.time));
+        self.found.sort_by(|one, other| other.weight.total_cmp(&one.weight));
     }
 }
 
-/// The best of a few runs at the ceilings.
-fn time(kit: &mut Kit, records: &Records) -> Duration {
-    let job = records.concat();
-    let mut run = || timed(|| kit.run(&job, &Limits::CEILINGS).is_ok()).0;
-    let first = run();
-    if first < SHORT { first } else { first.min(run()).min(run()) }
+/// The best time of a few calls.
+fn best(mut call: impl FnMut()) -> Duration {
+    let mut taken = || timed(&mut call).0;
+    let first = taken();
+    if first < SHORT || first > PATIENCE { first } else { first.min(taken()).min(taken()) }
 }
 
 /// The whole records that a job begins with.
