@@ -182,6 +182,7 @@ fn slow_jobs() -> Vec<Job> {
     jobs.push(job("eight draws a decision", decided_in_turn(8)));
     jobs.push(job("two ranges a part", decided_of_two_ranges()));
     jobs.push(job("waiting of all conditions", waiting_of_all_conditions()));
+    jobs.push(job("adds", adds()));
     // What follows makes no clause: a branch's limits do.
     let empty_runs = job_of(vec![Record::Run { level: 1 }; 21_845]);
     jobs.push(within(Limits::BRANCH, "empty runs", empty_runs));
@@ -636,6 +637,16 @@ fn decided_and_drawn(part: u16, drawn: impl IntoIterator<Item = u16>) -> Vec<Rec
     let decide = Record::Decide { variable: 1 + part, value: 1, level: 1 };
     let draws = drawn.into_iter().map(|condition| Record::Draw { condition });
     once(decide).chain(draws).chain([Record::Undo { level: 0 }]).collect()
+}
+
+/// The root and 64 parts are added in turn, again and again, before one run.
+fn adds() -> Vec<Record> {
+    let mut records = vec![Record::Name { flags: 0 }];
+    records.extend(repeat_n(part(0, 0), 64));
+    let owners = once(ROOT).chain(0..64).map(|owner| Record::Add { owner }).collect();
+    let mut records = filled_up(records, owners);
+    *records.last_mut().expect("the last add") = Record::Run { level: 1 };
+    records
 }
 
 fn drawn_and_undone(variable: u16, condition: u16) -> [Record; 3] {
