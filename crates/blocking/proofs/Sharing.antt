@@ -136,10 +136,6 @@ module _ (k : Counts) (m u t : List ℕ) where
         let q : Barred (C .conditions) (rangeBlocked b) x = rw (conditions-same k m u t) (barred-shared x (v - 1) (s .is (v - 1) (p .0)) (p .1)) in
         barred-fails C f (range-fails h) q
 
-    -- no number names a blocked range
-    pub shared-not : {b w : List ℕ} → Blocks C f x false b w b w
-    shared-not = record { none = λ e. absurd (false≢true e); keeps = λ h. h }
-
     module _ {l b w : List ℕ} (y : Listed (tables k t .conditions) l) where
       -- one does, and it is flagged
       pub shared-blocks : sharedBars l b x ≡ true → Blocks C f x true b w b w
