@@ -149,7 +149,6 @@ module _ (j : Counts) (m u t : List ℕ) {vs : List Origin} {ds : List Decision}
       → IsFlagged flags blocked lists (j .conditions) k b → b ≡ true → DrawIdles (catalogue j m u t) vs ds k flags blocked watched true blocked watched
   passed-flagged {lists} few y f q =
       record {
-        long = refl;
         idles = ⊎-elim (λ e. idles-settled k refl e) (λ e. ⊎-elim (λ z. idles-given j m u t k (e .0) (known (e .0) z)) (λ z. idles-given j m u t k (e .0) (shared-blocks j m u t y z)) (e .1)) (f .is q);
         keeps = λ w. w;
       }
@@ -158,17 +157,13 @@ module _ (j : Counts) (m u t : List ℕ) {vs : List Origin} {ds : List Decision}
       known h e = record { none = λ _ w. blocked-fails w k (omega arith) (one-blocked blocked k e); keeps = λ w. w }
 
   -- a range that they share is asked
-  pub passed-asked : {b : Bool} {blocked′ watched′ : List ℕ} → k < j .conditions → Blocks (catalogue j m u t) (trueOf vs ds) k b blocked watched blocked′ watched′ → length watched′ ≡ length watched
+  pub passed-asked : {b : Bool} {blocked′ watched′ : List ℕ} → k < j .conditions → Blocks (catalogue j m u t) (trueOf vs ds) k b blocked watched blocked′ watched′
       → DrawIdles (catalogue j m u t) vs ds k flags blocked watched b blocked′ watched′
-  passed-asked h d n = record { long = n; idles = idles-given j m u t k h d; keeps = d .keeps }
+  passed-asked h d = record { idles = idles-given j m u t k h d; keeps = d .keeps }
 
   -- there is no such condition
   pub passed-not : DrawIdles (catalogue j m u t) vs ds k flags blocked watched false blocked watched
-  passed-not = record { long = refl; idles = idles-not k; keeps = λ w. w }
-
-pub passed-room : {c : Catalogue} {vs : List Origin} {ds : List Decision} {x : ℕ} {flags blocked watched : List ℕ} {b : Bool} {blocked′ watched′ : List ℕ}
-    → DrawIdles c vs ds x flags blocked watched b blocked′ watched′ → length watched ≡ 1024 → length watched′ ≡ 1024
-passed-room d h = d .long ∙ h
+  passed-not = record { idles = idles-not k; keeps = λ w. w }
 
 -- ---- the code's decision
 

@@ -33,7 +33,6 @@ use Rattle.decision_tracker.specs.Tracking.{decisions}
 use Rattle.encoder.specs.declared.Counters.{Counters}
 use Rattle.encoder.specs.Held.{stateOf}
 use Rattle.encoder.specs.Did.{limitsOf}
-use Rattle.goals.specs.Goals.{trueOf}
 use Rattle.blocking.specs.Blocking.{Blocked}
 use Rattle.encoding.specs.Running.{Holds}
 use Rattle.commands.specs.declared.Outcome.{Outcome}
@@ -42,7 +41,6 @@ use Rattle.sheet.specs.Sheet.{CommandDid}
 use Rattle.carried.specs.declared.Step.{Step}
 use Rattle.carried.specs.declared.Step.the-variants as Step
 use Rattle.carried.specs.Carrying.{endFrom, Settled, Has, Idles, SettledDid, ReadDid, Passed, StepDid}
-use Rattle.carried.proofs.Blocking.{has-true}
 
 -- ---- a sheet record has three bytes or more
 
@@ -100,7 +98,7 @@ module _ (l : Limits) (job : List ℕ) (at : ℕ) (h : at < length job) (c : Cat
 
 -- ---- the code's command
 
-has-held : {c : Catalogue} {l : Limits} {s : State} {n : Counters} {st : ℕ → List ℕ} {cl wt : List ℕ} → Holds c l s n st cl wt
+pub has-held : {c : Catalogue} {l : Limits} {s : State} {n : Counters} {st : ℕ → List ℕ} {cl wt : List ℕ} → Holds c l s n st cl wt
     → Has (variables (n .variables) st) (decisions (n .decisions) st) s
 unfolding stateOf
 has-held h =
@@ -121,21 +119,6 @@ module _ {c : Catalogue} {flags blocked watched : List ℕ} {l : Limits} {o : Co
       → SettledDid c flags blocked watched l o n st cl wt r st′ cl′ wt′ blocked′ watched′
   settled-carries k = record { carried = λ m e s g z h _ _. k .carried m e s g z h; guards = d .guards; refused = k .refused }
 
--- where ranges were asked before it
-settled-after : {c : Catalogue} {flags blocked watched blocked₁ watched₁ : List ℕ} {l : Limits} {o : Command} {n : Counters} {st : ℕ → List ℕ} {cl wt : List ℕ} {r : Outcome}
-    {st′ : ℕ → List ℕ} {cl′ wt′ blocked′ watched′ : List ℕ}
-    → (Blocked c (trueOf (variables (n .variables) st) (decisions (n .decisions) st)) blocked watched → Blocked c (trueOf (variables (n .variables) st) (decisions (n .decisions) st)) blocked₁ watched₁)
-    → SettledDid c flags blocked₁ watched₁ l o n st cl wt r st′ cl′ wt′ blocked′ watched′ → SettledDid c flags blocked watched l o n st cl wt r st′ cl′ wt′ blocked′ watched′
-settled-after {c} {blocked = blocked} {watched} {blocked₁} {watched₁} {n = n} {st} f d =
-    record {
-      carried = λ m e s g z h x w. d .carried m e s g z h x (on (has-held h) w);
-      guards = record { is = λ l s s′ r h e w. d .guards .is l s s′ r h e (on h w) };
-      refused = d .refused;
-    }
-  where
-    on : {s : State} → Has (variables (n .variables) st) (decisions (n .decisions) st) s → Blocked c (decidedTrue s) blocked watched → Blocked c (decidedTrue s) blocked₁ watched₁
-    on h w = rw (has-true h) (f (rw (has-true h) at w))
-
 -- that was read
 module _ {c : Catalogue} {flags blocked watched : List ℕ} {l : Limits} {next : ℕ} {x : code.Command} {n : Counters} {st : ℕ → List ℕ} {cl wt : List ℕ} {st′ : ℕ → List ℕ}
     {cl′ wt′ blocked′ watched′ : List ℕ} where
@@ -154,20 +137,6 @@ module _ {c : Catalogue} {flags blocked watched : List ℕ} {l : Limits} {next :
         carried = λ a m y v. absurd (not-one (cc));
         refused = λ g v. let q : g ≡ f = cc in rw q d;
       }
-
-  pub read-after : {blocked₁ watched₁ : List ℕ} {r : Step}
-      → (Blocked c (trueOf (variables (n .variables) st) (decisions (n .decisions) st)) blocked watched → Blocked c (trueOf (variables (n .variables) st) (decisions (n .decisions) st)) blocked₁ watched₁)
-      → ReadDid c flags blocked₁ watched₁ l next x n st cl wt r st′ cl′ wt′ blocked′ watched′ → ReadDid c flags blocked watched l next x n st cl wt r st′ cl′ wt′ blocked′ watched′
-  read-after f d =
-      record {
-        carried = λ a m y v. let p = d .carried a m y v in (p .0, p .1, settled-after f (p .2));
-        refused = λ g v. settled-after f (d .refused g v);
-      }
-
-  -- under another name
-  pub read-as : {y : code.Command} {r : Step} → x ≡ y → ReadDid c flags blocked watched l next y n st cl wt r st′ cl′ wt′ blocked′ watched′
-      → ReadDid c flags blocked watched l next x n st cl wt r st′ cl′ wt′ blocked′ watched′
-  read-as e d = rw e d
 
   -- by its outcome
   module _ {r : Outcome} (d : SettledDid c flags blocked watched l (commandOf x) n st cl wt r st′ cl′ wt′ blocked′ watched′) where
@@ -206,6 +175,9 @@ module _ (job : List ℕ) (at : ℕ) (x : Record) (e : resultOf (getD job at 0) 
     behind : next ≡ at + 1 + bodyOf (kindOf (getD job at 0))
     behind = next-behind true job at next _ is-read u
 
+    pub sheet-onward : at + 3 ≤ next
+    sheet-onward = omega (arith, behind, sheet-body (getD job at 0) (drop (at + 1) job) (commandOf k) is-read)
+
   pub sheet-whole : (next : ℕ) → next ≡ nextOf job at → at < length job → next ≤ length job
   sheet-whole next u h = next-inside true job at next _ sheet-is u h
 
@@ -227,13 +199,13 @@ module _ {c : Catalogue} {flags blocked watched : List ℕ} {l : Limits} (job : 
         → endFrom t job at (carrying c s) ≡ refused (numberAndPlace (length job) at (refusalOf f))
     step-refused f d s g z o t p = not-carried l job at h c s t p (commandOf k) (is-read job at x e q next u k w) (refusalOf f) (d .refused f refl s g z o)
 
-    step-carried : (m : Counters) → SettledDid c flags blocked watched l (commandOf k) n st cl wt (outcome.Carried m) st′ cl′ wt′ blocked′ watched′
+    pub step-carried : (m : Counters) → SettledDid c flags blocked watched l (commandOf k) n st cl wt (outcome.Carried m) st′ cl′ wt′ blocked′ watched′
         → (s : State) → Given c → Reached (limitsOf l) c s → Holds c l s n st cl wt → Settled c flags s
         → Blocked c (decidedTrue s) blocked watched → Passed c l job at next (commandOf k) s n m st′ cl′ wt′ blocked′ watched′
     step-carried m d s g z o b v =
         let y = d .carried m refl s g z o b v in
         record {
-          onward = omega (arith, behind job at x e q next u k w, sheet-body (getD job at 0) (drop (at + 1) job) (commandOf k) (is-read job at x e q next u k w));
+          onward = sheet-onward job at x e q next u k w;
           inside = next-inside true job at next _ (is-read job at x e q next u k w) u h;
           runs = y .runs;
           state = y .state;

@@ -33,7 +33,8 @@ use Rattle.sheet.proofs.Held.{held-runs}
 use Rattle.carried.specs.declared.Step.{Step}
 use Rattle.carried.specs.declared.Step.the-variants as Step
 use Rattle.carried.specs.declared.Sheet.the-variants as Sheet
-use Rattle.carried.specs.Carrying.{endFrom, Settled, Notes, StepDid, Came, SheetDid}
+use Rattle.carried.specs.declared.Place.{Place}
+use Rattle.carried.specs.Carrying.{endFrom, Settled, Notes, StepDid, counted, Stands, WentOn, Came, SheetDid}
 use Rattle.carried.proofs.Settling.{settled-none}
 
 -- ---- the first record
@@ -109,6 +110,28 @@ module _ {c : Catalogue} {l : Limits} {job : List ℕ} {from : ℕ} {s₀ cl₀ 
 
   pub left-few : at < length job → length job ≤ 65536 → m .runs < 65535
   left-few h k = omega (arith, x .few)
+
+  pub left-stands : Given c → Stands c flags blocked watched l m (held l s) cl wt
+  left-stands g = record { state = x .state; given = g; reached = x .reached; holds = x .holds; settled = x .settled; guarded = x .guarded }
+
+  -- commands were taken
+  pub left-taken : Given c → {r : Place} (s′ : List ℕ) {flags′ blocked′ watched′ : List ℕ} → WentOn c flags blocked watched l job at m (held l s) cl wt r (held l s′) flags′ blocked′ watched′
+      → length s′ ≡ length s → length flags′ ≡ length flags → Left c l job from s₀ cl₀ wt₀ flags′ blocked′ watched′ (r .at) (counted r m) s′ cl wt
+  left-taken g s′ d p w =
+      let y = d .went (x .state) g (x .reached) (x .holds) (x .settled) (x .guarded) in
+      record {
+        state-same = p ∙ x .state-same;
+        clauses-same = x .clauses-same;
+        waiting-same = x .waiting-same;
+        flags-long = w ∙ x .flags-long;
+        few = omega (arith, x .few, d .onward);
+        state = y .state;
+        reached = y .reached;
+        holds = y .holds;
+        settled = y .settled;
+        guarded = y .blocked;
+        alike = λ t z. x .alike t z ∙ y .alike t z;
+      }
 
   module _ {r : Step} (s′ : List ℕ) {cl′ wt′ blocked′ watched′ : List ℕ} (g : Given c)
       (d : StepDid c flags blocked watched l job at m (held l s) cl wt r (held l s′) cl′ wt′ blocked′ watched′) where

@@ -28,14 +28,16 @@ use Rattle.decision_tracker.specs.Tracking.{decisions}
 use Rattle.entries.specs.Deferred.{isHeld}
 use Rattle.encoder.specs.declared.Counters.{Counters}
 use Rattle.encoder.specs.Did.{limitsOf}
+use Rattle.encoder.proofs.Counted.{withDecisions}
 use Rattle.goals.specs.Goals.{trueOf}
 use Rattle.blocking.specs.Blocking.{Blocked, sharedBars}
 use Rattle.serving.specs.Flags.{Flagged}
 use Rattle.encoding.specs.Running.{Holds}
 use Rattle.commands.specs.declared.Outcome as commands
 use Rattle.commands.specs.declared.Outcome.the-variants as outcome
-use Rattle.commands.specs.Commands.{Idle}
+use Rattle.commands.specs.Commands.{Idle, withAdded}
 use Rattle.sheet.specs.Sheet.{Gives}
+use Rattle.carried.specs.declared.Place.{Place}
 use Rattle.carried.specs.declared.Step.{Step}
 use Rattle.carried.specs.declared.Step.the-variants as Step
 use Rattle.carried.specs.declared.Sheet.{Sheet}
@@ -74,7 +76,6 @@ pub record Idles (c : Catalogue) (vs : List Origin) (ds : List Decision) (o : Co
 
 -- b says so of a draw of condition x; where it does not, what is flagged is blocked before the draw
 pub record DrawIdles (c : Catalogue) (vs : List Origin) (ds : List Decision) (x : ℕ) (settled blocked watched : List ℕ) (b : Bool) (blocked′ watched′ : List ℕ) : Type 0 where
-  pub long : length watched′ ≡ length watched
   pub idles : Idles c vs ds (Command.draw x) settled blocked watched b blocked′ watched′
   pub keeps : Blocked c (trueOf vs ds) blocked watched → Blocked c (trueOf vs ds) blocked′ watched′
 
@@ -136,6 +137,60 @@ pub record StepDid (c : Catalogue) (flags blocked watched : List ℕ) (l : Limit
 -- goals that are flagged are so after a record that was carried out
 pub record FlaggedNext (c : Catalogue) (l : Limits) (flags : List ℕ) (r : Step) (st′ : ℕ → List ℕ) : Type 0 where
   pub flagged : (a : ℕ) (m : Counters) (o : code.Command) → r ≡ Step.Next a m o → Flagged c l flags m st′
+
+-- ---- commands without the other counters
+
+-- counters with the numbers of a place
+abbrev pub counted : Place → Counters → Counters
+counted p n = withDecisions (p .decisions) (withAdded (p .added) n)
+
+-- the command x, which was read up to byte `next`, was carried out, and the place is behind it
+pub record Takes (c : Catalogue) (flags blocked watched : List ℕ) (l : Limits) (next : ℕ) (x : code.Command) (n : Counters) (st : ℕ → List ℕ) (cl wt : List ℕ)
+    (r : Place) (st′ : ℕ → List ℕ) (flags′ blocked′ watched′ : List ℕ) : Type 0 where
+  pub behind : r .at ≡ next
+  pub did : SettledDid c flags blocked watched l (commandOf x) n st cl wt (outcome.Carried (counted r n)) st′ cl wt blocked′ watched′
+  pub notes : Notes (commandOf x) flags flags′
+  pub flagged : (gs : List ℕ) → Flagged c l gs n st → Flagged c l gs (counted r n) st′
+
+-- or it was left, and nothing has changed but what is blocked, rightly
+pub record Leaves (c : Catalogue) (flags blocked watched : List ℕ) (at : ℕ) (n : Counters) (st : ℕ → List ℕ)
+    (r : Place) (st′ : ℕ → List ℕ) (flags′ blocked′ watched′ : List ℕ) : Type 0 where
+  pub place : r ≡ record { at = at; added = n .added; decisions = n .decisions }
+  pub state : st′ ≡ st
+  pub unchanged : flags′ ≡ flags
+  pub keeps : Blocked c (trueOf (variables (n .variables) st) (decisions (n .decisions) st)) blocked watched
+      → Blocked c (trueOf (variables (n .variables) st) (decisions (n .decisions) st)) blocked′ watched′
+
+pub record Took (c : Catalogue) (flags blocked watched : List ℕ) (l : Limits) (at next : ℕ) (x : code.Command) (n : Counters) (st : ℕ → List ℕ) (cl wt : List ℕ)
+    (r : Place) (st′ : ℕ → List ℕ) (flags′ blocked′ watched′ : List ℕ) : Type 0 where
+  pub is : Takes c flags blocked watched l next x n st cl wt r st′ flags′ blocked′ watched′ ⊎ Leaves c flags blocked watched at n st r st′ flags′ blocked′ watched′
+
+-- the areas hold a state that the sheet reaches, nothing of the flagged conditions is to be drawn, and what is blocked is so rightly
+pub record Stands (c : Catalogue) (flags blocked watched : List ℕ) (l : Limits) (n : Counters) (st : ℕ → List ℕ) (cl wt : List ℕ) : Type 0 where
+  pub state : State
+  pub given : Given c
+  pub reached : Reached (limitsOf l) c state
+  pub holds : Holds c l state n st cl wt
+  pub settled : Settled c flags state
+  pub guarded : Blocked c (decidedTrue state) blocked watched
+
+-- from state s and byte `at` on the sheet was carried out up to a place
+pub record Went (c : Catalogue) (l : Limits) (job : List ℕ) (at : ℕ) (s : State) (n : Counters) (r : Place) (st′ : ℕ → List ℕ) (cl wt flags′ blocked′ watched′ : List ℕ) : Type 0 where
+  pub state : State
+  pub reached : Reached (limitsOf l) c state
+  pub holds : Holds c l state (counted r n) st′ cl wt
+  pub settled : Settled c flags′ state
+  pub blocked : Blocked c (decidedTrue state) blocked′ watched′
+  pub alike : (t : Terms) → t .limits ≡ limitsOf l → endFrom t job at (carrying c s) ≡ endFrom t job (r .at) (carrying c state)
+
+-- the same from whatever state the areas held
+pub record WentOn (c : Catalogue) (flags blocked watched : List ℕ) (l : Limits) (job : List ℕ) (at : ℕ) (n : Counters) (st : ℕ → List ℕ) (cl wt : List ℕ)
+    (r : Place) (st′ : ℕ → List ℕ) (flags′ blocked′ watched′ : List ℕ) : Type 0 where
+  pub onward : at ≤ r .at
+  pub inside : r .at ≤ length job
+  pub flagged : (gs : List ℕ) → Flagged c l gs n st → Flagged c l gs (counted r n) st′
+  pub went : (s : State) → Given c → Reached (limitsOf l) c s → Holds c l s n st cl wt → Settled c flags s → Blocked c (decidedTrue s) blocked watched
+      → Went c l job at s n r st′ cl wt flags′ blocked′ watched′
 
 -- ---- a sheet
 

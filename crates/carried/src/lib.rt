@@ -1,5 +1,5 @@
 // A sheet carried out, from the encoder's state at the start.
-use commands::Decided;
+use commands::Count;
 use commands::Outcome;
 use encoder::Counters;
 use reader::Command;
@@ -29,7 +29,7 @@ ghost use Rattle.blocking.specs.Blocking.{Sees, Listed};
 ghost use Rattle.encoding.specs.Running.{Holds, Reaches};
 ghost use Rattle.serving.specs.Flags.{Flagged};
 ghost use Rattle.sheet.specs.Sheet.{FlaggedAfter};
-ghost use Rattle.carried.specs.Carrying.{Started, MakesTrue, Unblocks, Idles, Notes, SettledDid, IsFlagged, DrawIdles, ReadDid, StepDid, FlaggedNext, SheetDid};
+ghost use Rattle.carried.specs.Carrying.{Started, MakesTrue, Unblocks, Idles, Notes, SettledDid, IsFlagged, DrawIdles, ReadDid, StepDid, FlaggedNext, Took, WentOn, Stands, SheetDid};
 
 // Variable 0 is the root; clause 0, install, is stored at the start. The state area was cleared.
 pub fn start(s: &mut [u8], clauses: &mut [u8], l: Limits) -> Counters
@@ -102,15 +102,15 @@ fn note(settled: &mut [u8], command: Command)
 }
 
 // The part that the decision makes true; 1,024 if it makes none true.
-fn made_true(s: &[u8], l: Limits, n: Counters, variable: u16, value: u8) -> usize
+fn made_true(s: &[u8], l: Limits, n: usize, variable: u16, value: u8) -> usize
     requires { ⌜ Fits l (length (now s)) ⌝ }
-    requires { ⌜ n .variables ≤ l .variables ⌝ }
-    ensures { λ p. ⌜ MakesTrue (variables (n .variables) (held l (now (s .entry)))) variable value p ⌝ }
+    requires { ⌜ n ≤ l .variables ⌝ }
+    ensures { λ p. ⌜ MakesTrue (variables n (held l (now (s .entry)))) variable value p ⌝ }
 {
     if value != 1 {
         return 1024;
     }
-    let origin = variable_map::origin_at(s, l, n.variables, variable as usize);
+    let origin = variable_map::origin_at(s, l, n, variable as usize);
     if origin.kind != 1 {
         return 1024;
     }
@@ -136,14 +136,14 @@ fn unblock(
     k: Counts,
     s: &[u8],
     l: Limits,
-    n: Counters,
+    n: usize,
     variable: u16,
     value: u8,
 )
     requires { ⌜ (k .ranges ≤ 512) × (65536 ≤ length (now marks)) × (length (now watched) ≡ 1024) ⌝ }
     requires { ⌜ Fits l (length (now s)) ⌝ }
-    requires { ⌜ n .variables ≤ l .variables ⌝ }
-    ensures { λ _. ⌜ Unblocks k (now (marks .entry)) (variables (n .variables) (held l (now (s .entry)))) variable value (now (blocked .entry)) (now (watched .entry)) (now (blocked .exit)) (now (watched .exit)) ⌝ }
+    requires { ⌜ n ≤ l .variables ⌝ }
+    ensures { λ _. ⌜ Unblocks k (now (marks .entry)) (variables n (held l (now (s .entry)))) variable value (now (blocked .entry)) (now (watched .entry)) (now (blocked .exit)) (now (watched .exit)) ⌝ }
 {
     let p = made_true(s, l, n, variable, value);
     if is_watched(watched, p) {
@@ -237,7 +237,7 @@ fn is_idle(
             value,
             ..
         } => {
-            unblock(blocked, watched, marks, k, s, l, n, variable, value);
+            unblock(blocked, watched, marks, k, s, l, n.variables, variable, value);
             false
         }
         Command::Undo(_) => false,
@@ -304,69 +304,8 @@ pub enum Step {
     Refused(Refusal),
 }
 
-// Is a draw of condition c known to change nothing? It is flagged, or blocked, or a range is that its disjuncts share.
-fn is_flagged(settled: &[u8], blocked: &[u8; 768], lists: &[u16; 1604], k: Counts, c: usize) -> bool
-    requires { ⌜ k .conditions ≤ 256 ⌝ }
-    requires { ⌜ (getD (now lists) (1092 + 2 * c) 0 ≤ 512) × (getD (now lists) (1093 + 2 * c) 0 ≤ 512) ⌝ }
-    ensures { λ b. ⌜ IsFlagged (now (settled .entry)) (now (blocked .entry)) (now (lists .entry)) (k .conditions) c b ⌝ }
-{
-    if commands::is_set(settled, c) {
-        return true;
-    }
-    if c >= k.conditions {
-        return false;
-    }
-    if blocked[c] == 1 {
-        return true;
-    }
-    blocking::shared_bars(blocked, lists, c)
-}
-
-// Does it change nothing, as a flag tells or a range that the disjuncts share? These are asked without the counters.
-fn is_passed(
-    settled: &[u8],
-    blocked: &mut [u8; 768],
-    watched: &mut [u16; 1024],
-    lists: &[u16; 1604],
-    marks: &[u8],
-    unions: &[u8],
-    t: &[u8],
-    k: Counts,
-    s: &[u8],
-    l: Limits,
-    n: usize,
-    d: usize,
-    c: usize,
-) -> bool
-    requires { ⌜ Sees k (now marks) (now unions) (now t) l n d (now s) ⌝ }
-    requires { ⌜ length (now watched) ≡ 1024 ⌝ }
-    requires { ⌜ Listed (tables k (now t) .conditions) (now lists) ⌝ }
-    ensures { λ b. ⌜ DrawIdles (catalogue k (now (marks .entry)) (now (unions .entry)) (now (t .entry))) (variables n (held l (now (s .entry)))) (decisions d (held l (now (s .entry)))) c (now (settled .entry)) (now (blocked .entry)) (now (watched .entry)) b (now (blocked .exit)) (now (watched .exit)) ⌝ }
-{
-    if is_flagged(settled, blocked, lists, k, c) {
-        return true;
-    }
-    if c < k.conditions {
-        return blocking::blocks_by_shared(
-            marks,
-            unions,
-            t,
-            k,
-            s,
-            l,
-            n,
-            d,
-            c,
-            blocked,
-            watched,
-            lists,
-        );
-    }
-    false
-}
-
 // A command that was read, up to byte `next`, is carried out with all counters.
-fn carry_other(
+fn carry_read(
     settled: &[u8],
     blocked: &mut [u8; 768],
     watched: &mut [u16; 1024],
@@ -418,147 +357,6 @@ fn carry_other(
             command,
         },
         Outcome::Refused(refusal) => Step::Refused(refusal),
-    }
-}
-
-// A command that was read, up to byte `next`, is carried out. What changes decisions alone, or nothing, goes without the other counters: to carry all
-// sixteen takes longer than a decision.
-fn carry_read(
-    settled: &[u8],
-    blocked: &mut [u8; 768],
-    watched: &mut [u16; 1024],
-    lists: &mut [u16; 1604],
-    marks: &[u8],
-    unions: &[u8],
-    t: &[u8],
-    k: Counts,
-    s: &mut [u8],
-    clauses: &mut [u8],
-    w: &mut [u8],
-    l: Limits,
-    n: Counters,
-    next: usize,
-    command: Command,
-    goals: &mut [u8; 640],
-) -> Step
-    requires { ⌜ Catalogued k (now marks) (now unions) (now t) ⌝ }
-    requires { ⌜ Fits l (length (now s)) ⌝ }
-    requires { ⌜ Reaches (catalogue k (now marks) (now unions) (now t)) l n (held l (now s)) (now clauses) (now w) ⌝ }
-    requires { ⌜ LongEnough l (length (now clauses)) (length (now w)) × (n .runs < 65535) ⌝ }
-    requires { ⌜ Flagged (catalogue k (now marks) (now unions) (now t)) l (now goals) n (held l (now s)) ⌝ }
-    requires { ⌜ length (now watched) ≡ 1024 ⌝ }
-    requires { ⌜ Listed (tables k (now t) .conditions) (now lists) ⌝ }
-    ensures { λ r. ⌜ ReadDid (catalogue k (now (marks .entry)) (now (unions .entry)) (now (t .entry))) (now (settled .entry)) (now (blocked .entry)) (now (watched .entry)) l next command n (held l (now (s .entry))) (now (clauses .entry)) (now (w .entry)) r (held l (now (s .exit))) (now (clauses .exit)) (now (w .exit)) (now (blocked .exit)) (now (watched .exit)) ⌝ }
-    ensures { λ r. ⌜ FlaggedNext (catalogue k (now (marks .entry)) (now (unions .entry)) (now (t .entry))) l (now (goals .exit)) r (held l (now (s .exit))) ⌝ }
-    ensures { λ _. ⌜ Listed (tables k (now (t .entry)) .conditions) (now (lists .exit)) ⌝ }
-{
-    match command {
-        Command::Add(_) => carry_other(
-            settled,
-            blocked,
-            watched,
-            lists,
-            marks,
-            unions,
-            t,
-            k,
-            s,
-            clauses,
-            w,
-            l,
-            n,
-            next,
-            command,
-            goals,
-        ),
-        Command::Draw(c) => {
-            if is_passed(
-                settled,
-                blocked,
-                watched,
-                lists,
-                marks,
-                unions,
-                t,
-                k,
-                s,
-                l,
-                n.variables,
-                n.decisions,
-                c as usize,
-            ) {
-                return Step::Next {
-                    at: next,
-                    counters: n,
-                    command,
-                };
-            }
-            carry_other(
-                settled,
-                blocked,
-                watched,
-                lists,
-                marks,
-                unions,
-                t,
-                k,
-                s,
-                clauses,
-                w,
-                l,
-                n,
-                next,
-                command,
-                goals,
-            )
-        }
-        Command::Run(_) => carry_other(
-            settled,
-            blocked,
-            watched,
-            lists,
-            marks,
-            unions,
-            t,
-            k,
-            s,
-            clauses,
-            w,
-            l,
-            n,
-            next,
-            command,
-            goals,
-        ),
-        Command::Decide {
-            variable,
-            value,
-            level,
-        } => {
-            unblock(blocked, watched, marks, k, s, l, n, variable, value);
-            match commands::decide_to(s, l, n.variables, n.decisions, variable, value, level) {
-                Decided::To(count) => {
-                    let mut m = n;
-                    m.decisions = count;
-                    Step::Next {
-                        at: next,
-                        counters: m,
-                        command,
-                    }
-                }
-                Decided::Refused(refusal) => Step::Refused(refusal),
-            }
-        }
-        Command::Undo(level) => {
-            let count = decision_tracker::undo(s, l, n.decisions, level);
-            let mut m = n;
-            m.decisions = count;
-            Step::Next {
-                at: next,
-                counters: m,
-                command,
-            }
-        }
     }
 }
 
@@ -623,7 +421,290 @@ fn carry_record(
     }
 }
 
-// The records from `from` on, the first of which is of a sheet.
+// ---- commands that change the numbers of added owners and of decisions alone, or nothing: they go without the other counters, to carry which takes longer
+
+// A byte of the sheet, and how many owners are added and decisions made there.
+struct Place {
+    at: usize,
+    added: usize,
+    decisions: usize,
+}
+
+// Is a draw of condition c known to change nothing? It is flagged, or blocked, or a range is that its disjuncts share.
+fn is_flagged(settled: &[u8], blocked: &[u8; 768], lists: &[u16; 1604], k: Counts, c: usize) -> bool
+    requires { ⌜ k .conditions ≤ 256 ⌝ }
+    requires { ⌜ (getD (now lists) (1092 + 2 * c) 0 ≤ 512) × (getD (now lists) (1093 + 2 * c) 0 ≤ 512) ⌝ }
+    ensures { λ b. ⌜ IsFlagged (now (settled .entry)) (now (blocked .entry)) (now (lists .entry)) (k .conditions) c b ⌝ }
+{
+    if commands::is_set(settled, c) {
+        return true;
+    }
+    if c >= k.conditions {
+        return false;
+    }
+    if blocked[c] == 1 {
+        return true;
+    }
+    blocking::shared_bars(blocked, lists, c)
+}
+
+// Does it change nothing, as a flag tells or a range that the disjuncts share? These are asked without the counters.
+fn is_passed(
+    settled: &[u8],
+    blocked: &mut [u8; 768],
+    watched: &mut [u16; 1024],
+    lists: &[u16; 1604],
+    marks: &[u8],
+    unions: &[u8],
+    t: &[u8],
+    k: Counts,
+    s: &[u8],
+    l: Limits,
+    n: usize,
+    d: usize,
+    c: usize,
+) -> bool
+    requires { ⌜ Sees k (now marks) (now unions) (now t) l n d (now s) ⌝ }
+    requires { ⌜ length (now watched) ≡ 1024 ⌝ }
+    requires { ⌜ Listed (tables k (now t) .conditions) (now lists) ⌝ }
+    ensures { λ b. ⌜ DrawIdles (catalogue k (now (marks .entry)) (now (unions .entry)) (now (t .entry))) (variables n (held l (now (s .entry)))) (decisions d (held l (now (s .entry)))) c (now (settled .entry)) (now (blocked .entry)) (now (watched .entry)) b (now (blocked .exit)) (now (watched .exit)) ⌝ }
+{
+    if is_flagged(settled, blocked, lists, k, c) {
+        return true;
+    }
+    if c < k.conditions {
+        return blocking::blocks_by_shared(
+            marks,
+            unions,
+            t,
+            k,
+            s,
+            l,
+            n,
+            d,
+            c,
+            blocked,
+            watched,
+            lists,
+        );
+    }
+    false
+}
+
+// The command at `at`, which was read up to byte `next`, is carried out if it is one of these and is not refused; if not, it is left.
+fn take_command(
+    settled: &mut [u8],
+    blocked: &mut [u8; 768],
+    watched: &mut [u16; 1024],
+    lists: &[u16; 1604],
+    marks: &[u8],
+    unions: &[u8],
+    t: &[u8],
+    k: Counts,
+    s: &mut [u8],
+    clauses: &[u8],
+    w: &[u8],
+    l: Limits,
+    n: Counters,
+    at: usize,
+    next: usize,
+    command: Command,
+) -> Place
+    requires { ⌜ Catalogued k (now marks) (now unions) (now t) ⌝ }
+    requires { ⌜ Fits l (length (now s)) ⌝ }
+    requires { ⌜ Reaches (catalogue k (now marks) (now unions) (now t)) l n (held l (now s)) (now clauses) (now w) ⌝ }
+    requires { ⌜ length (now watched) ≡ 1024 ⌝ }
+    requires { ⌜ Listed (tables k (now t) .conditions) (now lists) ⌝ }
+    ensures { λ r. ⌜ Took (catalogue k (now (marks .entry)) (now (unions .entry)) (now (t .entry))) (now (settled .entry)) (now (blocked .entry)) (now (watched .entry)) l at next command n (held l (now (s .entry))) (now (clauses .entry)) (now (w .entry)) r (held l (now (s .exit))) (now (settled .exit)) (now (blocked .exit)) (now (watched .exit)) ⌝ }
+{
+    let left = Place {
+        at,
+        added: n.added,
+        decisions: n.decisions,
+    };
+    match command {
+        Command::Add(owner) => match commands::add_to(k, s, l, n.added, owner) {
+            Count::To(added) => Place {
+                at: next,
+                added,
+                decisions: n.decisions,
+            },
+            Count::Refused(_) => left,
+        },
+        Command::Draw(c) => {
+            if is_passed(
+                settled,
+                blocked,
+                watched,
+                lists,
+                marks,
+                unions,
+                t,
+                k,
+                s,
+                l,
+                n.variables,
+                n.decisions,
+                c as usize,
+            ) {
+                set_flag(settled, c as usize);
+                return Place {
+                    at: next,
+                    added: n.added,
+                    decisions: n.decisions,
+                };
+            }
+            left
+        }
+        Command::Run(_) => left,
+        Command::Decide {
+            variable,
+            value,
+            level,
+        } => {
+            unblock(blocked, watched, marks, k, s, l, n.variables, variable, value);
+            match commands::decide_to(s, l, n.variables, n.decisions, variable, value, level) {
+                Count::To(decisions) => {
+                    words::clear(settled);
+                    Place {
+                        at: next,
+                        added: n.added,
+                        decisions,
+                    }
+                }
+                Count::Refused(_) => left,
+            }
+        }
+        Command::Undo(level) => {
+            let decisions = decision_tracker::undo(s, l, n.decisions, level);
+            Place {
+                at: next,
+                added: n.added,
+                decisions,
+            }
+        }
+    }
+}
+
+// The record at `at`, if it is such a command.
+fn take_record(
+    job: &[u8],
+    at: usize,
+    settled: &mut [u8],
+    blocked: &mut [u8; 768],
+    watched: &mut [u16; 1024],
+    lists: &[u16; 1604],
+    marks: &[u8],
+    unions: &[u8],
+    t: &[u8],
+    k: Counts,
+    s: &mut [u8],
+    clauses: &[u8],
+    w: &[u8],
+    l: Limits,
+    n: Counters,
+) -> Place
+    requires { ⌜ (at < length (now job)) × (length (now job) ≤ 65536) ⌝ }
+    requires { ⌜ Catalogued k (now marks) (now unions) (now t) ⌝ }
+    requires { ⌜ Fits l (length (now s)) ⌝ }
+    requires { ⌜ Reaches (catalogue k (now marks) (now unions) (now t)) l n (held l (now s)) (now clauses) (now w) ⌝ }
+    requires { ⌜ length (now watched) ≡ 1024 ⌝ }
+    requires { ⌜ Listed (tables k (now t) .conditions) (now lists) ⌝ }
+    ensures { λ r. ⌜ WentOn (catalogue k (now (marks .entry)) (now (unions .entry)) (now (t .entry))) (now (settled .entry)) (now (blocked .entry)) (now (watched .entry)) l (now (job .entry)) at n (held l (now (s .entry))) (now (clauses .entry)) (now (w .entry)) r (held l (now (s .exit))) (now (settled .exit)) (now (blocked .exit)) (now (watched .exit)) ⌝ }
+{
+    let left = Place {
+        at,
+        added: n.added,
+        decisions: n.decisions,
+    };
+    let next = reader::next_at(job, at);
+    match reader::record_at(job, at, true) {
+        Record::Refused(_) => left,
+        Record::Item => left,
+        Record::Sheet => {
+            let command = reader::command_at(job, at, next);
+            take_command(
+                settled,
+                blocked,
+                watched,
+                lists,
+                marks,
+                unions,
+                t,
+                k,
+                s,
+                clauses,
+                w,
+                l,
+                n,
+                at,
+                next,
+                command,
+            )
+        }
+    }
+}
+
+// The records from `from` on that are such commands.
+fn take_records(
+    job: &[u8],
+    from: usize,
+    settled: &mut [u8],
+    blocked: &mut [u8; 768],
+    watched: &mut [u16; 1024],
+    lists: &[u16; 1604],
+    marks: &[u8],
+    unions: &[u8],
+    t: &[u8],
+    k: Counts,
+    s: &mut [u8],
+    clauses: &[u8],
+    w: &[u8],
+    l: Limits,
+    n: Counters,
+) -> Place
+    requires { ⌜ (from < length (now job)) × (length (now job) ≤ 65536) ⌝ }
+    requires { ⌜ Catalogued k (now marks) (now unions) (now t) ⌝ }
+    requires { ⌜ Fits l (length (now s)) ⌝ }
+    requires { ⌜ Stands (catalogue k (now marks) (now unions) (now t)) (now settled) (now blocked) (now watched) l n (held l (now s)) (now clauses) (now w) ⌝ }
+    requires { ⌜ Listed (tables k (now t) .conditions) (now lists) ⌝ }
+    ensures { λ r. ⌜ WentOn (catalogue k (now (marks .entry)) (now (unions .entry)) (now (t .entry))) (now (settled .entry)) (now (blocked .entry)) (now (watched .entry)) l (now (job .entry)) from n (held l (now (s .entry))) (now (clauses .entry)) (now (w .entry)) r (held l (now (s .exit))) (now (settled .exit)) (now (blocked .exit)) (now (watched .exit)) ⌝ }
+{
+    let mut at = from;
+    let mut m = n;
+    while at < job.len() {
+        let place = take_record(
+            job,
+            at,
+            settled,
+            blocked,
+            watched,
+            lists,
+            marks,
+            unions,
+            t,
+            k,
+            s,
+            clauses,
+            w,
+            l,
+            m,
+        );
+        m.added = place.added;
+        m.decisions = place.decisions;
+        if place.at == at {
+            return place;
+        }
+        at = place.at;
+    }
+    Place {
+        at,
+        added: m.added,
+        decisions: m.decisions,
+    }
+}
+
+// The records from `from` on, the first of which is of a sheet: in turn all that can be taken without the other counters, and one of any kind.
 pub fn carry_sheet(
     job: &[u8],
     from: usize,
@@ -653,7 +734,32 @@ pub fn carry_sheet(
     let mut goals = [0u8; 640];
     let mut at = from;
     let mut m = n;
+    let mut first = 1;
     while at < job.len() {
+        if first == 1 {
+            let place = take_records(
+                job,
+                at,
+                &mut settled,
+                &mut blocked,
+                &mut watched,
+                &lists,
+                marks,
+                unions,
+                t,
+                k,
+                s,
+                clauses,
+                w,
+                l,
+                m,
+            );
+            at = place.at;
+            m.added = place.added;
+            m.decisions = place.decisions;
+            first = 0;
+            continue;
+        }
         match carry_record(
             job,
             at,
@@ -680,6 +786,7 @@ pub fn carry_sheet(
                 note(&mut settled, command);
                 at = next;
                 m = counters;
+                first = 1;
             }
             Step::Refused(refusal) => {
                 return Sheet::Refused { refusal, at };

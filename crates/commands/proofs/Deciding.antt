@@ -38,8 +38,8 @@ use Rattle.encoder.specs.Held.{Reading, openingOf, stateOf, Good}
 use Rattle.encoder.specs.Did.{limitsOf}
 use Rattle.encoder.proofs.Frames.{good-kept, list-kept, line-kept}
 use Rattle.encoder.proofs.Counted.{withDecisions}
-use Rattle.commands.specs.declared.Decided.{Decided}
-use Rattle.commands.specs.declared.Decided.the-variants as Decided
+use Rattle.commands.specs.declared.Count.{Count}
+use Rattle.commands.specs.declared.Count.the-variants as Count
 use Rattle.commands.specs.declared.Outcome.the-variants.{Carried, Refused}
 use Rattle.commands.specs.Commands.{ChangesOf, Changes, decidedTo, DecidesLiteral, Decides, PlainOutcomes}
 use Rattle.commands.proofs.Outcomes.{unchanged, changes-as, outcome-carried, outcome-refused}
@@ -83,17 +83,18 @@ newDecision x b level = record { variable = x; value = b; level = level; clause 
 
 module _ {l : Limits} {x : Literal} {level k : ℕ} {st st′ : ℕ → List ℕ} where
   literal-to : {d : ℕ} → ((n : Counters) → n .decisions ≡ k → Changes l (decidedTo x level) n st (withDecisions d n) st′)
-      → isFalsified (evaluate (decisions k st) x) ≡ false → DecidesLiteral l x level k st (Decided.To d) st′
+      → isFalsified (evaluate (decisions k st) x) ≡ false → DecidesLiteral l x level k st (Count.To d) st′
   literal-to {d} h e =
       record {
         to = λ d′ q. e;
         changes = λ d′ q. let p : d′ ≡ d = cc in rw p h;
         refused = λ f q. absurd (not-one (cc));
+        same = λ f q. absurd (not-one (cc));
       }
 
 module _ {l : Limits} {k : ℕ} (x : code.Literal) {level : ℕ} {st : ℕ → List ℕ} {v : Value}
     (e : v ≡ seen (evaluate (decisions k st) (literalOf x))) where
-  pub decided-again : v ≡ values.True → DecidesLiteral l (literalOf x) level k st (Decided.To k) st
+  pub decided-again : v ≡ values.True → DecidesLiteral l (literalOf x) level k st (Count.To k) st
   decided-again q = literal-to changes (sym (falsified-true (decisions k st) (literalOf x) e q))
     where
       changes : (n : Counters) → n .decisions ≡ k → Changes l (decidedTo (literalOf x) level) n st (withDecisions k n) st
@@ -104,17 +105,18 @@ module _ {l : Limits} {k : ℕ} (x : code.Literal) {level : ℕ} {st : ℕ → L
           idle : (c : Catalogue) (cl wt : List ℕ) (w : Reading) → stateOf c l w n st cl wt ≡ decidedTo (literalOf x) level (stateOf c l w n st cl wt)
           idle c cl wt w = unfold decidedTo when stateOf in rw (z, undecided-seen, ← e, q)
 
-  pub decided-against : v ≡ values.False → DecidesLiteral l (literalOf x) level k st (Decided.Refused DecidedAgainst) st
+  pub decided-against : v ≡ values.False → DecidesLiteral l (literalOf x) level k st (Count.Refused DecidedAgainst) st
   decided-against q =
       record {
         to = λ d p. absurd (not-one (cc));
         changes = λ d p. absurd (not-one (cc));
         refused = λ f p. let z : f ≡ DecidedAgainst = cc in (z, sym (falsified-false (decisions k st) (literalOf x) e q));
+        same = λ f p. refl;
       }
 
   pub decided-new : v ≡ values.Undecided → {y : ℕ} {b : Bool} → y ≡ (literalOf x) .variable → b ≡ (literalOf x) .positive
       → {count : ℕ} {st′ : ℕ → List ℕ} → Told l count (snoc (decisions k st) (decisionOf (newDecision y b level))) st st′
-      → DecidesLiteral l (literalOf x) level k st (Decided.To count) st′
+      → DecidesLiteral l (literalOf x) level k st (Count.To count) st′
   decided-new q {y} {b} ey eb {count} {st′} t = literal-to changes (sym (falsified-undecided (decisions k st) (literalOf x) e q))
     where
       changes : (n : Counters) → n .decisions ≡ k → Changes l (decidedTo (literalOf x) level) n st (withDecisions count n) st′
@@ -185,12 +187,12 @@ module _ (l : Limits) (n : Counters) (st : ℕ → List ℕ) (x value level : �
       decide-low q =
           record { is = λ c. outcome-refused (λ cl wt v. is-low (limitsOf l) c x value level _ (there c cl wt v) (le-ltb 1 value a) (low-is c l v n st cl wt level e ∙ q)) }
 
-      module _ (q : low ≡ false) (y : code.Literal) (p : literalOf y ≡ signed x (eqb value 1)) {r : Decided} {st′ : ℕ → List ℕ}
+      module _ (q : low ≡ false) (y : code.Literal) (p : literalOf y ≡ signed x (eqb value 1)) {r : Count} {st′ : ℕ → List ℕ}
           (d : DecidesLiteral l (literalOf y) level (n .decisions) st r st′) where
         d′ : DecidesLiteral l (signed x (eqb value 1)) level (n .decisions) st r st′
         d′ = rw p at d
 
-        literal-passes : (m : ℕ) → r ≡ Decided.To m → PlainOutcomes l (Command.decide x value level) n st (Carried (withDecisions m n)) st′
+        literal-passes : (m : ℕ) → r ≡ Count.To m → PlainOutcomes l (Command.decide x value level) n st (Carried (withDecisions m n)) st′
         literal-passes m z = record { is = λ c. outcome-carried (d′ .changes m z n refl) (λ cl wt v. done c cl wt v) }
           where
             done : (c : Catalogue) (cl wt : List ℕ) (v : Reading)
@@ -198,7 +200,7 @@ module _ (l : Limits) (n : Counters) (st : ℕ → List ℕ) (x value level : �
             done c cl wt v =
                 passes (limitsOf l) c x value level _ (there c cl wt v) (le-ltb 1 value a) (low-is c l v n st cl wt level e ∙ q) (rw (decisions-are c cl wt v) at (d′ .to m z))
 
-        literal-refused : (f : Refusal) → r ≡ Decided.Refused f → PlainOutcomes l (Command.decide x value level) n st (Refused f) st′
+        literal-refused : (f : Refusal) → r ≡ Count.Refused f → PlainOutcomes l (Command.decide x value level) n st (Refused f) st′
         literal-refused f z = record { is = λ c. outcome-refused (λ cl wt v. not-done c cl wt v) }
           where
             not-done : (c : Catalogue) (cl wt : List ℕ) (v : Reading)
@@ -212,34 +214,35 @@ module _ (l : Limits) (n : Counters) (st : ℕ → List ℕ) (x value level : �
 
 module _ {l : Limits} {v k : ℕ} {st : ℕ → List ℕ} {x value level : ℕ} where
   refused-as : {f : Refusal} → ((n : Counters) → n .variables ≡ v → n .decisions ≡ k → PlainOutcomes l (Command.decide x value level) n st (Refused f) st)
-      → Decides l (Command.decide x value level) v k st (Decided.Refused f) st
-  refused-as {f} h = record { to = λ d q. absurd (not-one (cc)); refused = λ g q. let p : g ≡ f = cc in rw p h }
+      → Decides l (Command.decide x value level) v k st (Count.Refused f) st
+  refused-as {f} h = record { to = λ d q. absurd (not-one (cc)); refused = λ g q. let p : g ≡ f = cc in rw p h; same = λ g q. refl }
 
-  pub to-missing : v ≤ x → Decides l (Command.decide x value level) v k st (Decided.Refused (MissingVariable 1)) st
+  pub to-missing : v ≤ x → Decides l (Command.decide x value level) v k st (Count.Refused (MissingVariable 1)) st
   to-missing h = refused-as (λ n p q. decide-missing l n st x value level (rw p h))
 
   module _ (h : x < v) where
-    pub to-other : 1 < value → Decides l (Command.decide x value level) v k st (Decided.Refused (Contradicts OtherValue)) st
+    pub to-other : 1 < value → Decides l (Command.decide x value level) v k st (Count.Refused (Contradicts OtherValue)) st
     to-other a = refused-as (λ n p q. decide-other l n st x value level (rw p h) a)
 
     module _ (a : value ≤ 1) {low : Bool} (e : low ≡ (eqb level 0 || ltb level (lastLevel (decisions k st)))) where
-      pub to-low : low ≡ true → Decides l (Command.decide x value level) v k st (Decided.Refused LevelLow) st
+      pub to-low : low ≡ true → Decides l (Command.decide x value level) v k st (Count.Refused LevelLow) st
       to-low z = refused-as (λ n p q. decide-low l n st x value level (rw p h) a (rw q e) z)
 
-      pub to-literal : low ≡ false → (y : code.Literal) → literalOf y ≡ signed x (eqb value 1) → {r : Decided} {st′ : ℕ → List ℕ}
+      pub to-literal : low ≡ false → (y : code.Literal) → literalOf y ≡ signed x (eqb value 1) → {r : Count} {st′ : ℕ → List ℕ}
           → DecidesLiteral l (literalOf y) level k st r st′ → Decides l (Command.decide x value level) v k st r st′
       to-literal z y w d =
           record {
             to = λ m i n p q. literal-passes l n st x value level (rw p h) a (rw q e) z y w (rw q d) m i;
             refused = λ f i n p q. literal-refused l n st x value level (rw p h) a (rw q e) z y w (rw q d) f i;
+            same = d .same;
           }
 
 -- of counters that have them
-module _ {l : Limits} {o : Command} (n : Counters) {st st′ : ℕ → List ℕ} {r : Decided} (h : Decides l o (n .variables) (n .decisions) st r st′) where
-  pub decided-to : {d : ℕ} → r ≡ Decided.To d → PlainOutcomes l o n st (Carried (withDecisions d n)) st′
+module _ {l : Limits} {o : Command} (n : Counters) {st st′ : ℕ → List ℕ} {r : Count} (h : Decides l o (n .variables) (n .decisions) st r st′) where
+  pub decided-to : {d : ℕ} → r ≡ Count.To d → PlainOutcomes l o n st (Carried (withDecisions d n)) st′
   decided-to q = h .to _ q n refl refl
 
-  pub decided-refused : {f : Refusal} → r ≡ Decided.Refused f → PlainOutcomes l o n st (Refused f) st′
+  pub decided-refused : {f : Refusal} → r ≡ Count.Refused f → PlainOutcomes l o n st (Refused f) st′
   decided-refused q = h .refused _ q n refl refl
 
 -- ---- the command undo: it has no refusals

@@ -7,7 +7,7 @@ use Prim.Native.Nat.{ℕ}
 use lib.ListN.{length, getD}
 use Rattle.rules.specs.Lists.{snoc, when}
 use Rattle.rules.specs.Literal.{Literal}
-use Rattle.rules.specs.Catalogue.{Requirement, Catalogue, noRequirement}
+use Rattle.rules.specs.Catalogue.{Owner, Requirement, Catalogue, noRequirement}
 use Rattle.rules.specs.Conditions.{isCondition}
 use Rattle.rules.specs.Refusals.{ok, refuse}
 use Rattle.rules.specs.Records.{Command}
@@ -27,8 +27,8 @@ use Rattle.encoder.specs.declared.Counters.{Counters}
 use Rattle.encoder.specs.Held.{Reading, stateOf, Good}
 use Rattle.encoder.specs.Did.{limitsOf, onOpening, isFull}
 use Rattle.encoder.proofs.Counted.{withDecisions}
-use Rattle.commands.specs.declared.Decided.{Decided}
-use Rattle.commands.specs.declared.Decided.the-variants as Decided
+use Rattle.commands.specs.declared.Count.{Count}
+use Rattle.commands.specs.declared.Count.the-variants as Count
 use Rattle.commands.specs.declared.Outcome.{Outcome}
 use Rattle.commands.specs.declared.Outcome.the-variants.{Carried, Refused}
 
@@ -43,6 +43,34 @@ pub record ChangesOf (c : Catalogue) (l : Limits) (F : State → State) (n : Cou
 -- whatever the catalogue and the other areas
 pub record Changes (l : Limits) (F : State → State) (n : Counters) (st : ℕ → List ℕ) (n′ : Counters) (st′ : ℕ → List ℕ) : Type 0 where
   pub is : (c : Catalogue) (cl wt : List ℕ) → ChangesOf c l F n st cl wt n′ st′
+
+-- ---- an added owner
+
+-- counters with another number of added owners
+abbrev pub withAdded : ℕ → Counters → Counters
+withAdded x n =
+    record {
+      variables = n .variables;
+      clauses = n .clauses;
+      literals = n .literals;
+      decisions = n .decisions;
+      owners = n .owners;
+      names = n .names;
+      several = n .several;
+      added = x;
+      named = n .named;
+      tracked = n .tracked;
+      waiting = n .waiting;
+      drawn = n .drawn;
+      first = n .first;
+      tail = n .tail;
+      runs = n .runs;
+      full = n .full;
+    }
+
+-- owner o is added where there were k, and there are k′; no other counter changes
+pub record AddsOwner (l : Limits) (o : Owner) (k : ℕ) (st : ℕ → List ℕ) (k′ : ℕ) (st′ : ℕ → List ℕ) : Type 0 where
+  pub changes : (n : Counters) → n .added ≡ k → Changes l (onOpening (opening.add o)) n st (withAdded k′ n) st′
 
 -- ---- a draw
 
@@ -73,10 +101,11 @@ decidedTo x level s =
     (λ (u : State). setDecisions (snoc (u .decisions) (record { variable = x .variable; value = x .positive; level = level; clause = none })) u) s
 
 -- the same, where there are k decisions, or refused where it is decided false; no other counter changes
-pub record DecidesLiteral (l : Limits) (x : Literal) (level k : ℕ) (st : ℕ → List ℕ) (r : Decided) (st′ : ℕ → List ℕ) : Type 0 where
-  pub to : (d : ℕ) → r ≡ Decided.To d → isFalsified (evaluate (decisions k st) x) ≡ false
-  pub changes : (d : ℕ) → r ≡ Decided.To d → (n : Counters) → n .decisions ≡ k → Changes l (decidedTo x level) n st (withDecisions d n) st′
-  pub refused : (f : Refusal) → r ≡ Decided.Refused f → (f ≡ DecidedAgainst) × (isFalsified (evaluate (decisions k st) x) ≡ true)
+pub record DecidesLiteral (l : Limits) (x : Literal) (level k : ℕ) (st : ℕ → List ℕ) (r : Count) (st′ : ℕ → List ℕ) : Type 0 where
+  pub to : (d : ℕ) → r ≡ Count.To d → isFalsified (evaluate (decisions k st) x) ≡ false
+  pub changes : (d : ℕ) → r ≡ Count.To d → (n : Counters) → n .decisions ≡ k → Changes l (decidedTo x level) n st (withDecisions d n) st′
+  pub refused : (f : Refusal) → r ≡ Count.Refused f → (f ≡ DecidedAgainst) × (isFalsified (evaluate (decisions k st) x) ≡ true)
+  pub same : (f : Refusal) → r ≡ Count.Refused f → st′ ≡ st
 
 -- carried out
 pub record CarriedOut (c : Catalogue) (l : Limits) (o : Command) (n : Counters) (st : ℕ → List ℕ) (cl wt : List ℕ) (m : Counters) (st′ : ℕ → List ℕ) : Type 0 where
@@ -100,7 +129,14 @@ pub record PlainOutcomes (l : Limits) (o : Command) (n : Counters) (st : ℕ →
 pub record PartOutcomes (parts : ℕ) (l : Limits) (o : Command) (n : Counters) (st : ℕ → List ℕ) (r : Outcome) (st′ : ℕ → List ℕ) : Type 0 where
   pub is : (c : Catalogue) → length (c .parts) ≡ parts → Outcomes c l o n st r st′
 
--- of one that changes decisions alone, where there are v variables and k decisions
-pub record Decides (l : Limits) (o : Command) (v k : ℕ) (st : ℕ → List ℕ) (r : Decided) (st′ : ℕ → List ℕ) : Type 0 where
-  pub to : (d : ℕ) → r ≡ Decided.To d → (n : Counters) → n .variables ≡ v → n .decisions ≡ k → PlainOutcomes l o n st (Carried (withDecisions d n)) st′
-  pub refused : (f : Refusal) → r ≡ Decided.Refused f → (n : Counters) → n .variables ≡ v → n .decisions ≡ k → PlainOutcomes l o n st (Refused f) st′
+-- of one that changes added owners alone, where there are k; what is refused changes nothing
+pub record Adds (parts : ℕ) (l : Limits) (o : Command) (k : ℕ) (st : ℕ → List ℕ) (r : Count) (st′ : ℕ → List ℕ) : Type 0 where
+  pub to : (d : ℕ) → r ≡ Count.To d → (n : Counters) → n .added ≡ k → PartOutcomes parts l o n st (Carried (withAdded d n)) st′
+  pub refused : (f : Refusal) → r ≡ Count.Refused f → (n : Counters) → n .added ≡ k → PartOutcomes parts l o n st (Refused f) st′
+  pub same : (f : Refusal) → r ≡ Count.Refused f → st′ ≡ st
+
+-- of one that changes decisions alone, where there are v variables and k decisions; likewise
+pub record Decides (l : Limits) (o : Command) (v k : ℕ) (st : ℕ → List ℕ) (r : Count) (st′ : ℕ → List ℕ) : Type 0 where
+  pub to : (d : ℕ) → r ≡ Count.To d → (n : Counters) → n .variables ≡ v → n .decisions ≡ k → PlainOutcomes l o n st (Carried (withDecisions d n)) st′
+  pub refused : (f : Refusal) → r ≡ Count.Refused f → (n : Counters) → n .variables ≡ v → n .decisions ≡ k → PlainOutcomes l o n st (Refused f) st′
+  pub same : (f : Refusal) → r ≡ Count.Refused f → st′ ≡ st

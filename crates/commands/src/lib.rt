@@ -14,7 +14,6 @@ ghost use Prim.Native.Nat.{_+_, _<_, _≤_};
 ghost use lib.Dec.{eqb, ltb};
 ghost use lib.ListN.{length, getD};
 ghost use Rattle.rules.specs.Decisions.{lastLevel};
-ghost use Rattle.rules.specs.Opening as rules;
 ghost use Rattle.rules.specs.Records.{Command};
 ghost use Rattle.rules.proofs.Levels.{Rising};
 ghost use Rattle.tables.specs.Tables.{tables, Laid};
@@ -26,9 +25,8 @@ ghost use Rattle.decision_tracker.specs.Tracking.{decisions, Kept};
 ghost use Rattle.marked.specs.Marked.{ownerOf, Marked};
 ghost use Rattle.entries.specs.Entries.{noEntry, waitingIn, Long};
 ghost use Rattle.entries.specs.Deferred.{isHeld, Flags};
-ghost use Rattle.encoder.specs.Did.{onOpening};
 ghost use Rattle.goals.specs.Goals.{Catalogued, AllGiven};
-ghost use Rattle.commands.specs.Commands.{Changes, NoneSet, isFlagged, Draws, DecidesLiteral, Decides, PlainOutcomes, PartOutcomes};
+ghost use Rattle.commands.specs.Commands.{AddsOwner, Adds, NoneSet, isFlagged, Draws, DecidesLiteral, Decides, PlainOutcomes, PartOutcomes};
 
 // What a command gives.
 pub enum Outcome {
@@ -36,21 +34,40 @@ pub enum Outcome {
     Refused(Refusal),
 }
 
+// How many added owners or decisions there are then, or a refusal.
+pub enum Count {
+    To(usize),
+    Refused(Refusal),
+}
+
 // ---- add
 
-// Owner o is added, unless it is already.
-fn push_added(s: &mut [u8], l: Limits, n: Counters, o: u16) -> Counters
+// Owner o is added, unless it is already: how many are then.
+fn push_added(s: &mut [u8], l: Limits, count: usize, o: u16) -> usize
     requires { ⌜ Fits l (length (now s)) ⌝ }
-    requires { ⌜ Marked 6 7 (n .added) (held l (now s)) × (o < 1025) ⌝ }
-    ensures { λ m. ⌜ Changes l (onOpening (rules.add (ownerOf o))) n (held l (now (s .entry))) m (held l (now (s .exit))) ⌝ }
+    requires { ⌜ Marked 6 7 count (held l (now s)) × (o < 1025) ⌝ }
+    ensures { λ m. ⌜ AddsOwner l (ownerOf o) count (held l (now (s .entry))) m (held l (now (s .exit))) ⌝ }
 {
     if marked::contains(s, l, state::ADDED_MARKS, o) {
-        return n;
+        return count;
     }
-    let added = marked::push(s, l, state::ADDED, state::ADDED_MARKS, n.added, o);
-    let mut m = n;
-    m.added = added;
-    m
+    marked::push(s, l, state::ADDED, state::ADDED_MARKS, count, o)
+}
+
+// An owner is added where so many are: it changes no other counter, and needs none.
+pub fn add_to(k: Counts, s: &mut [u8], l: Limits, count: usize, owner: u16) -> Count
+    requires { ⌜ k .parts ≤ 1024 ⌝ }
+    requires { ⌜ Fits l (length (now s)) ⌝ }
+    requires { ⌜ Marked 6 7 count (held l (now s)) ⌝ }
+    ensures { λ r. ⌜ Adds (k .parts) l (Command.add owner) count (held l (now (s .entry))) r (held l (now (s .exit))) ⌝ }
+{
+    if owner == 65535 {
+        return Count::To(push_added(s, l, count, 1024));
+    }
+    if (owner as usize) < k.parts {
+        return Count::To(push_added(s, l, count, owner));
+    }
+    Count::Refused(Refusal::Missing(Thing::Part, 1))
 }
 
 pub fn add(k: Counts, s: &mut [u8], l: Limits, n: Counters, owner: u16) -> Outcome
@@ -59,13 +76,14 @@ pub fn add(k: Counts, s: &mut [u8], l: Limits, n: Counters, owner: u16) -> Outco
     requires { ⌜ Marked 6 7 (n .added) (held l (now s)) ⌝ }
     ensures { λ r. ⌜ PartOutcomes (k .parts) l (Command.add owner) n (held l (now (s .entry))) r (held l (now (s .exit))) ⌝ }
 {
-    if owner == 65535 {
-        return Outcome::Carried(push_added(s, l, n, 1024));
+    match add_to(k, s, l, n.added, owner) {
+        Count::To(count) => {
+            let mut m = n;
+            m.added = count;
+            Outcome::Carried(m)
+        }
+        Count::Refused(refusal) => Outcome::Refused(refusal),
     }
-    if (owner as usize) < k.parts {
-        return Outcome::Carried(push_added(s, l, n, owner));
-    }
-    Outcome::Refused(Refusal::Missing(Thing::Part, 1))
 }
 
 // ---- draw
@@ -189,21 +207,15 @@ pub fn too_low(s: &[u8], l: Limits, count: usize, level: u16) -> bool
     level < decision_tracker::last_level(s, l, count)
 }
 
-// How many decisions there are then, or a refusal.
-pub enum Decided {
-    To(usize),
-    Refused(Refusal),
-}
-
 // A variable gets a value, unless it has the other.
-fn decide_literal(s: &mut [u8], l: Limits, count: usize, literal: Literal, level: u16) -> Decided
+fn decide_literal(s: &mut [u8], l: Limits, count: usize, literal: Literal, level: u16) -> Count
     requires { ⌜ Fits l (length (now s)) ⌝ }
     requires { ⌜ Kept l count (held l (now s)) × ((literalOf literal) .variable < l .variables) ⌝ }
     ensures { λ r. ⌜ DecidesLiteral l (literalOf literal) level count (held l (now (s .entry))) r (held l (now (s .exit))) ⌝ }
 {
     match decision_tracker::eval(s, l, count, literal) {
-        Value::True => Decided::To(count),
-        Value::False => Decided::Refused(Refusal::DecidedAgainst),
+        Value::True => Count::To(count),
+        Value::False => Count::Refused(Refusal::DecidedAgainst),
         Value::Undecided => {
             let variable = literal.variable();
             let value = literal.positive();
@@ -213,7 +225,7 @@ fn decide_literal(s: &mut [u8], l: Limits, count: usize, literal: Literal, level
                 level,
                 clause: 0,
             };
-            Decided::To(decision_tracker::decide(s, l, count, new))
+            Count::To(decision_tracker::decide(s, l, count, new))
         }
     }
 }
@@ -227,19 +239,19 @@ pub fn decide_to(
     variable: u16,
     value: u8,
     level: u16,
-) -> Decided
+) -> Count
     requires { ⌜ Fits l (length (now s)) ⌝ }
     requires { ⌜ Kept l count (held l (now s)) × (variables ≤ l .variables) ⌝ }
     ensures { λ r. ⌜ Decides l (Command.decide variable value level) variables count (held l (now (s .entry))) r (held l (now (s .exit))) ⌝ }
 {
     if variable as usize >= variables {
-        return Decided::Refused(Refusal::MissingVariable(1));
+        return Count::Refused(Refusal::MissingVariable(1));
     }
     if value > 1 {
-        return Decided::Refused(Refusal::Contradicts(Contradiction::OtherValue));
+        return Count::Refused(Refusal::Contradicts(Contradiction::OtherValue));
     }
     if too_low(s, l, count, level) {
-        return Decided::Refused(Refusal::LevelLow);
+        return Count::Refused(Refusal::LevelLow);
     }
     decide_literal(s, l, count, Literal::new(variable, value == 1), level)
 }
@@ -250,12 +262,12 @@ pub fn decide(s: &mut [u8], l: Limits, n: Counters, variable: u16, value: u8, le
     ensures { λ r. ⌜ PlainOutcomes l (Command.decide variable value level) n (held l (now (s .entry))) r (held l (now (s .exit))) ⌝ }
 {
     match decide_to(s, l, n.variables, n.decisions, variable, value, level) {
-        Decided::To(count) => {
+        Count::To(count) => {
             let mut m = n;
             m.decisions = count;
             Outcome::Carried(m)
         }
-        Decided::Refused(refusal) => Outcome::Refused(refusal),
+        Count::Refused(refusal) => Outcome::Refused(refusal),
     }
 }
 
