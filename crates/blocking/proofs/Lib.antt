@@ -1,4 +1,5 @@
 pub mod Barring
+pub mod Classes
 pub mod Watching
 pub mod Blocking
 pub mod Releasing

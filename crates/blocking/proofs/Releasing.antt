@@ -3,24 +3,29 @@ use mathlib.Core.Path.{_≡_, refl, sym, _∙_}
 use mathlib.Core.Logic.{⊎-elim}
 use mathlib.Core.Bool.{Bool, true, false, true≢false}
 use mathlib.Core.List.{List}
-use Prim.Native.Nat.{ℕ, _+_, _<_, _≤_}
+use Prim.Native.Nat.{ℕ, _+_, _-_, _%_, _<_, _≤_}
 use native.Mathlib.Omega.{arith}
 use native.Mathlib.Decide.{decLt}
 use lib.Dec.{eqb}
+use lib.Bits.{bitAnd, and-le-l}
+use lib.Count.{trailingZeros}
 use lib.ListN.{length, getD, set, length-set, List·getD-eq-default}
 use lib.Seq.{set-out, getD-set-same}
 use borrow.Author.Tests.{eqb-true, eqb-false, ne-eqb}
+use Rattle.rules.specs.AtMostOne.{bit}
 use Rattle.rules.specs.Called.{_∈_}
 use Rattle.rules.specs.Candidates.{matching}
 use Rattle.rules.proofs.Bools.{by-cases}
 use Rattle.rules.proofs.Member.{all-out, all-in, contrary}
 use Rattle.tables.specs.declared.Counts.{Counts}
 use Rattle.marks.specs.Marks.{isMarked}
+use Rattle.marks.proofs.Bits.{bit-none}
 use Rattle.cache.specs.Areas.{catalogue}
 use Rattle.cache.proofs.Laws.{ranges-held}
 use Rattle.entries.specs.Deferred.{isHeld}
-use Rattle.blocking.specs.Blocking.{watchedFor, allWatched, isBlocked, rangeBlocked, Blocked, Fewer, ReleasesConditions, ReleasesRange, ReleasesRanges, ReleasesWatched, Releases}
-use Rattle.blocking.proofs.Watching.{held-other, held-gone, for-out, for-other, match-marked}
+use Rattle.blocking.specs.Blocking.{watchedFor, allWatched, isBlocked, rangeBlocked, Blocked, Fewer, ReleasesConditions, ReleasesRange, ReleasesClass, ReleasesWatched, Releases}
+use Rattle.blocking.proofs.Classes.{lowest-gone}
+use Rattle.blocking.proofs.Watching.{held-other, held-gone, for-other, match-marked}
 use Rattle.blocking.proofs.Blocking.{set-cases}
 
 -- ---- one flag less
@@ -80,46 +85,57 @@ module _ {m : List ℕ} {p r : ℕ} {flags : List ℕ} where
     pub release-other : b ≡ false → ReleasesRange m p r flags flags
     release-other d = record { fewer = fewer-same; free = λ i. absurd (true≢false (sym i ∙ sym e ∙ d)) }
 
--- ---- the ranges
+-- ---- the ranges of class j
 
 -- the loop at range r
-pub record Ranges (m : List ℕ) (p r : ℕ) (flags flags′ : List ℕ) : Type 0 where
+pub record Class (m : List ℕ) (p j r : ℕ) (flags flags′ : List ℕ) : Type 0 where
+  pub of : r % 16 ≡ j % 16
   pub fewer : Fewer flags flags′
-  pub free : (i : ℕ) → i < r → isMarked m i p ≡ true → rangeBlocked flags′ i ≡ false
+  pub free : (i : ℕ) → i < r → i % 16 ≡ j → isMarked m i p ≡ true → rangeBlocked flags′ i ≡ false
 
-pub releases-start : {m : List ℕ} {p : ℕ} {flags : List ℕ} → Ranges m p 0 flags flags
-releases-start = record { fewer = fewer-same; free = λ i l. let no : ⊥ = omega arith in absurd no }
+pub class-start : {m : List ℕ} {p j : ℕ} {flags : List ℕ} → Class m p j j flags flags
+class-start = record { of = refl; fewer = fewer-same; free = λ i l o. let no : ⊥ = omega arith in absurd no }
 
-module _ {m : List ℕ} {p r : ℕ} {flags flags′ : List ℕ} (h : Ranges m p r flags flags′) where
-  pub releases-step : {flags″ : List ℕ} → ReleasesRange m p r flags′ flags″ → Ranges m p (r + 1) flags flags″
-  releases-step {flags″} d =
+module _ {m : List ℕ} {p j r : ℕ} {flags flags′ : List ℕ} (h : Class m p j r flags flags′) where
+  pub class-step : {flags″ : List ℕ} → ReleasesRange m p r flags′ flags″ → Class m p j (r + 16) flags flags″
+  class-step {flags″} d =
       record {
+        of = omega (arith, h .of);
         fewer = fewer-then (h .fewer) (d .fewer);
-        free = λ i l e. by-cases (eqb i r) (λ q. let z = eqb-true i r q in rw z (d .free (rw z at e)))
-            (λ q. unfold rangeBlocked in fewer-not (d .fewer) (256 + i) (unfold rangeBlocked in h .free i (omega (arith, eqb-false i r q)) e));
+        free = λ i l o e. by-cases (eqb i r) (λ q. let z = eqb-true i r q in rw z (d .free (rw z at e)))
+            (λ q. unfold rangeBlocked in fewer-not (d .fewer) (256 + i) (unfold rangeBlocked in h .free i (omega (arith, eqb-false i r q, h .of)) o e));
       }
 
-  pub releases-end : {k : Counts} → k .ranges ≤ r → ReleasesRanges k m p flags flags′
-  releases-end e = record { fewer = h .fewer; free = λ i l. h .free i (omega arith) }
+  pub class-end : {k : Counts} → k .ranges ≤ r → ReleasesClass k m p j flags flags′
+  class-end e = record { fewer = h .fewer; free = λ i l. h .free i (omega arith) }
 
--- ---- the ranges that p is watched for
+-- ---- the classes that p is watched for
 
-module _ {k : Counts} {m : List ℕ} {p v : ℕ} {flags : List ℕ} where
-  -- one
-  pub watched-one : v < 513 → ReleasesWatched k m p v flags (set flags (255 + v) 0)
-  unfolding rangeBlocked
-  watched-one h =
+-- the loop where `rest` is left of v
+pub record Classes (k : Counts) (m : List ℕ) (p v rest : ℕ) (flags flags′ : List ℕ) : Type 0 where
+  pub low : rest ≤ v
+  pub fewer : Fewer flags flags′
+  pub free : (r : ℕ) → r < k .ranges → bit (r % 16) v ≡ true → bit (r % 16) rest ≡ false → isMarked m r p ≡ true → rangeBlocked flags′ r ≡ false
+
+pub classes-start : {k : Counts} {m : List ℕ} {p v : ℕ} {flags : List ℕ} → Classes k m p v v flags flags
+classes-start = record { low = omega arith; fewer = fewer-same; free = λ r l e d. absurd (true≢false (sym e ∙ d)) }
+
+module _ {k : Counts} {m : List ℕ} {p v rest : ℕ} {flags flags′ : List ℕ} (h : Classes k m p v rest flags flags′) where
+  pub classes-step : {flags″ : List ℕ} → v < 65536 → (rest ≡ 0 → ⊥) → ReleasesClass k m p (trailingZeros 16 rest) flags′ flags″
+      → Classes k m p v (bitAnd rest (rest - 1)) flags flags″
+  classes-step {flags″} w n d =
       record {
-        fewer = fewer-gone flags (255 + v);
-        free = λ r l e i. ⊎-elim (named r) (λ n. let no : ⊥ = omega (arith, n) in absurd no) e;
+        low = omega (arith, h .low, and-le-l rest (rest - 1));
+        fewer = fewer-then (h .fewer) (d .fewer);
+        free = λ r l e o i. by-cases (eqb (r % 16) (trailingZeros 16 rest)) (λ q. d .free r l (eqb-true (r % 16) (trailingZeros 16 rest) q) i)
+            (λ q. unfold rangeBlocked in fewer-not (d .fewer) (256 + r) (unfold rangeBlocked in h .free r l e (left r o (eqb-false (r % 16) (trailingZeros 16 rest) q)) i));
       }
     where
-      named : (r : ℕ) → v ≡ 1 + r → rangeBlocked (set flags (255 + v) 0) r ≡ false
-      named r n = let q : 255 + v ≡ 256 + r = omega (arith, n) in rw q (gone flags (256 + r))
+      left : (r : ℕ) → bit (r % 16) (bitAnd rest (rest - 1)) ≡ false → (r % 16 ≡ trailingZeros 16 rest → ⊥) → bit (r % 16) rest ≡ false
+      left r o q = sym (lowest-gone 16 rest (r % 16) (omega (arith, h .low)) n q) ∙ o
 
-  -- several
-  pub watched-several : {flags′ : List ℕ} → ReleasesRanges k m p flags flags′ → ReleasesWatched k m p v flags flags′
-  watched-several d = record { fewer = d .fewer; free = λ r l _ i. d .free r l i }
+  pub classes-end : rest ≡ 0 → ReleasesWatched k m p v flags flags′
+  classes-end z = record { fewer = h .fewer; free = λ r l e. h .free r l e (rw z (bit-none (r % 16))) }
 
 -- ---- all of it
 
@@ -153,8 +169,8 @@ module _ {k : Counts} {m : List ℕ} {p : ℕ} {blocked watched blocked₁ block
               → (q : ℕ) → q ∈ matching (catalogue k m u t) r → q ≡ p → ⊥
           apart r l e w q i z =
               let j : p ∈ matching (catalogue k m u t) r = rw z at i in
-              let o = for-out watched r p (all-out (watchedFor watched r) (matching (catalogue k m u t) r) (unfold allWatched in w) p j) in
-              true≢false (sym e ∙ b .free r l o (match-marked k m u t r p l j))
+              let o = all-out (watchedFor watched r) (matching (catalogue k m u t) r) (unfold allWatched in w) p j in
+              true≢false (sym e ∙ b .free r l (unfold watchedFor in o) (match-marked k m u t r p l j))
 
           watched-still : (r : ℕ) → r < k .ranges → rangeBlocked blocked₂ r ≡ true → allWatched (catalogue k m u t) watched r ≡ true
               → allWatched (catalogue k m u t) (set watched p 0) r ≡ true

@@ -1,15 +1,14 @@
 -- The matching parts of a range are watched.
 use mathlib.Core.Path.{_≡_, refl, sym, _∙_}
-use mathlib.Core.Logic.{_⊎_, inl, inr, ⊎-elim}
-use mathlib.Core.Bool.{Bool, true, false, cond, _||_, true≢false, false≢true}
+use mathlib.Core.Bool.{Bool, true, false, _||_, true≢false, false≢true}
 use mathlib.Core.List.{List}
-use Prim.Native.Nat.{ℕ, _+_, _<_, _≤_}
+use Prim.Native.Nat.{ℕ, _+_, _%_, _<_, _≤_}
 use native.Mathlib.Omega.{arith}
 use native.Mathlib.Decide.{decLt}
 use lib.Dec.{eqb}
 use lib.ListN.{length, getD, set, length-set, List·getD-eq-default}
 use lib.Seq.{getD-set-same, getD-set-other}
-use borrow.Author.Tests.{eqb-true, eqb-false, eq-eqb, ne-eqb}
+use borrow.Author.Tests.{eqb-true, eqb-false, eq-eqb}
 use Rattle.rules.specs.Lists.{any, all, upTo}
 use Rattle.rules.specs.Called.{_∈_}
 use Rattle.rules.specs.Catalogue.{Catalogue, nameOf, rangeName}
@@ -17,7 +16,8 @@ use Rattle.rules.specs.Candidates.{member, matching}
 use Rattle.rules.proofs.Bools.{by-cases, and-right, or-right}
 use Rattle.rules.proofs.Member.{all-out, all-in, none-out, filter-out, filter-in, upTo-out, upTo-in}
 use Rattle.tables.specs.declared.Counts.{Counts}
-use Rattle.marks.specs.Marks.{isMarked}
+use Rattle.marks.specs.Marks.{isMarked, WithBit}
+use Rattle.marks.proofs.Bits.{bit-none}
 use Rattle.cache.specs.declared.Choice.the-variants.{Matching}
 use Rattle.cache.specs.Areas.{catalogue}
 use Rattle.cache.specs.Lists.{asked, chosen, choice}
@@ -27,7 +27,7 @@ use Rattle.index.specs.Chains.{Skips}
 use Rattle.index.proofs.Walking.{walk}
 use Rattle.entries.specs.Deferred.{isHeld, isFree}
 use Rattle.entries.proofs.Places.{is-held}
-use Rattle.blocking.specs.Blocking.{watchedFor, besides, allWatched, Unmet, PartsWatched}
+use Rattle.blocking.specs.Blocking.{watchedFor, allWatched, Unmet, PartsWatched}
 
 -- ---- one flag more or less
 
@@ -47,53 +47,21 @@ module _ (flags : List ℕ) (p : ℕ) where
 
 -- ---- one part is watched for range r
 
-module _ (w : List ℕ) (r p : ℕ) where
-  pub for-out : watchedFor w r p ≡ true → (getD w p 0 ≡ 1 + r) ⊎ (getD w p 0 ≡ 513)
-  unfolding watchedFor
-  for-out e = by-cases (eqb (getD w p 0) (1 + r)) (λ h. inl (eqb-true (getD w p 0) (1 + r) h)) (λ h. inr (eqb-true (getD w p 0) 513 (rw h at e)))
+-- it is watched
+pub for-held : (w : List ℕ) (r p : ℕ) → watchedFor w r p ≡ true → isHeld w p ≡ true
+unfolding watchedFor isHeld
+for-held w r p e = rw (is-held w p (λ z. true≢false (sym (rw z at e) ∙ bit-none (r % 16))))
 
-  for-in : (getD w p 0 ≡ 1 + r) ⊎ (getD w p 0 ≡ 513) → watchedFor w r p ≡ true
-  unfolding watchedFor
-  for-in = ⊎-elim (λ h. rw (eq-eqb (getD w p 0) (1 + r) h)) (λ h. or-right (eqb (getD w p 0) (1 + r)) (eqb (getD w p 0) 513) (eq-eqb (getD w p 0) 513 h))
-
-  -- it is watched
-  pub for-held : watchedFor w r p ≡ true → isHeld w p ≡ true
-  unfolding isHeld
-  for-held e = rw (is-held w p (λ z. ⊎-elim (λ h. omega arith) (λ h. omega arith) (for-out e)))
-
--- so are others where v is put at p
+-- others are as before where v is put at p
 pub for-other : (w : List ℕ) (r p v q : ℕ) → (q ≡ p → ⊥) → watchedFor (set w p v) r q ≡ watchedFor w r q
 unfolding watchedFor
 for-other w r p v q n = rw (getD-set-other w p q v 0 n)
 
-module _ (v r : ℕ) where
-  pub besides-none : v ≡ 0 → 1 + r ≡ besides v r
-  unfolding besides
-  besides-none e = rw (eq-eqb v 0 e)
-
-  pub besides-same : v ≡ 1 + r → 1 + r ≡ besides v r
-  unfolding besides
-  besides-same e = rw (or-right (eqb v 0) (eqb v (1 + r)) (eq-eqb v (1 + r) e))
-
-  pub besides-other : (v ≡ 0 → ⊥) → (v ≡ 1 + r → ⊥) → 513 ≡ besides v r
-  unfolding besides
-  besides-other n o = rw (ne-eqb v 0 n, ne-eqb v (1 + r) o)
-
--- what stands at it names range r, or several
-besides-is : (v r : ℕ) → (besides v r ≡ 1 + r) ⊎ (besides v r ≡ 513)
-unfolding besides
-besides-is v r = by-cases (eqb v 0 || eqb v (1 + r)) (λ e. inl (rw e)) (λ e. inr (rw e))
-
--- and what was watched for range i still is
-besides-still : (v r i : ℕ) → r < 512 → (v ≡ 1 + i) ⊎ (v ≡ 513) → (besides v r ≡ 1 + i) ⊎ (besides v r ≡ 513)
-unfolding besides
-besides-still v r i low h = by-cases (eqb v 0 || eqb v (1 + r)) own (λ e. inr (rw e))
-  where
-    own : (eqb v 0 || eqb v (1 + r)) ≡ true → (cond (eqb v 0 || eqb v (1 + r)) (1 + r) 513 ≡ 1 + i) ⊎ (cond (eqb v 0 || eqb v (1 + r)) (1 + r) 513 ≡ 513)
-    own e =
-        let n : v ≡ 0 → ⊥ = λ z. ⊎-elim (λ a. omega arith) (λ a. omega arith) h in
-        let q : v ≡ 1 + r = eqb-true v (1 + r) (rw (ne-eqb v 0 n) at e) in
-        inl (rw e (⊎-elim (λ a. omega (arith, q)) (λ a. let no : ⊥ = omega (arith, q) in absurd no) h))
+-- and p, where the bit of range r is set besides, is watched for that and for what it was
+for-here : (w : List ℕ) (r p v : ℕ) → p < length w → WithBit (r % 16) (getD w p 0) v → (i : ℕ)
+    → watchedFor (set w p v) i p ≡ (eqb (i % 16) (r % 16) || watchedFor w i p)
+unfolding watchedFor
+for-here w r p v h b i = rw (getD-set-same w p v 0 h) (b .is (i % 16))
 
 -- ---- the parts of range r
 
@@ -149,8 +117,8 @@ module _ (k : Counts) (m u t : List ℕ) (r : ℕ) where
       pub watch-past : {w″ : List ℕ} → b ≡ false → w″ ≡ w′ → Watching C r x w w″
       watch-past d v = rw v (watch-on s (watch-next p (sym e ∙ d) y))
 
-      pub watch-flag : {v : ℕ} {w″ : List ℕ} → k .parts ≤ 1024 → r < 512 → b ≡ true → v ≡ besides (getD w′ p 0) r → w″ ≡ set w′ p v → Watching C r x w w″
-      watch-flag {v} most low d n a =
+      pub watch-flag : {v : ℕ} {w″ : List ℕ} → k .parts ≤ 1024 → b ≡ true → WithBit (r % 16) (getD w′ p 0) v → w″ ≡ set w′ p v → Watching C r x w w″
+      watch-flag {v} most d n a =
           rw a (watch-on s (record {
             room = y .room;
             long = length-set w′ p v ∙ y .long;
@@ -162,14 +130,14 @@ module _ (k : Counts) (m u t : List ℕ) (r : ℕ) where
             };
           }))
         where
-          there : getD (set w′ p v) p 0 ≡ besides (getD w′ p 0) r
-          there = getD-set-same w′ p v 0 (omega (arith, y .long, y .room)) ∙ n
+          now-for : (i : ℕ) → watchedFor (set w′ p v) i p ≡ (eqb (i % 16) (r % 16) || watchedFor w′ i p)
+          now-for = for-here w′ r p v (omega (arith, y .long, y .room)) n
 
           here : watchedFor (set w′ p v) r p ≡ true
-          here = for-in (set w′ p v) r p (rw there (besides-is (getD w′ p 0) r))
+          here = now-for r ∙ rw (eq-eqb (r % 16) (r % 16) refl)
 
           still : (i : ℕ) → watchedFor w′ i p ≡ true → watchedFor (set w′ p v) i p ≡ true
-          still i j = for-in (set w′ p v) i p (rw there (besides-still (getD w′ p 0) r i low (for-out w′ i p j)))
+          still i j = now-for i ∙ or-right (eqb (i % 16) (r % 16)) (watchedFor w′ i p) j
 
           other : (i q : ℕ) → eqb q p ≡ false → watchedFor w′ i q ≡ true → watchedFor (set w′ p v) i q ≡ true
           other i q j o = for-other w′ i p v q (eqb-false q p j) ∙ o

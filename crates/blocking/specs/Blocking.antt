@@ -1,11 +1,11 @@
 -- Whether a disjunct of a condition holds, and conditions that are blocked: as long as no watched part is decided true, none of their disjuncts holds.
 use mathlib.Core.Path.{_≡_}
-use mathlib.Core.Logic.{_⊎_}
 use mathlib.Core.Bool.{Bool, true, false, not, cond, _&&_, _||_}
 use mathlib.Core.List.{List, []}
-use Prim.Native.Nat.{ℕ, _+_, _*_, _<_, _≤_}
+use Prim.Native.Nat.{ℕ, _+_, _*_, _%_, _<_, _≤_}
 use lib.Dec.{eqb}
 use lib.ListN.{length, getD}
+use Rattle.rules.specs.AtMostOne.{bit}
 use Rattle.rules.specs.Lists.{any, all}
 use Rattle.rules.specs.Called.{_∈_}
 use Rattle.rules.specs.Catalogue.{Catalogue, Condition}
@@ -17,8 +17,8 @@ use Rattle.marks.specs.Marks.{isMarked}
 use Rattle.cache.specs.Areas.{catalogue}
 use Rattle.state.specs.declared.Limits.{Limits}
 use Rattle.state.specs.Layout.{held, Fits}
-use Rattle.variable_map.specs.Mapping.{variables, Mapped}
-use Rattle.decision_tracker.specs.Tracking.{decisions, Kept}
+use Rattle.variable_map.specs.Mapping.{Mapped}
+use Rattle.decision_tracker.specs.Tracking.{Kept}
 use Rattle.entries.specs.Deferred.{isHeld}
 use Rattle.goals.specs.Goals.{Catalogued}
 
@@ -26,15 +26,11 @@ use Rattle.goals.specs.Goals.{Catalogued}
 pub record Barred (cs : List Condition) (f : ℕ → Bool) (x : ℕ) : Type 0 where
   pub each : (d : Disjunct) → d ∈ disjuncts cs x → any f d ≡ true
 
--- ---- watched parts: 1 + r stands at one that is watched for range r alone, 513 at one for several
+-- ---- watched parts: range r is of class r % 16, and bit j of what stands at a part tells whether it is watched for a range of class j
 
--- part p is watched for range r, and perhaps for others
+-- part p is watched for range r, or for another of its class
 unfoldable pub watchedFor : (watched : List ℕ) → (r p : ℕ) → Bool
-watchedFor watched r p = eqb (getD watched p 0) (1 + r) || eqb (getD watched p 0) 513
-
--- what stands at a part where v stood once it is watched for range r besides
-unfoldable pub besides : (v r : ℕ) → ℕ
-besides v r = cond (eqb v 0 || eqb v (1 + r)) (1 + r) 513
+watchedFor watched r p = bit (r % 16) (getD watched p 0)
 
 -- every matching part of range r is watched for it
 unfoldable pub allWatched : Catalogue → (watched : List ℕ) → ℕ → Bool
@@ -154,15 +150,15 @@ pub record ReleasesRange (m : List ℕ) (p r : ℕ) (blocked blocked′ : List �
   pub fewer : Fewer blocked blocked′
   pub free : isMarked m r p ≡ true → rangeBlocked blocked′ r ≡ false
 
--- no range is that p is a member of
-pub record ReleasesRanges (k : Counts) (m : List ℕ) (p : ℕ) (blocked blocked′ : List ℕ) : Type 0 where
+-- no range of class j is that p is a member of
+pub record ReleasesClass (k : Counts) (m : List ℕ) (p j : ℕ) (blocked blocked′ : List ℕ) : Type 0 where
   pub fewer : Fewer blocked blocked′
-  pub free : (r : ℕ) → r < k .ranges → isMarked m r p ≡ true → rangeBlocked blocked′ r ≡ false
+  pub free : (r : ℕ) → r < k .ranges → r % 16 ≡ j → isMarked m r p ≡ true → rangeBlocked blocked′ r ≡ false
 
--- no range is that p is watched for, where that is told by v, which stands at p
+-- nor is one of a class whose bit is set in v
 pub record ReleasesWatched (k : Counts) (m : List ℕ) (p v : ℕ) (blocked blocked′ : List ℕ) : Type 0 where
   pub fewer : Fewer blocked blocked′
-  pub free : (r : ℕ) → r < k .ranges → (v ≡ 1 + r) ⊎ (v ≡ 513) → isMarked m r p ≡ true → rangeBlocked blocked′ r ≡ false
+  pub free : (r : ℕ) → r < k .ranges → bit (r % 16) v ≡ true → isMarked m r p ≡ true → rangeBlocked blocked′ r ≡ false
 
 -- where no part but p was made true, what is blocked now is so rightly
 pub record Releases (k : Counts) (m : List ℕ) (p : ℕ) (blocked watched blocked′ watched′ : List ℕ) : Type 0 where

@@ -3,33 +3,26 @@ use cache::Choice;
 use state::Limits;
 use tables::Counts;
 ghost use mathlib.Core.Path.{_≡_};
-ghost use Prim.Native.Nat.{_+_, _*_, _<_, _≤_};
+ghost use Prim.Native.Nat.{_+_, _*_, _%_, _<_, _≤_};
 ghost use lib.ListN.{length, getD};
 ghost use Rattle.rules.specs.Conditions.{disjuncts};
 ghost use Rattle.tables.specs.Tables.{tables, Laid};
 ghost use Rattle.conditions.specs.Sizes.{Sized};
+ghost use Rattle.marks.specs.Marks.{WithBit};
 ghost use Rattle.cache.specs.Areas.{catalogue};
 ghost use Rattle.state.specs.Layout.{held};
 ghost use Rattle.variable_map.specs.Mapping.{variables};
 ghost use Rattle.decision_tracker.specs.Tracking.{decisions};
 ghost use Rattle.goals.specs.Goals.{Catalogued, trueOf};
-ghost use Rattle.blocking.specs.Blocking.{besides, PartsWatched, Sees, Blocks, RangeBars, RangeJudged, toldByLeft, ofHalves, Judged, ReleasesRange, ReleasesRanges, ReleasesConditions, ReleasesWatched, Releases, Listed, AllStand, Lists, namesBlocked, sharedBars, AskedBars, Row, RowBars, DisjunctBars, EachBars};
+ghost use Rattle.blocking.specs.Blocking.{PartsWatched, Sees, Blocks, RangeBars, RangeJudged, toldByLeft, ofHalves, Judged, ReleasesRange, ReleasesClass, ReleasesConditions, ReleasesWatched, Releases, Listed, AllStand, Lists, namesBlocked, sharedBars, AskedBars, Row, RowBars, DisjunctBars, EachBars};
 
-// ---- watched parts: 1 + r stands at one that is watched for range r alone, 513 at one that is for several, 0 at any other
+// ---- watched parts: range r is of class r % 16, and bit j of what stands at a part tells whether it is watched for a range of class j
 
 // What stands at a part, where v stood, that is watched for range r besides.
 fn besides(v: u16, r: usize) -> u16
-    requires { ⌜ r < 512 ⌝ }
-    ensures { λ w. ⌜ w ≡ besides v r ⌝ }
+    ensures { λ w. ⌜ WithBit (r % 16) v w ⌝ }
 {
-    let own = 1 + r as u16;
-    if v == 0 {
-        return own;
-    }
-    if v == own {
-        return own;
-    }
-    513
+    v | 1 << (r % 16)
 }
 
 // The matching parts of range r are watched: `most` of them at most. Gives how many may follow; 0 if not all are watched.
@@ -659,28 +652,29 @@ fn release_range(marks: &[u8], blocked: &mut [u8; 768], p: usize, r: usize)
     }
 }
 
-// The same of every range.
-fn release_ranges(marks: &[u8], k: Counts, blocked: &mut [u8; 768], p: usize)
+// The same of every range of class j: j, j + 16, j + 32 and so on.
+fn release_class(marks: &[u8], k: Counts, blocked: &mut [u8; 768], p: usize, j: usize)
     requires { ⌜ (k .ranges ≤ 512) × (65536 ≤ length (now marks)) ⌝ }
-    ensures { λ _. ⌜ ReleasesRanges k (now (marks .entry)) p (now (blocked .entry)) (now (blocked .exit)) ⌝ }
+    ensures { λ _. ⌜ ReleasesClass k (now (marks .entry)) p j (now (blocked .entry)) (now (blocked .exit)) ⌝ }
 {
-    let mut r = 0;
+    let mut r = j;
     while r < k.ranges {
         release_range(marks, blocked, p, r);
-        r += 1;
+        r += 16;
     }
 }
 
-// Nor is a range that p is watched for: v stands at p, and names it, or else the members tell.
+// The same of every class whose bit is set in v: a turn of the loop takes the lowest one away.
 fn release_watched(marks: &[u8], k: Counts, blocked: &mut [u8; 768], p: usize, v: u16)
     requires { ⌜ (k .ranges ≤ 512) × (65536 ≤ length (now marks)) ⌝ }
     ensures { λ _. ⌜ ReleasesWatched k (now (marks .entry)) p v (now (blocked .entry)) (now (blocked .exit)) ⌝ }
 {
-    if v < 513 {
-        blocked[255 + v as usize] = 0;
-        return;
+    let mut rest = v;
+    while rest != 0 {
+        let j = u16::trailing_zeros(rest) as usize;
+        release_class(marks, k, blocked, p, j);
+        rest &= rest - 1;
     }
-    release_ranges(marks, k, blocked, p);
 }
 
 // No condition is blocked any more, and no range that p is watched for; p is not watched any more. What else is blocked or watched stays so.

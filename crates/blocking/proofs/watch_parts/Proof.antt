@@ -2,7 +2,6 @@
 use borrow.Author.Needs.{needs}
 use Prim.Native.Nat.{_-_}
 use mathlib.Core.Logic.{⊎-elim}
-use native.Mathlib.Omega.{arith}
 use Rattle.cache.specs.Areas.{catalogue}
 use Rattle.blocking.proofs.Watching.{Watching, watch-first, watch-past, watch-flag, watched-some, watched-all}
 use Rattle.blocking.proofs.watch_parts.Statement.{statement}
@@ -51,7 +50,7 @@ loop-less : tie.Need-loop-less Inv-loop μ-loop
 loop-less c = search needs
 
 loop-again : tie.Need-loop-again Inv-loop μ-loop
-loop-again c = ⊎-elim (λ w. let q = c .before .before .before .before .before .before .before .before .before .before .before .pre in watch-flag _ _ _ _ _ (c .before .before .before .before .before .before .loop .inv) _ (c .before .before .before .before .if1 .taken) (c .before .before .chosen .ensures) (c .next-chosen .ensures) (q .0 .kept .held .laid .parts) (omega (arith, q .1 .0, q .0 .kept .held .laid .ranges)) (w .0 .taken) (w .2 .ensures) (w .3)) (λ w. search (needs, watch-past)) (c .before .if3 .came)
+loop-again c = ⊎-elim (λ w. watch-flag _ _ _ _ _ (c .before .before .before .before .before .before .loop .inv) _ (c .before .before .before .before .if1 .taken) (c .before .before .chosen .ensures) (c .next-chosen .ensures) (c .before .before .before .before .before .before .before .before .before .before .before .pre .0 .kept .held .laid .parts) (w .0 .taken) (w .2 .ensures) (w .3)) (λ w. search (needs, watch-past)) (c .before .if3 .came)
 
 returns-2 : tie.Need-returns-2 Inv-loop μ-loop
 returns-2 c = search (needs, watched-all)
