@@ -106,12 +106,6 @@ module _ {c : Catalogue} {f : ℕ → Bool} {v : ℕ} {b w : List ℕ} where
   pub asked-not : AskedBars c f v false b w b w
   asked-not = record { long = refl; is = λ e. absurd (false≢true e); keeps = λ h. h }
 
-  pub asked-long : {a : Bool} {b₁ w₁ : List ℕ} → AskedBars c f v a b w b₁ w₁ → length w₁ ≡ length w
-  asked-long d = d .long
-
-  pub asked-both : {a a₂ : Bool} {v₂ : ℕ} {b₁ w₁ b₂ w₂ : List ℕ} → AskedBars c f v a b w b₁ w₁ → AskedBars c f v₂ a₂ b₁ w₁ b₂ w₂ → length w₂ ≡ length w
-  asked-both d d₂ = d₂ .long ∙ d .long
-
   pub asked-room : {a : Bool} {b₁ w₁ : List ℕ} → AskedBars c f v a b w b₁ w₁ → length w ≡ 1024 → length w₁ ≡ 1024
   asked-room d h = d .long ∙ h
 

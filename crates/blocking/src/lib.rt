@@ -414,7 +414,6 @@ pub fn blocks_by_shared(
     requires { ⌜ (c < 256) × (length (now watched) ≡ 1024) ⌝ }
     requires { ⌜ Listed (tables k (now t) .conditions) (now lists) ⌝ }
     ensures { λ b. ⌜ Blocks (catalogue k (now (marks .entry)) (now (unions .entry)) (now (t .entry))) (trueOf (variables n (held l (now (s .entry)))) (decisions d (held l (now (s .entry))))) c b (now (blocked .entry)) (now (watched .entry)) (now (blocked .exit)) (now (watched .exit)) ⌝ }
-    ensures { λ _. ⌜ length (now (watched .exit)) ≡ length (now (watched .entry)) ⌝ }
 {
     if bar_shared(
         marks,

@@ -237,7 +237,17 @@ fn is_idle(
             value,
             ..
         } => {
-            unblock(blocked, watched, marks, k, s, l, n.variables, variable, value);
+            unblock(
+                blocked,
+                watched,
+                marks,
+                k,
+                s,
+                l,
+                n.variables,
+                variable,
+                value,
+            );
             false
         }
         Command::Undo(_) => false,
@@ -562,7 +572,17 @@ fn take_command(
             value,
             level,
         } => {
-            unblock(blocked, watched, marks, k, s, l, n.variables, variable, value);
+            unblock(
+                blocked,
+                watched,
+                marks,
+                k,
+                s,
+                l,
+                n.variables,
+                variable,
+                value,
+            );
             match commands::decide_to(s, l, n.variables, n.decisions, variable, value, level) {
                 Count::To(decisions) => {
                     words::clear(settled);

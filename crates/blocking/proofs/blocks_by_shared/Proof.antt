@@ -1,6 +1,6 @@
 -- `blocking::blocks_by_shared` tells that no disjunct of a condition holds: a range that they share does not.
 use borrow.Author.Needs.{needs}
-use Rattle.blocking.proofs.Sharing.{asked-room, asked-long, asked-both, first-blocks, second-blocks}
+use Rattle.blocking.proofs.Sharing.{asked-room, first-blocks, second-blocks}
 use Rattle.blocking.proofs.blocks_by_shared.Statement.{statement}
 use Rattle.blocking.proofs.blocks_by_shared.Tie as tie
 
@@ -20,7 +20,7 @@ bar-shared-requires : tie.Need-bar-shared-requires
 bar-shared-requires c κs = search needs
 
 returns : tie.Need-returns
-returns c = (search (needs, first-blocks), search (needs, asked-long))
+returns c = search (needs, first-blocks)
 
 mul-bar-shared-3 : tie.Need-mul-bar-shared-3
 mul-bar-shared-3 c = search needs
@@ -38,7 +38,7 @@ bar-shared-requires-2 : tie.Need-bar-shared-requires-2
 bar-shared-requires-2 c κs = (search needs, search (needs, asked-room))
 
 returns-2 : tie.Need-returns-2
-returns-2 c = (search (needs, second-blocks), search (needs, asked-both))
+returns-2 c = search (needs, second-blocks)
 
 pub blocks-by-shared-spec : {M : Type 1} → statement M
 blocks-by-shared-spec =
