@@ -37,6 +37,10 @@ const LONG_SHEETS: [&str; 7] = [
     "small runs",
 ];
 
+/// A job that seems heavier is timed so many times again, and its least weight counts: among many noisy
+/// times some are far off.
+const AGAIN: usize = 4;
+
 /// The records of a job, each with its kind first.
 pub type Records = Vec<Vec<u8>>;
 
@@ -106,8 +110,14 @@ impl Search {
         for _ in 0..self.random.between(1, 3) {
             change(&mut records, &mut self.random);
         }
-        let weight = self.weight(&records);
-        if weight > self.found[at].weight * 1.01 {
+        let before = self.found[at].weight * 1.01;
+        let mut weight = self.weight(&records);
+        for _ in 0..AGAIN {
+            if weight > before {
+                weight = weight.min(self.weight(&records));
+            }
+        }
+        if weight > before {
             self.found[at].weight = weight;
             self.found[at].records = records;
             self.sort();

@@ -2,7 +2,7 @@
 //! instructions, counted by callgrind where valgrind is installed; then how long the areas take to
 //! clear, and families of jobs of rising size. Both sides must give the same answer. `bench times`,
 //! `bench clearing` and `bench growth` are parts of it. `bench time SIDE JOB` measures one job on one
-//! side (`ours`, `rust`, `unlisted`), `bench once SIDE JOB` runs it once.
+//! side (`ours`, `rust`, `unlisted`), `bench once SIDE JOB` runs it once; JOB may also be a file.
 
 use std::time::Duration;
 
@@ -10,6 +10,7 @@ use beside::{
     jobs::{self, Job},
     measure::{self, Found, Side, instructions, measure, time},
 };
+use job::answer::Request;
 use kit::Limits;
 
 const USAGE: &str = "usage: bench [times | clearing | growth | time SIDE JOB | once SIDE JOB]";
@@ -40,7 +41,12 @@ fn main() {
     }
 }
 
+/// A job of the bench by its name, or the bytes of a file.
 fn named(name: &str) -> Job {
+    if let Ok(job) = std::fs::read(name) {
+        let request = Request { job, limits: Limits::CEILINGS, listing_area: jobs::LISTING };
+        return Job { name: name.to_owned(), request };
+    }
     let growing = jobs::growing().into_iter().flat_map(|(_, jobs)| jobs);
     jobs::all().into_iter().chain(growing).find(|job| job.name == name).expect("a job's name")
 }
