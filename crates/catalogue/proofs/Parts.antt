@@ -1,6 +1,6 @@
 -- The parts that follow one another: each is one step of the walks, and what is left of them stays the same.
 use mathlib.Core.Path.{_≡_, refl, sym, _∙_}
-use mathlib.Core.Bool.{Bool, true, false, not, false≢true}
+use mathlib.Core.Bool.{Bool, true, false}
 use mathlib.Core.List.{List}
 use Prim.Native.Nat.{ℕ, _+_, _-_, _<_, _≤_}
 use native.Mathlib.Omega.{arith}
@@ -9,7 +9,6 @@ use lib.Dec.{eqb}
 use lib.ListN.{length, getD, take, drop}
 use borrow.Author.Tests.{eqb-true}
 use Rattle.rules.specs.Bytes.{byteAt, wordAt}
-use Rattle.rules.specs.Job.{reading}
 use Rattle.reader.specs.Reading.{bodyLength, itemRead, resultOf}
 use Rattle.reader.specs.Reading as reader
 use Rattle.reader.proofs.Laws.{at-plain}
@@ -17,8 +16,9 @@ use Rattle.tables.specs.declared.Counts.{Counts}
 use Rattle.cache.specs.Areas.{catalogue}
 use Rattle.kept.specs.declared.Added.the-variants.{Counted}
 use Rattle.part_items.specs.Flags.{If, Free, Joined}
+use Rattle.catalogue.specs.declared.Step.{Step}
 use Rattle.catalogue.specs.declared.Step.the-variants as Step
-use Rattle.catalogue.specs.Walking.{Same, Ready, bodyAt, ItemAt, PartAt, FreeAt, placeAfter, progressAfter, Stepped}
+use Rattle.catalogue.specs.Walking.{Ready, bodyAt, ItemAt, PartAt, FreeAt, placeAfter, progressAfter, Stepped, Onward}
 use Rattle.catalogue.proofs.Steps.{low-kind, item-next, same-refl, same-then}
 
 part-body : (job : List ℕ) (at : ℕ) (b : List ℕ) → b ≡ take (at + 8 - (at + 1)) (drop (at + 1) job) → b ≡ bodyAt job at 2
@@ -69,42 +69,56 @@ module _ (job : List ℕ) (at : ℕ) (k : Counts) (m u t v : List ℕ) (y : Read
 
 -- ---- one after another
 
-not-false : (b : Bool) → not b ≡ false → b ≡ true
-not-false true e = refl
-not-false false e = absurd (false≢true (sym e))
-
--- the walks have come from byte `from` to the part at byte `at`, which nothing speaks against
 pub record Run (job : List ℕ) (from : ℕ) (k₀ : Counts) (m u t₀ : List ℕ) (at : ℕ) (k : Counts) (t v : List ℕ) : Type 0 where
   pub tables-same : length t ≡ length t₀
-  pub onward : from ≤ at
-  pub ready : Ready at k m u t v
-  pub same : Same job from (reading (catalogue k₀ m u t₀)) at (reading (catalogue k m u t))
-  pub free : FreeAt job at k v
+  pub onward : Onward job from k₀ m u t₀ at k t v
 
-pub run-start : (job : List ℕ) (from : ℕ) (k : Counts) (m u t v : List ℕ) → Ready from k m u t v → FreeAt job from k v → Run job from k m u t from k t v
-run-start job from k m u t v y x = record { tables-same = refl; onward = le-refl from; ready = y; same = same-refl job from _; free = x }
+pub run-start : (job : List ℕ) (from : ℕ) (k : Counts) (m u t v : List ℕ) → from ≤ length job → Ready from k m u t v → Run job from k m u t from k t v
+run-start job from k m u t v h y =
+    record {
+      tables-same = refl;
+      onward = record { onward = le-refl from; inside = h; ready = y; same = same-refl job from _; counts-still = λ _. refl; tables-still = λ _. refl };
+    }
 
-module _ (job : List ℕ) (from : ℕ) (k₀ : Counts) (m u t₀ : List ℕ) (at : ℕ) (k : Counts) (t v : List ℕ) (x : Run job from k₀ m u t₀ at k t v) where
-  pub run-inside : at + 8 ≤ length job
-  run-inside = x .free .part .there
+module _ (job : List ℕ) (from : ℕ) (k₀ : Counts) (m u t₀ : List ℕ) (at : ℕ) (k : Counts) (t v : List ℕ) (x : Run job from k₀ m u t₀ at k t v)
+    (b : Bool) (z : If b (FreeAt job at k v)) (h : b ≡ true) where
+  pub run-free : FreeAt job at k v
+  run-free = z .so h
 
   pub run-less : length job - (at + 8) < length job - at
-  run-less = omega (arith, run-inside)
+  run-less = omega (arith, run-free .part .there)
 
-  module _ (r : Counts) (t′ v′ : List ℕ) (y : Stepped job at k m u t (Step.Next (at + 8) r) m u t′ v′) where
-    gone-on : Same job from (reading (catalogue k₀ m u t₀)) (at + 8) (reading (catalogue r m u t′))
-    unfolding placeAfter progressAfter
-    gone-on = same-then (x .same) (y .same)
+  further : at + 8 ≡ from → ⊥
+  further e = omega (arith, x .onward .onward)
 
-    pub run-named : r .names ≤ 64
-    run-named = y .then .ready .kept .held .laid .names
+  pub run-step : (r : Counts) (t′ v′ : List ℕ) → Stepped job at k m u t (Step.Next (at + 8) r) m u t′ v′ → length t′ ≡ length t → Run job from k₀ m u t₀ (at + 8) r t′ v′
+  unfolding placeAfter progressAfter
+  run-step r t′ v′ y e =
+      record {
+        tables-same = e ∙ x .tables-same;
+        onward = record {
+          onward = omega (arith, x .onward .onward);
+          inside = y .then .inside;
+          ready = y .then .ready;
+          same = same-then (x .onward .same) (y .same);
+          counts-still = λ q. absurd (further q);
+          tables-still = λ q. absurd (further q);
+        };
+      }
 
-    pub run-end : Stepped job from k₀ m u t₀ (Step.Next (at + 8) r) m u t′ v′
-    unfolding placeAfter progressAfter
-    run-end = record { same = gone-on; then = record { onward = omega (arith, x .onward); inside = run-inside; ready = y .then .ready } }
+-- ---- before an item
 
-    pub run-step : (b : Bool) → If b (FreeAt job (at + 8) r v′) → not b ≡ false → length t′ ≡ length t → Run job from k₀ m u t₀ (at + 8) r t′ v′
-    run-step b z h e = record { tables-same = e ∙ x .tables-same; onward = omega (arith, x .onward); ready = y .then .ready; same = gone-on; free = z .so (not-false b h) }
+module _ (job : List ℕ) (at : ℕ) (k : Counts) (m u t : List ℕ) (a : ℕ) (r : Counts) (t′ v′ : List ℕ) (x : Onward job at k m u t a r t′ v′) where
+  pub moved : at < a → Stepped job at k m u t (Step.Next a r) m u t′ v′
+  unfolding placeAfter progressAfter
+  moved h = record { same = x .same; then = record { onward = h; inside = x .inside; ready = x .ready } }
 
-pub free-there : (job : List ℕ) (at : ℕ) (k : Counts) (v : List ℕ) (b : Bool) → If b (FreeAt job at k v) → b ≡ true → FreeAt job at k v
-free-there job at k v b z h = z .so h
+  module _ (h : a ≤ at) where
+    here : a ≡ at
+    here = omega (arith, x .onward)
+
+    pub still-ready : Ready at k m u t′ v′
+    still-ready = rw (← here, ← x .counts-still here) (x .ready)
+
+    pub stayed : (s : Step) (m″ u″ t″ v″ : List ℕ) → Stepped job at k m u t′ s m″ u″ t″ v″ → Stepped job at k m u t s m″ u″ t″ v″
+    stayed s m″ u″ t″ v″ y = rw (← x .tables-still here) y

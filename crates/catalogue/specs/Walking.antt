@@ -107,6 +107,15 @@ pub record FreeAt (job : List ℕ) (at : ℕ) (k : Counts) (v : List ℕ) : Type
   pub part : PartAt job at
   pub free : Free k v (nameAt job at) (flagsAt job at)
 
+-- from byte `at` the walks come to byte a, where the areas hold r things; if that is the same byte, nothing has changed
+pub record Onward (job : List ℕ) (at : ℕ) (k : Counts) (m u t : List ℕ) (a : ℕ) (r : Counts) (t′ v′ : List ℕ) : Type 0 where
+  pub onward : at ≤ a
+  pub inside : a ≤ length job
+  pub ready : Ready a r m u t′ v′
+  pub same : Same job at (reading (catalogue k m u t)) a (reading (catalogue r m u t′))
+  pub counts-still : a ≡ at → r ≡ k
+  pub tables-still : a ≡ at → t′ ≡ t
+
 -- ---- the whole catalogue
 
 unfoldable pub placeOf : Read → ℕ

@@ -14,8 +14,14 @@ ghost use Rattle.cache.specs.Areas.{catalogue};
 ghost use Rattle.part_items.specs.Flags.{If};
 ghost use Rattle.kept.specs.Kept.{Kept};
 ghost use Rattle.kept.specs.Entered.{rowsOf};
-ghost use Rattle.catalogue.specs.Walking.{Ready, bodyAt, stepTo, Taken, ItemAt, PartAt, FreeAt, Stepped, ReadUp};
+ghost use Rattle.catalogue.specs.Walking.{Ready, bodyAt, stepTo, Taken, ItemAt, PartAt, FreeAt, Stepped, Onward, ReadUp};
 ghost use Rattle.catalogue.specs.declared.Step.the-variants.{Next};
+
+// A place, and the counts there.
+struct Place {
+    at: usize,
+    counts: Counts,
+}
 
 // After the record at a place: the place and the counts after it, or the place is that of the first sheet record, or why it is refused.
 pub enum Step {
@@ -239,7 +245,7 @@ fn add_free_part(
     )
 }
 
-// The part at `from`, and those that follow it, up to the first that something speaks against: it is left to be read as any other record.
+// The parts from `from` on, up to the first that something speaks against: it is left to be read as any other record.
 fn pass_parts(
     job: &[u8],
     from: usize,
@@ -248,22 +254,19 @@ fn pass_parts(
     t: &mut [u8],
     vacant: &mut [u8; 128],
     k: Counts,
-) -> Step
-    requires { ⌜ length (now job) ≤ 65536 ⌝ }
+) -> Place
+    requires { ⌜ (from ≤ length (now job)) × (length (now job) ≤ 65536) ⌝ }
     requires { ⌜ Ready from k (now marks) (now unions) (now t) (now vacant) ⌝ }
-    requires { ⌜ FreeAt (now job) from k (now vacant) ⌝ }
-    ensures { λ r. ⌜ Stepped (now (job .entry)) from k (now (marks .entry)) (now (unions .entry)) (now (t .entry))
-        r (now (marks .entry)) (now (unions .entry)) (now (t .exit)) (now (vacant .exit)) ⌝ }
+    ensures { λ r. ⌜ Onward (now (job .entry)) from k (now (marks .entry)) (now (unions .entry)) (now (t .entry))
+        (r .at) (r .counts) (now (t .exit)) (now (vacant .exit)) ⌝ }
 {
     let mut at = from;
     let mut counts = k;
-    loop {
+    while is_free_part(job, at, vacant, counts) {
         counts = add_free_part(job, at, marks, unions, t, vacant, counts);
         at += 8;
-        if !is_free_part(job, at, vacant, counts) {
-            return Step::Next { at, counts };
-        }
     }
+    Place { at, counts }
 }
 
 // ---- one record, and all of them
@@ -293,7 +296,7 @@ fn enter(
     step
 }
 
-// And behind a part that nothing speaks against, the parts that follow.
+// Or the parts from `at` on, where nothing speaks against the first.
 fn enter_run(
     job: &[u8],
     at: usize,
@@ -310,10 +313,11 @@ fn enter_run(
     ensures { λ r. ⌜ Stepped (now (job .entry)) at k (now (marks .entry)) (now (unions .entry)) (now (t .entry))
         r (now (marks .exit)) (now (unions .exit)) (now (t .exit)) (now (vacant .exit)) ⌝ }
 {
-    if kind == 2 {
-        if is_free_part(job, at, vacant, k) {
-            return pass_parts(job, at, marks, unions, t, vacant, k);
-        }
+    let passed = pass_parts(job, at, marks, unions, t, vacant, k);
+    let next = passed.at;
+    if at < next {
+        let counts = passed.counts;
+        return Step::Next { at: next, counts };
     }
     enter(job, at, marks, unions, t, vacant, k, kind)
 }

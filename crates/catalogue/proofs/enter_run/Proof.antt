@@ -1,14 +1,11 @@
--- `catalogue::enter_run` takes a step of the walks for the item, or one for each part that it passes.
+-- `catalogue::enter_run` takes a step of the walks for each part that it passes, or, where it passes none, one for the item.
 use borrow.Author.Needs.{needs}
-use Rattle.catalogue.proofs.Parts.{free-there}
+use Rattle.catalogue.proofs.Parts.{moved, still-ready, stayed}
 use Rattle.catalogue.proofs.enter_run.Statement.{statement}
 use Rattle.catalogue.proofs.enter_run.Tie as tie
 
-is-free-part-requires : tie.Need-is-free-part-requires
-is-free-part-requires c κs = search needs
-
 pass-parts-requires : tie.Need-pass-parts-requires
-pass-parts-requires c κs = (search needs, (search needs, search (needs, free-there)))
+pass-parts-requires c κs = search needs
 
 same-length : tie.Need-same-length
 same-length c = search needs
@@ -20,10 +17,10 @@ same-length-3 : tie.Need-same-length-3
 same-length-3 c = search needs
 
 returns : tie.Need-returns
-returns c = search needs
+returns c = search (needs, moved)
 
 enter-requires : tie.Need-enter-requires
-enter-requires c κs = search needs
+enter-requires c κs = (search needs, (still-ready _ _ _ _ _ _ _ _ _ _ (c .before .before .before .before .before .before .before .pass-parts .ensures) (c .before .before .before .before .if1 .left), search needs))
 
 same-length-4 : tie.Need-same-length-4
 same-length-4 c = search needs
@@ -35,13 +32,12 @@ same-length-6 : tie.Need-same-length-6
 same-length-6 c = search needs
 
 returns-2 : tie.Need-returns-2
-returns-2 c = search needs
+returns-2 c = search (needs, stayed)
 
 pub enter-run-spec : {M : Type 1} → statement M
 enter-run-spec =
     tie.close
     (tie.spec
-    is-free-part-requires
     pass-parts-requires
     same-length
     same-length-2

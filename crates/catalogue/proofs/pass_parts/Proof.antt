@@ -2,7 +2,7 @@
 use borrow.Author.Needs.{needs}
 use Prim.Native.Nat.{_-_}
 use lib.ListN.{length}
-use Rattle.catalogue.proofs.Parts.{Run, run-start, run-inside, run-less, run-named, run-step, run-end}
+use Rattle.catalogue.proofs.Parts.{Run, run-start, run-free, run-less, run-step}
 use Rattle.catalogue.proofs.pass_parts.Statement.{statement}
 use Rattle.catalogue.proofs.pass_parts.Tie as tie
 
@@ -15,26 +15,26 @@ abbrev μ-loop : tie.MeasureT-loop
 loop-holds : tie.Need-loop-holds Inv-loop μ-loop
 loop-holds c = search (needs, run-start)
 
+is-free-part-requires : tie.Need-is-free-part-requires Inv-loop μ-loop
+is-free-part-requires c κs = search needs
+
 add-free-part-requires : tie.Need-add-free-part-requires Inv-loop μ-loop
-add-free-part-requires c κs = search needs
+add-free-part-requires c κs = (search needs, search (needs, run-free))
 
 add-at : tie.Need-add-at Inv-loop μ-loop
 add-at c = search needs
-
-is-free-part-requires : tie.Need-is-free-part-requires Inv-loop μ-loop
-is-free-part-requires c κs = (search (needs, run-inside), search (needs, run-named))
-
-same-length : tie.Need-same-length Inv-loop μ-loop
-same-length c = search needs
-
-returns : tie.Need-returns Inv-loop μ-loop
-returns c = search (needs, run-end)
 
 loop-less : tie.Need-loop-less Inv-loop μ-loop
 loop-less c = search (needs, run-less)
 
 loop-again : tie.Need-loop-again Inv-loop μ-loop
 loop-again c = search (needs, run-step)
+
+same-length : tie.Need-same-length Inv-loop μ-loop
+same-length c = search needs
+
+returns : tie.Need-returns Inv-loop μ-loop
+returns c = search needs
 
 pub pass-parts-spec : {M : Type 1} → statement M
 pass-parts-spec =
@@ -43,10 +43,10 @@ pass-parts-spec =
     Inv-loop
     μ-loop
     loop-holds
+    is-free-part-requires
     add-free-part-requires
     add-at
-    is-free-part-requires
-    same-length
-    returns
     loop-less
-    loop-again)
+    loop-again
+    same-length
+    returns)
