@@ -69,16 +69,15 @@ module _ (job : List ℕ) (at : ℕ) (k : Counts) (m u t v : List ℕ) (y : Read
 
 -- ---- one after another
 
+pub none-passed : (job : List ℕ) (at : ℕ) (k : Counts) (m u t v : List ℕ) → at ≤ length job → Ready at k m u t v → Onward job at k m u t at k t v
+none-passed job at k m u t v h y = record { onward = le-refl at; inside = h; ready = y; same = same-refl job at _; counts-still = λ _. refl; tables-still = λ _. refl }
+
 pub record Run (job : List ℕ) (from : ℕ) (k₀ : Counts) (m u t₀ : List ℕ) (at : ℕ) (k : Counts) (t v : List ℕ) : Type 0 where
   pub tables-same : length t ≡ length t₀
   pub onward : Onward job from k₀ m u t₀ at k t v
 
 pub run-start : (job : List ℕ) (from : ℕ) (k : Counts) (m u t v : List ℕ) → from ≤ length job → Ready from k m u t v → Run job from k m u t from k t v
-run-start job from k m u t v h y =
-    record {
-      tables-same = refl;
-      onward = record { onward = le-refl from; inside = h; ready = y; same = same-refl job from _; counts-still = λ _. refl; tables-still = λ _. refl };
-    }
+run-start job from k m u t v h y = record { tables-same = refl; onward = none-passed job from k m u t v h y }
 
 module _ (job : List ℕ) (from : ℕ) (k₀ : Counts) (m u t₀ : List ℕ) (at : ℕ) (k : Counts) (t v : List ℕ) (x : Run job from k₀ m u t₀ at k t v)
     (b : Bool) (z : If b (FreeAt job at k v)) (h : b ≡ true) where

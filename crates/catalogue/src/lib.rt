@@ -245,7 +245,7 @@ fn add_free_part(
     )
 }
 
-// The parts from `from` on, up to the first that something speaks against: it is left to be read as any other record.
+// The parts from `from` on, where a record of this kind stands, up to the first that something speaks against: it is left to be read as any other record.
 fn pass_parts(
     job: &[u8],
     from: usize,
@@ -254,12 +254,19 @@ fn pass_parts(
     t: &mut [u8],
     vacant: &mut [u8; 128],
     k: Counts,
+    kind: u8,
 ) -> Place
     requires { ⌜ (from ≤ length (now job)) × (length (now job) ≤ 65536) ⌝ }
     requires { ⌜ Ready from k (now marks) (now unions) (now t) (now vacant) ⌝ }
     ensures { λ r. ⌜ Onward (now (job .entry)) from k (now (marks .entry)) (now (unions .entry)) (now (t .entry))
         (r .at) (r .counts) (now (t .exit)) (now (vacant .exit)) ⌝ }
 {
+    if kind != 2 {
+        return Place {
+            at: from,
+            counts: k,
+        };
+    }
     let mut at = from;
     let mut counts = k;
     while is_free_part(job, at, vacant, counts) {
@@ -313,7 +320,7 @@ fn enter_run(
     ensures { λ r. ⌜ Stepped (now (job .entry)) at k (now (marks .entry)) (now (unions .entry)) (now (t .entry))
         r (now (marks .exit)) (now (unions .exit)) (now (t .exit)) (now (vacant .exit)) ⌝ }
 {
-    let passed = pass_parts(job, at, marks, unions, t, vacant, k);
+    let passed = pass_parts(job, at, marks, unions, t, vacant, k, kind);
     let next = passed.at;
     if at < next {
         let counts = passed.counts;

@@ -2,15 +2,18 @@
 use borrow.Author.Needs.{needs}
 use Prim.Native.Nat.{_-_}
 use lib.ListN.{length}
-use Rattle.catalogue.proofs.Parts.{Run, run-start, run-free, run-less, run-step}
+use Rattle.catalogue.proofs.Parts.{none-passed, Run, run-start, run-free, run-less, run-step}
 use Rattle.catalogue.proofs.pass_parts.Statement.{statement}
 use Rattle.catalogue.proofs.pass_parts.Tie as tie
 
 abbrev Inv-loop : tie.InvT-loop
-Inv-loop job from marks unions t₀ vacant₀ at₀ counts₀ t vacant at counts = Run job from counts₀ marks unions t₀ at counts t vacant
+Inv-loop job from marks unions t₀ vacant₀ kind at₀ counts₀ t vacant at counts = Run job from counts₀ marks unions t₀ at counts t vacant
 
 abbrev μ-loop : tie.MeasureT-loop
-μ-loop job from marks unions t₀ vacant₀ at₀ counts₀ t vacant at counts = length job - at
+μ-loop job from marks unions t₀ vacant₀ kind at₀ counts₀ t vacant at counts = length job - at
+
+returns : tie.Need-returns Inv-loop μ-loop
+returns c = search (needs, none-passed)
 
 loop-holds : tie.Need-loop-holds Inv-loop μ-loop
 loop-holds c = search (needs, run-start)
@@ -33,8 +36,8 @@ loop-again c = search (needs, run-step)
 same-length : tie.Need-same-length Inv-loop μ-loop
 same-length c = search needs
 
-returns : tie.Need-returns Inv-loop μ-loop
-returns c = search needs
+returns-2 : tie.Need-returns-2 Inv-loop μ-loop
+returns-2 c = search needs
 
 pub pass-parts-spec : {M : Type 1} → statement M
 pass-parts-spec =
@@ -42,6 +45,7 @@ pass-parts-spec =
     (tie.spec
     Inv-loop
     μ-loop
+    returns
     loop-holds
     is-free-part-requires
     add-free-part-requires
@@ -49,4 +53,4 @@ pass-parts-spec =
     loop-less
     loop-again
     same-length
-    returns)
+    returns-2)
