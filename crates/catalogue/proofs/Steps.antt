@@ -1,13 +1,13 @@
 -- One item of ten, one record, and the loop over them: what is left of the walks stays the same.
 use mathlib.Core.Path.{_≡_, refl, sym, _∙_, ap}
 use mathlib.Core.Bool.{Bool, true, false, _&&_, _||_}
-use mathlib.Core.List.{List, []}
+use mathlib.Core.List.{List, [], _∷_}
 use mathlib.Core.Option.{Option, none, some}
 use Prim.Native.Nat.{ℕ, _+_, _-_, _*_, _<_, _≤_, zero-le}
 use native.Mathlib.Omega.{arith}
-use lib.Dec.{ltb, leb}
-use lib.ListN.{length, getD, take, drop}
-use borrow.Author.Tests.{lt-leb, le-ltb, leb-true, ltb-true}
+use lib.Dec.{eqb, ltb, leb}
+use lib.ListN.{length, getD, take, drop, replicate}
+use borrow.Author.Tests.{ne-eqb, lt-leb, le-ltb, leb-true, ltb-true}
 use Rattle.rules.specs.Compute.{computing}
 use Rattle.rules.specs.Bytes.{byteAt, wordAt}
 use Rattle.rules.specs.Lists.{filter, all, upTo}
@@ -17,15 +17,16 @@ use Rattle.rules.proofs.Member.{all-out, upTo-in}
 use Rattle.rules.proofs.WalkLaws.{walk-record, walk-still, read-ok, read-sheet, Reads, run-reads, check-reads}
 use Rattle.rules.specs.Catalogue.{Catalogue, emptyCatalogue}
 use Rattle.rules.specs.Refusals as rules
+use Rattle.rules.specs.Refusals.{unlessAny}
 use Rattle.rules.specs.Records.{Kind, kinds, kindOf, ofSheet, Item, recordOf, read}
 use Rattle.rules.specs.Records as records
-use Rattle.rules.specs.Items.{addItem}
+use Rattle.rules.specs.Items.{itemRefusals, withItem, addItem}
 use Rattle.rules.specs.Job.{Progress, reading, stopped, bodyOf, walk, runStep, checkStep, startsSheet}
 use Rattle.refusal.specs.declared.Refusal.{Refusal}
 use Rattle.refusal.specs.Refusing.{refusalOf}
 use Rattle.reader.specs.declared.Record.{Record}
 use Rattle.reader.specs.declared.Record.the-variants as R
-use Rattle.reader.specs.Reading.{bodyLength, itemRead, resultOf, nextOf}
+use Rattle.reader.specs.Reading.{bodyLength, pick, itemRead, resultOf, nextOf}
 use Rattle.reader.proofs.Laws.{next-behind, next-inside}
 use Rattle.tables.specs.declared.Counts.{Counts}
 use Rattle.tables.specs.Tables.{listed, tables, tablesIn}
@@ -35,6 +36,8 @@ use Rattle.conditions.proofs.Kept.{sized-none}
 use Rattle.cache.specs.Areas.{assembled, catalogue}
 use Rattle.kept.specs.declared.Added.{Added}
 use Rattle.kept.specs.declared.Added.the-variants.{Counted, Refused}
+use Rattle.part_items.specs.Flags.{Vacant}
+use Rattle.part_items.proofs.Free.{vacant-start, vacant-same, vacant-zeros}
 use Rattle.catalogue.specs.declared.Step.{Step}
 use Rattle.catalogue.specs.declared.Step.the-variants as Step
 use Rattle.catalogue.specs.declared.Read.the-variants as Read
@@ -210,8 +213,8 @@ module _ (job : List ℕ) (at : ℕ) (c : Catalogue) (h : at < length job) where
       → walk step 0 at (drop at job) (reading c) ≡ walk step 0 next (drop next job) (reading d)
   going step d next q e = walk-record step job at (reading c) h ∙ rw (q, e)
 
-module _ (job : List ℕ) (at : ℕ) (k : Counts) (m u t : List ℕ) (y : Ready at k m u t) (b : Bool) (s : b ≡ startsSheet (getD job at 0) (kindOf (getD job at 0))) where
-  pub step-sheet : b ≡ true → Stepped job at k m u t Step.Sheet m u t
+module _ (job : List ℕ) (at : ℕ) (k : Counts) (m u t v : List ℕ) (y : Ready at k m u t v) (b : Bool) (s : b ≡ startsSheet (getD job at 0) (kindOf (getD job at 0))) where
+  pub step-sheet : b ≡ true → Stepped job at k m u t Step.Sheet m u t v
   unfolding placeAfter progressAfter
   step-sheet h = record { same = same-refl job at _; then = record { kept = y .kept; starts = sym s ∙ h } }
 
@@ -219,7 +222,7 @@ module _ (job : List ℕ) (at : ℕ) (k : Counts) (m u t : List ℕ) (y : Ready 
     catalogue-kind : startsSheet (getD job at 0) (kindOf (getD job at 0)) ≡ false
     catalogue-kind = sym s ∙ l
 
-    pub step-command : x ≡ R.Sheet → Stepped job at k m u t Step.Sheet m u t
+    pub step-command : x ≡ R.Sheet → Stepped job at k m u t Step.Sheet m u t v
     unfolding placeAfter progressAfter resultOf
     step-command q =
         record {
@@ -227,7 +230,7 @@ module _ (job : List ℕ) (at : ℕ) (k : Counts) (m u t : List ℕ) (y : Ready 
           then = record { kept = y .kept; starts = read-sheet false (getD job at 0) (drop (at + 1) job) _ (sym (rw q at e)) };
         }
 
-    pub step-unread : (f : Refusal) → x ≡ R.Refused f → Stepped job at k m u t (Step.Refused f) m u t
+    pub step-unread : (f : Refusal) → x ≡ R.Refused f → Stepped job at k m u t (Step.Refused f) m u t v
     unfolding placeAfter progressAfter resultOf
     step-unread f q =
         let g : read false (getD job at 0) (drop (at + 1) job) ≡ rules.refuse (refusalOf f) = sym (rw q at e) in
@@ -239,7 +242,51 @@ module _ (job : List ℕ) (at : ℕ) (k : Counts) (m u t : List ℕ) (y : Ready 
           then = tt;
         }
 
--- an item that was read
+-- ---- an item that is no part leaves the parts as they are
+
+abbrev Stays : Item → Type 0
+Stays e = (c : Catalogue) → withItem c e .parts ≡ c .parts
+
+module _ (a : Bool) (x y : Item) where
+  stays-both : Stays x → Stays y → Stays (pick a x y)
+  stays-both f g = go a
+    where
+      go : (a : Bool) → Stays (pick a x y)
+      go true = f
+      go false = g
+
+  stays-second : a ≡ false → Stays y → Stays (pick a x y)
+  stays-second e g = rw e g
+
+other-stays : (kind : ℕ) (b : List ℕ) → (kind ≡ 2 → ⊥) → Stays (itemRead kind b)
+unfolding itemRead withItem
+other-stays kind b h =
+    stays-both (eqb kind 1) _ _ (λ c. refl)
+    (stays-second (eqb kind 2) _ _ (ne-eqb kind 2 h)
+    (stays-both (eqb kind 3) _ _ (λ c. refl)
+    (stays-both (eqb kind 4) _ _ (λ c. refl)
+    (stays-both (eqb kind 5) _ _ (λ c. refl)
+    (stays-both (eqb kind 6) _ _ (λ c. refl)
+    (stays-both (eqb kind 7) _ _ (λ c. refl)
+    (stays-both (eqb kind 8) _ _ (λ c. refl)
+    (stays-both (eqb kind 9) _ _ (λ c. refl) (λ c. refl)))))))))
+
+unless-ok : {A : Type 0} (ts : List (rules.Refusal × Bool)) (x y : A) → rules.ok y ≡ unlessAny ts x → y ≡ x
+unfolding unlessAny
+unless-ok [] x y e = cc
+unless-ok (t ∷ ts) x y e = go (t .1) (unless-ok ts x y) e
+  where
+    go : (b : Bool) → (rules.ok y ≡ unlessAny ts x → y ≡ x) → rules.ok y ≡ elim b [ true ↦ rules.refuse (t .0) | false ↦ unlessAny ts x ] → y ≡ x
+    go true f e = absurd (not-one (cc))
+    go false f e = f e
+
+parts-same : {k : Counts} {c : Catalogue} {e : Item} {r : Counts} {m u t : List ℕ} → Entered k c e (Counted r) m u t → Stays e → catalogue r m u t .parts ≡ c .parts
+unfolding answered addItem
+parts-same {c = c} {e = e} {r = r} {m = m} {u = u} {t = t} x f =
+    ap (λ (d : Catalogue). d .parts) (unless-ok (itemRefusals c e) (withItem c e) (catalogue r m u t) (x .is)) ∙ f c
+
+-- ---- an item that was read
+
 module _ (job : List ℕ) (at : ℕ) (x : Record) (e : resultOf (getD job at 0) (drop (at + 1) job) x ≡ read false (getD job at 0) (drop (at + 1) job)) (q : x ≡ R.Item) where
   pub item-at : (b : Bool) → at < length job → b ≡ startsSheet (getD job at 0) (kindOf (getD job at 0)) → b ≡ false → ItemAt job at (getD job at 0)
   unfolding resultOf
@@ -257,7 +304,7 @@ item-numbers b x e s =
     let w : (ltb 0 b && leb b 10) ≡ true = rw l at n in
     (ltb-true 0 b (and-left (ltb 0 b) _ w), leb-true b 10 (and-right (ltb 0 b) _ w))
 
-module _ (job : List ℕ) (at kind : ℕ) (k : Counts) (m u t : List ℕ) (x : ItemAt job at kind) where
+module _ (job : List ℕ) (at kind : ℕ) (k : Counts) (m u t v : List ℕ) (x : ItemAt job at kind) where
   abbrev b : List ℕ
   b = bodyAt job at kind
 
@@ -291,12 +338,12 @@ module _ (job : List ℕ) (at kind : ℕ) (k : Counts) (m u t : List ℕ) (x : I
   pub item-to : kind ≤ 10
   item-to = numbers .1
 
-  module _ (y : Ready at k m u t) where
+  module _ (y : Ready at k m u t v) where
     pub item-room : length job ≤ 65536 → k .members + rowsOf (itemRead kind b) ≤ 13107
     item-room w = omega (arith, y .few, item-whole, light, behind)
 
-    module _ (a : Added) (m′ u′ t′ : List ℕ) (g : Entered k (catalogue k m u t) (itemRead kind b) a m′ u′ t′) where
-      item-refused : (f : Refusal) → a ≡ Refused f → Stepped job at k m u t (Step.Refused f) m′ u′ t′
+    module _ (a : Added) (m′ u′ t′ v′ : List ℕ) (g : Entered k (catalogue k m u t) (itemRead kind b) a m′ u′ t′) where
+      item-refused : (f : Refusal) → a ≡ Refused f → Stepped job at k m u t (Step.Refused f) m′ u′ t′ v′
       unfolding placeAfter progressAfter answered
       item-refused f p =
           let v : addItem (catalogue k m u t) (itemRead kind b) ≡ rules.refuse (refusalOf f) = sym (rw p at (g .is)) in
@@ -308,9 +355,9 @@ module _ (job : List ℕ) (at kind : ℕ) (k : Counts) (m u t : List ℕ) (x : I
             then = tt;
           }
 
-      item-next : (r : Counts) → a ≡ Counted r → Stepped job at k m u t (Step.Next next r) m′ u′ t′
+      pub item-next : (r : Counts) → a ≡ Counted r → Vacant v′ (catalogue r m′ u′ t′) → Stepped job at k m u t (Step.Next next r) m′ u′ t′ v′
       unfolding placeAfter progressAfter answered
-      item-next r p =
+      item-next r p z =
           let v : addItem (catalogue k m u t) (itemRead kind b) ≡ rules.ok (catalogue r m′ u′ t′) = sym (rw p at (g .is)) in
           let w : After k (itemRead kind b) r m′ u′ t′ = rw p at (g .still) in
           record {
@@ -321,33 +368,41 @@ module _ (job : List ℕ) (at kind : ℕ) (k : Counts) (m u t : List ℕ) (x : I
             then = record {
               onward = omega arith;
               inside = item-whole;
-              ready = record { kept = w .kept; few = omega (arith, w .members, y .few, light, behind) };
+              ready = record { kept = w .kept; vacant = z; few = omega (arith, w .members, y .few, light, behind) };
             };
           }
 
-    pub item-steps : (s : Step) (m′ u′ t′ : List ℕ) → Taken at kind k (catalogue k m u t) b s m′ u′ t′ → Stepped job at k m u t s m′ u′ t′
-    item-steps s m′ u′ t′ g = rw (g .step) (go (g .added) (g .entered))
-      where
-        go : (a : Added) → Entered k (catalogue k m u t) (itemRead kind b) a m′ u′ t′ → Stepped job at k m u t (stepTo next a) m′ u′ t′
-        go (Counted r) e = unfold stepTo in item-next (Counted r) m′ u′ t′ e r refl
-        go (Refused f) e = unfold stepTo in item-refused (Refused f) m′ u′ t′ e f refl
+    -- the step, if the bytes v′ tell of the parts after it
+    module _ (s : Step) (m′ u′ t′ v′ : List ℕ) (g : Taken at kind k (catalogue k m u t) b s m′ u′ t′) where
+      item-steps : ((r : Counts) → Entered k (catalogue k m u t) (itemRead kind b) (Counted r) m′ u′ t′ → Vacant v′ (catalogue r m′ u′ t′)) → Stepped job at k m u t s m′ u′ t′ v′
+      item-steps z = rw (g .step) (go (g .added) (g .entered))
+        where
+          go : (a : Added) → Entered k (catalogue k m u t) (itemRead kind b) a m′ u′ t′ → Stepped job at k m u t (stepTo next a) m′ u′ t′ v′
+          go (Counted r) e = unfold stepTo in item-next (Counted r) m′ u′ t′ v′ e r refl (z r e)
+          go (Refused f) e = unfold stepTo in item-refused (Refused f) m′ u′ t′ v′ e f refl
+
+      pub cleared-steps : (n : ℕ) → v′ ≡ replicate n 0 → Stepped job at k m u t s m′ u′ t′ v′
+      cleared-steps n e = item-steps (λ r _. vacant-zeros v′ n (catalogue r m′ u′ t′) e)
+
+    pub other-steps : (s : Step) (m′ u′ t′ : List ℕ) → Taken at kind k (catalogue k m u t) b s m′ u′ t′ → (kind ≡ 2 → ⊥) → Stepped job at k m u t s m′ u′ t′ v
+    other-steps s m′ u′ t′ g h = item-steps s m′ u′ t′ v g (λ r e. vacant-same (parts-same e (other-stays kind b h)) (y .vacant))
 
 -- ---- the loop
 
 -- what is left of the walks is the whole walks
-pub record Left (job m₀ u₀ t₀ : List ℕ) (at : ℕ) (k : Counts) (m u t : List ℕ) : Type 0 where
+pub record Left (job m₀ u₀ t₀ : List ℕ) (at : ℕ) (k : Counts) (m u t v : List ℕ) : Type 0 where
   pub marks-same : length m ≡ length m₀
   pub unions-same : length u ≡ length u₀
   pub tables-same : length t ≡ length t₀
   pub inside : at ≤ length job
-  pub ready : Ready at k m u t
+  pub ready : Ready at k m u t v
   pub same : Same job 0 (reading emptyCatalogue) at (reading (catalogue k m u t))
 
 abbrev none-yet : Counts
 none-yet = counts 0 0 0 0 0 0 0 0
 
-pub left-start : (job m u t : List ℕ) → 65536 ≤ length m → 52428 ≤ length u → 50696 ≤ length t → Left job m u t 0 none-yet m u t
-left-start job m u t f g h =
+pub left-start : (job m u t v : List ℕ) → 65536 ≤ length m → 52428 ≤ length u → 50696 ≤ length t → Left job m u t 0 none-yet m u t v
+left-start job m u t v f g h =
     record {
       marks-same = refl;
       unions-same = refl;
@@ -363,21 +418,22 @@ left-start job m u t f g h =
           given = record { none-yet = λ v l. unfold rows upTo rangesOf filter in refl };
           sized = sized-none none-yet t refl;
         };
+        vacant = unfold catalogue assembled tables tablesIn listed upTo in vacant-start v;
         few = zero-le;
       };
       same = unfold catalogue assembled tables tablesIn listed upTo in same-refl job 0 (reading emptyCatalogue);
     }
 
-module _ (job m₀ u₀ t₀ : List ℕ) (at : ℕ) (k : Counts) (m u t : List ℕ) (x : Left job m₀ u₀ t₀ at k m u t) where
-  module _ (s : _) (m′ u′ t′ : List ℕ) (g : Stepped job at k m u t s m′ u′ t′) where
-    pub left-next : (a : ℕ) (r : Counts) → s ≡ Step.Next a r → length m′ ≡ length m → length u′ ≡ length u → length t′ ≡ length t → Left job m₀ u₀ t₀ a r m′ u′ t′
+module _ (job m₀ u₀ t₀ : List ℕ) (at : ℕ) (k : Counts) (m u t v : List ℕ) (x : Left job m₀ u₀ t₀ at k m u t v) where
+  module _ (s : _) (m′ u′ t′ v′ : List ℕ) (g : Stepped job at k m u t s m′ u′ t′ v′) where
+    pub left-next : (a : ℕ) (r : Counts) → s ≡ Step.Next a r → length m′ ≡ length m → length u′ ≡ length u → length t′ ≡ length t → Left job m₀ u₀ t₀ a r m′ u′ t′ v′
     unfolding placeAfter progressAfter
-    left-next a r e p q v =
-        let w : Passed job at k a r m′ u′ t′ = rw e at (g .then) in
+    left-next a r e p q h =
+        let w : Passed job at k a r m′ u′ t′ v′ = rw e at (g .then) in
         record {
           marks-same = p ∙ x .marks-same;
           unions-same = q ∙ x .unions-same;
-          tables-same = v ∙ x .tables-same;
+          tables-same = h ∙ x .tables-same;
           inside = w .inside;
           ready = w .ready;
           same = same-then (x .same) (rw e at (g .same));
@@ -385,7 +441,7 @@ module _ (job m₀ u₀ t₀ : List ℕ) (at : ℕ) (k : Counts) (m u t : List �
 
     pub left-less : (a : ℕ) (r : Counts) → s ≡ Step.Next a r → at < length job → length job - a < length job - at
     left-less a r e h =
-        let w : Passed job at k a r m′ u′ t′ = rw e at (g .then) in
+        let w : Passed job at k a r m′ u′ t′ v′ = rw e at (g .then) in
         omega (arith, w .onward)
 
     pub left-sheet : s ≡ Step.Sheet → ReadUp job (Read.Sheet at k) m′ u′ t′

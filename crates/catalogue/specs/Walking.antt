@@ -19,7 +19,7 @@ use Rattle.kept.specs.Kept.{Kept}
 use Rattle.kept.specs.Entered.{Entered}
 use Rattle.kept.specs.declared.Added.{Added}
 use Rattle.kept.specs.declared.Added.the-variants as Added
-use Rattle.part_items.specs.Flags.{Unflagged, Plain, Free}
+use Rattle.part_items.specs.Flags.{Vacant, Free}
 use Rattle.catalogue.specs.declared.Step.{Step}
 use Rattle.catalogue.specs.declared.Step.the-variants as Step
 use Rattle.catalogue.specs.declared.Read.{Read}
@@ -30,9 +30,10 @@ pub record Same (job : List ℕ) (at : ℕ) (p : Progress) (at′ : ℕ) (p′ :
   pub run : (t : Terms) → walk (runStep t job) 0 at (drop at job) p ≡ walk (runStep t job) 0 at′ (drop at′ job) p′
   pub check : (t : Terms) → walk (checkStep t job) 0 at (drop at job) p ≡ walk (checkStep t job) 0 at′ (drop at′ job) p′
 
--- the areas hold a catalogue from the first bytes of a job; a row of a union member came of 5 of them
-pub record Ready (at : ℕ) (k : Counts) (m u t : List ℕ) : Type 0 where
+-- the areas hold a catalogue from the first bytes of a job, and the bytes v tell of its parts; a row of a union member came of 5 of them
+pub record Ready (at : ℕ) (k : Counts) (m u t v : List ℕ) : Type 0 where
   pub kept : Kept k m u t
+  pub vacant : Vacant v (catalogue k m u t)
   pub few : 5 * k .members ≤ at
 
 -- ---- after a record
@@ -70,26 +71,26 @@ module _ (job : List ℕ) (at : ℕ) (k : Counts) where
   progressAfter (Step.Refused f) m u t = stopped (numberAndPlace (length job) at (refusalOf f))
 
   -- a whole record was passed
-  pub record Passed (a : ℕ) (r : Counts) (m u t : List ℕ) : Type 0 where
+  pub record Passed (a : ℕ) (r : Counts) (m u t v : List ℕ) : Type 0 where
     pub onward : at < a
     pub inside : a ≤ length job
-    pub ready : Ready a r m u t
+    pub ready : Ready a r m u t v
 
   pub record AtSheet (m u t : List ℕ) : Type 0 where
     pub kept : Kept k m u t
     pub starts : startsSheet (getD job at 0) (kindOf (getD job at 0)) ≡ true
 
-  abbrev pub Then : Step → (m u t : List ℕ) → Type 0
-  Then (Step.Next a r) m u t = Passed a r m u t
-  Then Step.Sheet m u t = AtSheet m u t
-  Then (Step.Refused f) m u t = Unit {0}
+  abbrev pub Then : Step → (m u t v : List ℕ) → Type 0
+  Then (Step.Next a r) m u t v = Passed a r m u t v
+  Then Step.Sheet m u t v = AtSheet m u t
+  Then (Step.Refused f) m u t v = Unit {0}
 
--- the record at `at`, of areas m, u and t that hold k things: the answer s and the areas after it
-pub record Stepped (job : List ℕ) (at : ℕ) (k : Counts) (m u t : List ℕ) (s : Step) (m′ u′ t′ : List ℕ) : Type 0 where
+-- the record at `at`, of areas m, u and t that hold k things: the answer s, and the areas and the bytes for the names after it
+pub record Stepped (job : List ℕ) (at : ℕ) (k : Counts) (m u t : List ℕ) (s : Step) (m′ u′ t′ v′ : List ℕ) : Type 0 where
   pub same : Same job at (reading (catalogue k m u t)) (placeAfter job at k s) (progressAfter job at k s m′ u′ t′)
-  pub then : Then job at k s m′ u′ t′
+  pub then : Then job at k s m′ u′ t′ v′
 
--- ---- parts that follow a part
+-- ---- parts that follow one another
 
 abbrev pub nameAt : (job : List ℕ) → ℕ → ℕ
 nameAt job at = wordAt (bodyAt job at 2) 0
@@ -102,31 +103,18 @@ pub record PartAt (job : List ℕ) (at : ℕ) : Type 0 where
   pub there : at + 8 ≤ length job
   pub here : getD job at 0 ≡ 2
 
-pub record PlainAt (job : List ℕ) (at : ℕ) (k : Counts) : Type 0 where
+pub record FreeAt (job : List ℕ) (at : ℕ) (k : Counts) (v : List ℕ) : Type 0 where
   pub part : PartAt job at
-  pub plain : Plain k (nameAt job at) (flagsAt job at)
+  pub free : Free k v (nameAt job at) (flagsAt job at)
 
-pub record FreeAt (job : List ℕ) (at : ℕ) (k : Counts) (c : Catalogue) : Type 0 where
-  pub part : PartAt job at
-  pub free : Free k c (nameAt job at) (flagsAt job at)
-
--- the part at `at`, of areas m, u and t that hold k things: the counts r and the tables after it
-pub record PartTaken (job : List ℕ) (at : ℕ) (k : Counts) (m u t : List ℕ) (r : Counts) (t′ : List ℕ) : Type 0 where
-  pub stepped : Stepped job at k m u t (Step.Next (at + 8) r) m u t′
-  pub unflagged : (end : ℕ) → Plain k (nameAt job at) (flagsAt job at) → Unflagged (catalogue k m u t) end → Unflagged (catalogue r m u t′) end
-
--- from byte `at` the walks come to byte a, where the areas hold r things
-pub record Onward (job : List ℕ) (at : ℕ) (k : Counts) (m u t : List ℕ) (a : ℕ) (r : Counts) (t′ : List ℕ) : Type 0 where
+-- from byte `at` the walks come to byte a, where the areas hold r things; if that is the same byte, nothing has changed
+pub record Onward (job : List ℕ) (at : ℕ) (k : Counts) (m u t : List ℕ) (a : ℕ) (r : Counts) (t′ v′ : List ℕ) : Type 0 where
   pub onward : at ≤ a
   pub inside : a ≤ length job
-  pub ready : Ready a r m u t′
+  pub ready : Ready a r m u t′ v′
   pub same : Same job at (reading (catalogue k m u t)) a (reading (catalogue r m u t′))
-
-pub record GoneOn (job : List ℕ) (at : ℕ) (k : Counts) (m u t : List ℕ) (s : Step) (t′ : List ℕ) : Type 0 where
-  pub next : ℕ
-  pub counts : Counts
-  pub step : s ≡ Step.Next next counts
-  pub onward : Onward job at k m u t next counts t′
+  pub counts-still : a ≡ at → r ≡ k
+  pub tables-still : a ≡ at → t′ ≡ t
 
 -- ---- the whole catalogue
 

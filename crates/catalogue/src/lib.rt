@@ -11,10 +11,17 @@ ghost use Rattle.rules.specs.Records.{kindOf};
 ghost use Rattle.rules.specs.Job.{startsSheet};
 ghost use Rattle.reader.specs.Reading.{bodyLength, itemRead};
 ghost use Rattle.cache.specs.Areas.{catalogue};
-ghost use Rattle.part_items.specs.Flags.{Unflagged, If};
+ghost use Rattle.part_items.specs.Flags.{If};
 ghost use Rattle.kept.specs.Kept.{Kept};
 ghost use Rattle.kept.specs.Entered.{rowsOf};
-ghost use Rattle.catalogue.specs.Walking.{Ready, bodyAt, stepTo, Taken, ItemAt, PartAt, PlainAt, FreeAt, PartTaken, Stepped, GoneOn, ReadUp};
+ghost use Rattle.catalogue.specs.Walking.{Ready, bodyAt, stepTo, Taken, ItemAt, PartAt, FreeAt, Stepped, Onward, ReadUp};
+ghost use Rattle.catalogue.specs.declared.Step.the-variants.{Next};
+
+// A place, and the counts there.
+struct Place {
+    at: usize,
+    counts: Counts,
+}
 
 // After the record at a place: the place and the counts after it, or the place is that of the first sheet record, or why it is refused.
 pub enum Step {
@@ -184,7 +191,7 @@ pub fn starts_sheet(kind: u8) -> bool
     true
 }
 
-// ---- parts that follow a part
+// ---- parts that follow one another
 
 // Does a part stand at `at`, whole?
 fn is_part(job: &[u8], at: usize) -> bool
@@ -197,44 +204,14 @@ fn is_part(job: &[u8], at: usize) -> bool
     job[at] == 2
 }
 
-// One that nothing speaks against, whatever parts came before it?
-fn is_plain_part(job: &[u8], at: usize, k: Counts) -> bool
-    requires { ⌜ at ≤ length (now job) ⌝ }
-    ensures { λ r. ⌜ If r (PlainAt (now (job .entry)) at k) ⌝ }
+// One that nothing speaks against?
+fn is_free_part(job: &[u8], at: usize, vacant: &[u8; 128], k: Counts) -> bool
+    requires { ⌜ (at ≤ length (now job)) × (k .names ≤ 64) ⌝ }
+    ensures { λ r. ⌜ If r (FreeAt (now (job .entry)) at k (now (vacant .entry))) ⌝ }
 {
     if is_part(job, at) {
         let body = reader::body(job, at, at + 8);
-        return part_items::is_plain(k, reader::word(body, 0), reader::byte(body, 2));
-    }
-    false
-}
-
-// One that nothing speaks against? No part from `end` on is locked or favoured.
-fn is_free_part(
-    job: &[u8],
-    at: usize,
-    marks: &[u8],
-    unions: &[u8],
-    t: &[u8],
-    k: Counts,
-    end: usize,
-) -> bool
-    requires { ⌜ at ≤ length (now job) ⌝ }
-    requires { ⌜ Kept k (now marks) (now unions) (now t) ⌝ }
-    requires { ⌜ Unflagged (catalogue k (now marks) (now unions) (now t)) end ⌝ }
-    ensures { λ r. ⌜ If r (FreeAt (now (job .entry)) at k (catalogue k (now (marks .entry)) (now (unions .entry)) (now (t .entry)))) ⌝ }
-{
-    if is_part(job, at) {
-        let body = reader::body(job, at, at + 8);
-        return part_items::is_free(
-            marks,
-            unions,
-            t,
-            k,
-            reader::word(body, 0),
-            reader::byte(body, 2),
-            end,
-        );
+        return part_items::is_free(vacant, k, reader::word(body, 0), reader::byte(body, 2));
     }
     false
 }
@@ -246,17 +223,20 @@ fn add_free_part(
     marks: &[u8],
     unions: &[u8],
     t: &mut [u8],
+    vacant: &mut [u8; 128],
     k: Counts,
 ) -> Counts
-    requires { ⌜ Ready at k (now marks) (now unions) (now t) ⌝ }
-    requires { ⌜ FreeAt (now job) at k (catalogue k (now marks) (now unions) (now t)) ⌝ }
-    ensures { λ r. ⌜ PartTaken (now (job .entry)) at k (now (marks .entry)) (now (unions .entry)) (now (t .entry)) r (now (t .exit)) ⌝ }
+    requires { ⌜ Ready at k (now marks) (now unions) (now t) (now vacant) ⌝ }
+    requires { ⌜ FreeAt (now job) at k (now vacant) ⌝ }
+    ensures { λ r. ⌜ Stepped (now (job .entry)) at k (now (marks .entry)) (now (unions .entry)) (now (t .entry))
+        (Next (at + 8) r) (now (marks .entry)) (now (unions .entry)) (now (t .exit)) (now (vacant .exit)) ⌝ }
 {
     let body = reader::body(job, at, at + 8);
     part_items::add_free(
         marks,
         unions,
         t,
+        vacant,
         k,
         reader::word(body, 0),
         reader::byte(body, 2),
@@ -265,79 +245,88 @@ fn add_free_part(
     )
 }
 
-// The parts from `from` on that are neither locked nor favoured, and one behind them that may be either: of those before it, only the parts before `from` are looked at.
-// The first part that is refused, if any, is left to be read as any other record.
-fn pass_parts(job: &[u8], from: usize, marks: &[u8], unions: &[u8], t: &mut [u8], k: Counts) -> Step
+// The parts from `from` on, where a record of this kind stands, up to the first that something speaks against: it is left to be read as any other record.
+fn pass_parts(
+    job: &[u8],
+    from: usize,
+    marks: &[u8],
+    unions: &[u8],
+    t: &mut [u8],
+    vacant: &mut [u8; 128],
+    k: Counts,
+    kind: u8,
+) -> Place
     requires { ⌜ (from ≤ length (now job)) × (length (now job) ≤ 65536) ⌝ }
-    requires { ⌜ Ready from k (now marks) (now unions) (now t) ⌝ }
-    ensures { λ r. ⌜ GoneOn (now (job .entry)) from k (now (marks .entry)) (now (unions .entry)) (now (t .entry)) r (now (t .exit)) ⌝ }
+    requires { ⌜ Ready from k (now marks) (now unions) (now t) (now vacant) ⌝ }
+    ensures { λ r. ⌜ Onward (now (job .entry)) from k (now (marks .entry)) (now (unions .entry)) (now (t .entry))
+        (r .at) (r .counts) (now (t .exit)) (now (vacant .exit)) ⌝ }
 {
-    let mut at = from;
-    let mut counts = k;
-    while is_plain_part(job, at, counts) {
-        counts = add_free_part(job, at, marks, unions, t, counts);
-        at += 8;
-    }
-    if is_free_part(job, at, marks, unions, t, counts, k.parts) {
-        let next = at + 8;
-        let more = add_free_part(job, at, marks, unions, t, counts);
-        return Step::Next {
-            at: next,
-            counts: more,
+    if kind != 2 {
+        return Place {
+            at: from,
+            counts: k,
         };
     }
-    Step::Next { at, counts }
+    let mut at = from;
+    let mut counts = k;
+    while is_free_part(job, at, vacant, counts) {
+        counts = add_free_part(job, at, marks, unions, t, vacant, counts);
+        at += 8;
+    }
+    Place { at, counts }
 }
 
 // ---- one record, and all of them
 
-// The item of the record at `at`, of this kind.
+// The item of the record at `at`, of this kind. Behind a part it is no longer known what any name has: such a part is nearly always refused.
 fn enter(
     job: &[u8],
     at: usize,
     marks: &mut [u8],
     unions: &mut [u8],
     t: &mut [u8],
+    vacant: &mut [u8; 128],
     k: Counts,
     kind: u8,
 ) -> Step
     requires { ⌜ length (now job) ≤ 65536 ⌝ }
-    requires { ⌜ Ready at k (now marks) (now unions) (now t) ⌝ }
+    requires { ⌜ Ready at k (now marks) (now unions) (now t) (now vacant) ⌝ }
     requires { ⌜ ItemAt (now job) at kind ⌝ }
     ensures { λ r. ⌜ Stepped (now (job .entry)) at k (now (marks .entry)) (now (unions .entry)) (now (t .entry))
-        r (now (marks .exit)) (now (unions .exit)) (now (t .exit)) ⌝ }
+        r (now (marks .exit)) (now (unions .exit)) (now (t .exit)) (now (vacant .exit)) ⌝ }
 {
-    add_item(job, at, marks, unions, t, k, kind)
+    let step = add_item(job, at, marks, unions, t, k, kind);
+    if kind == 2 {
+        words::clear(vacant);
+        return step;
+    }
+    step
 }
 
-// And behind a part, the parts that follow.
+// Or the parts from `at` on, where nothing speaks against the first.
 fn enter_run(
     job: &[u8],
     at: usize,
     marks: &mut [u8],
     unions: &mut [u8],
     t: &mut [u8],
+    vacant: &mut [u8; 128],
     k: Counts,
     kind: u8,
 ) -> Step
     requires { ⌜ length (now job) ≤ 65536 ⌝ }
-    requires { ⌜ Ready at k (now marks) (now unions) (now t) ⌝ }
+    requires { ⌜ Ready at k (now marks) (now unions) (now t) (now vacant) ⌝ }
     requires { ⌜ ItemAt (now job) at kind ⌝ }
     ensures { λ r. ⌜ Stepped (now (job .entry)) at k (now (marks .entry)) (now (unions .entry)) (now (t .entry))
-        r (now (marks .exit)) (now (unions .exit)) (now (t .exit)) ⌝ }
+        r (now (marks .exit)) (now (unions .exit)) (now (t .exit)) (now (vacant .exit)) ⌝ }
 {
-    let step = enter(job, at, marks, unions, t, k, kind);
-    if kind != 2 {
-        return step;
+    let passed = pass_parts(job, at, marks, unions, t, vacant, k, kind);
+    let next = passed.at;
+    if at < next {
+        let counts = passed.counts;
+        return Step::Next { at: next, counts };
     }
-    match step {
-        Step::Next {
-            at: next,
-            counts: more,
-        } => pass_parts(job, next, marks, unions, t, more),
-        Step::Sheet => Step::Sheet,
-        Step::Refused(refusal) => Step::Refused(refusal),
-    }
+    enter(job, at, marks, unions, t, vacant, k, kind)
 }
 
 // The record at `at`. A sheet record is left as it is, its body not looked at.
@@ -347,12 +336,13 @@ pub fn read_record(
     marks: &mut [u8],
     unions: &mut [u8],
     t: &mut [u8],
+    vacant: &mut [u8; 128],
     k: Counts,
 ) -> Step
     requires { ⌜ (at < length (now job)) × (length (now job) ≤ 65536) ⌝ }
-    requires { ⌜ Ready at k (now marks) (now unions) (now t) ⌝ }
+    requires { ⌜ Ready at k (now marks) (now unions) (now t) (now vacant) ⌝ }
     ensures { λ r. ⌜ Stepped (now (job .entry)) at k (now (marks .entry)) (now (unions .entry)) (now (t .entry))
-        r (now (marks .exit)) (now (unions .exit)) (now (t .exit)) ⌝ }
+        r (now (marks .exit)) (now (unions .exit)) (now (t .exit)) (now (vacant .exit)) ⌝ }
 {
     let kind = job[at];
     if starts_sheet(kind) {
@@ -362,7 +352,7 @@ pub fn read_record(
     match record {
         Record::Refused(refusal) => Step::Refused(refusal),
         Record::Sheet => Step::Sheet,
-        Record::Item => enter_run(job, at, marks, unions, t, k, kind),
+        Record::Item => enter_run(job, at, marks, unions, t, vacant, k, kind),
     }
 }
 
@@ -381,8 +371,9 @@ pub fn read_catalogue(job: &[u8], marks: &mut [u8], unions: &mut [u8], t: &mut [
         requirements: 0,
         constraints: 0,
     };
+    let mut vacant = [1u8; 128];
     while at < job.len() {
-        match read_record(job, at, marks, unions, t, counts) {
+        match read_record(job, at, marks, unions, t, &mut vacant, counts) {
             Step::Next {
                 at: next,
                 counts: more,

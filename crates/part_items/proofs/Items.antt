@@ -1,6 +1,6 @@
 -- A law for each way out of the functions for names, parts, ranges and members.
 use mathlib.Core.Path.{_≡_, refl, sym, _∙_, ap}
-use mathlib.Core.Bool.{Bool, true, false, _&&_, _||_}
+use mathlib.Core.Bool.{Bool, true, false, _&&_}
 use mathlib.Core.List.{List}
 use Prim.Native.Nat.{ℕ, _<_, _≤_}
 use native.Mathlib.Nat.{add-zero}
@@ -32,8 +32,8 @@ use Rattle.kept.specs.Kept.{Kept}
 use Rattle.kept.specs.Entered.{rowsOf, answered, Entered}
 use Rattle.kept.proofs.Fields.{full, not-full, none-such, one-such, put-is, range-more, member-more, names-given, parts-given, ranges-given}
 use Rattle.kept.proofs.Entered.{table-kept, part-is}
-use Rattle.part_items.specs.Flags.{isLocked, isFavoured, isShared}
-use Rattle.part_items.proofs.Search.{shared-is, either-false}
+use Rattle.part_items.specs.declared.Flag.the-variants as Flag
+use Rattle.part_items.specs.Flags.{has, inFlags, isSecond}
 
 -- ---- the catalogue with one item more, as the tables have it
 
@@ -113,44 +113,31 @@ module _ (k : Counts) (m u t : List ℕ) where
         part-bits h = record { is = rw (room, named, lt-ltb 31 f h, unlessAny); still = tt }
 
         module _ (o : f ≤ 31) where
-          pub part-locked : (a : Bool) → a ≡ (bit 2 f && ofSameName c isLocked n) → a ≡ true → Entered k c partItem (Refused (Contradicts Contradiction.SecondLocked)) m u t
-          unfolding answered refusalOf contradictionOf addItem itemRefusals unlessAny isLocked
-          part-locked a d h =
-              let g : (bit 2 f && ofSameName c (λ (q : Part). q .locked) n) ≡ true = sym d ∙ h in
-              record { is = rw (room, named, le-ltb 31 f o, g, unlessAny); still = tt }
+          module _ (a : Bool) (d : a ≡ isSecond c Flag.Locked n f) where
+            locked-twice : (bit 2 f && ofSameName c (λ (q : Part). q .locked) n) ≡ a
+            unfolding isSecond inFlags has
+            locked-twice = sym d
 
-          module _ (w : (bit 2 f && ofSameName c isLocked n) ≡ false) where
-            once : (bit 2 f && ofSameName c (λ (q : Part). q .locked) n) ≡ false
-            unfolding isLocked
-            once = w
+            pub part-locked : a ≡ true → Entered k c partItem (Refused (Contradicts Contradiction.SecondLocked)) m u t
+            unfolding answered refusalOf contradictionOf addItem itemRefusals unlessAny
+            part-locked h = record { is = rw (room, named, le-ltb 31 f o, locked-twice, h, unlessAny); still = tt }
 
-            second-favoured : (bit 3 f && ofSameName c isFavoured n) ≡ true → Entered k c partItem (Refused (Contradicts Contradiction.SecondFavoured)) m u t
-            unfolding answered refusalOf contradictionOf addItem itemRefusals unlessAny isFavoured
-            second-favoured h =
-                let g : (bit 3 f && ofSameName c (λ (q : Part). q .favoured) n) ≡ true = h in
-                record { is = rw (room, named, le-ltb 31 f o, once, g, unlessAny); still = tt }
+            module _ (w : a ≡ false) (b : Bool) (g : b ≡ isSecond c Flag.Favoured n f) where
+              favoured-twice : (bit 3 f && ofSameName c (λ (q : Part). q .favoured) n) ≡ b
+              unfolding isSecond inFlags has
+              favoured-twice = sym g
 
-            pub part-entered : (bit 3 f && ofSameName c isFavoured n) ≡ false → (r : Counts) (t′ : List ℕ) → Kept k m u t → T.Added k r t′ (withPart (tables k t) (partOf n f x e)) → Entered k c partItem (Counted r) m u t′
-            unfolding answered addItem itemRefusals unlessAny isFavoured rowsOf withPart
-            part-entered z r t′ h y =
-                let g : (bit 3 f && ofSameName c (λ (q : Part). q .favoured) n) ≡ false = z in
-                record {
-                  is = rw (room, named, le-ltb 31 f o, once, g, unlessAny) (ap rules.ok (put-is m u y ∙ with-part k m u t n f x e));
-                  still = table-kept h y (unions-counted k t) (sized-same (tables k t) _ refl refl (h .sized)) refl;
-                }
+              pub part-favoured : b ≡ true → Entered k c partItem (Refused (Contradicts Contradiction.SecondFavoured)) m u t
+              unfolding answered refusalOf contradictionOf addItem itemRefusals unlessAny
+              part-favoured h = record { is = rw (room, named, le-ltb 31 f o, locked-twice, w, favoured-twice, h, unlessAny); still = tt }
 
-          module _ (b : Bool) (v : b ≡ ofSameName c (isShared f) n) where
-            -- a second one that is not locked
-            pub part-favoured : b ≡ true → (a : Bool) → a ≡ (bit 2 f && ofSameName c isLocked n) → a ≡ false → Entered k c partItem (Refused (Contradicts Contradiction.SecondFavoured)) m u t
-            part-favoured h a d g =
-                let w : (bit 2 f && ofSameName c isLocked n) ≡ false = sym d ∙ g in
-                let z : ((bit 2 f && ofSameName c isLocked n) || (bit 3 f && ofSameName c isFavoured n)) ≡ true = sym (shared-is c n f) ∙ sym v ∙ h in
-                second-favoured w (rw w at z)
-
-            pub part-first : b ≡ false → (r : Counts) (t′ : List ℕ) → Kept k m u t → T.Added k r t′ (withPart (tables k t) (partOf n f x e)) → Entered k c partItem (Counted r) m u t′
-            part-first h =
-                let z = either-false _ _ (sym (shared-is c n f) ∙ sym v ∙ h) in
-                part-entered (z .0) (z .1)
+              pub part-entered : b ≡ false → (r : Counts) (t′ : List ℕ) → Kept k m u t → T.Added k r t′ (withPart (tables k t) (partOf n f x e)) → Entered k c partItem (Counted r) m u t′
+              unfolding answered addItem itemRefusals unlessAny rowsOf withPart
+              part-entered z r t′ h y =
+                  record {
+                    is = rw (room, named, le-ltb 31 f o, locked-twice, w, favoured-twice, z, unlessAny) (ap rules.ok (put-is m u y ∙ with-part k m u t n f x e));
+                    still = table-kept h y (unions-counted k t) (sized-same (tables k t) _ refl refl (h .sized)) refl;
+                  }
 
   -- ---- range
 

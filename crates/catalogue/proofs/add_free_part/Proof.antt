@@ -23,7 +23,7 @@ word-requires-3 : tie.Need-word-requires-3
 word-requires-3 c κs = search needs
 
 add-free-requires : tie.Need-add-free-requires
-add-free-requires c κs = (search needs, search (needs, free-of))
+add-free-requires c κs = (search needs, (search needs, search (needs, free-of)))
 
 same-length : tie.Need-same-length
 same-length c = search needs

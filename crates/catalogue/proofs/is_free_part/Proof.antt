@@ -1,7 +1,7 @@
 -- `catalogue::is_free_part` tells of one that nothing speaks against, by its body.
 use borrow.Author.Needs.{needs}
-use Rattle.part_items.proofs.Free.{if-not}
 use native.Mathlib.Omega.{arith}
+use Rattle.part_items.proofs.Free.{if-not}
 use Rattle.catalogue.proofs.Parts.{part-there, if-free-at}
 use Rattle.catalogue.proofs.is_free_part.Statement.{statement}
 use Rattle.catalogue.proofs.is_free_part.Tie as tie

@@ -2,24 +2,27 @@
 use borrow.Author.Needs.{needs}
 use Prim.Native.Nat.{_-_}
 use lib.ListN.{length}
-use Rattle.catalogue.proofs.Parts.{Run, run-start, run-less, run-step, run-last, run-end, plain-at-free, one-free}
+use Rattle.catalogue.proofs.Parts.{none-passed, Run, run-start, run-free, run-less, run-step}
 use Rattle.catalogue.proofs.pass_parts.Statement.{statement}
 use Rattle.catalogue.proofs.pass_parts.Tie as tie
 
 abbrev Inv-loop : tie.InvT-loop
-Inv-loop job from marks unions t₀ k at₀ counts₀ t at counts = Run job from k marks unions t₀ at counts t
+Inv-loop job from marks unions t₀ vacant₀ kind at₀ counts₀ t vacant at counts = Run job from counts₀ marks unions t₀ at counts t vacant
 
 abbrev μ-loop : tie.MeasureT-loop
-μ-loop job from marks unions t₀ k at₀ counts₀ t at counts = length job - at
+μ-loop job from marks unions t₀ vacant₀ kind at₀ counts₀ t vacant at counts = length job - at
+
+returns : tie.Need-returns Inv-loop μ-loop
+returns c = search (needs, none-passed)
 
 loop-holds : tie.Need-loop-holds Inv-loop μ-loop
 loop-holds c = search (needs, run-start)
 
-is-plain-part-requires : tie.Need-is-plain-part-requires Inv-loop μ-loop
-is-plain-part-requires c κs = search needs
+is-free-part-requires : tie.Need-is-free-part-requires Inv-loop μ-loop
+is-free-part-requires c κs = search needs
 
 add-free-part-requires : tie.Need-add-free-part-requires Inv-loop μ-loop
-add-free-part-requires c κs = (search needs, search (needs, plain-at-free))
+add-free-part-requires c κs = (search needs, search (needs, run-free))
 
 add-at : tie.Need-add-at Inv-loop μ-loop
 add-at c = search needs
@@ -30,26 +33,11 @@ loop-less c = search (needs, run-less)
 loop-again : tie.Need-loop-again Inv-loop μ-loop
 loop-again c = search (needs, run-step)
 
-is-free-part-requires : tie.Need-is-free-part-requires Inv-loop μ-loop
-is-free-part-requires c κs = search needs
-
-add-next : tie.Need-add-next Inv-loop μ-loop
-add-next c = search needs
-
-add-free-part-requires-2 : tie.Need-add-free-part-requires-2 Inv-loop μ-loop
-add-free-part-requires-2 c κs = (search needs, search (needs, one-free))
-
 same-length : tie.Need-same-length Inv-loop μ-loop
 same-length c = search needs
 
-returns : tie.Need-returns Inv-loop μ-loop
-returns c = search (needs, run-last)
-
-same-length-2 : tie.Need-same-length-2 Inv-loop μ-loop
-same-length-2 c = search needs
-
 returns-2 : tie.Need-returns-2 Inv-loop μ-loop
-returns-2 c = search (needs, run-end)
+returns-2 c = search needs
 
 pub pass-parts-spec : {M : Type 1} → statement M
 pass-parts-spec =
@@ -57,16 +45,12 @@ pass-parts-spec =
     (tie.spec
     Inv-loop
     μ-loop
+    returns
     loop-holds
-    is-plain-part-requires
+    is-free-part-requires
     add-free-part-requires
     add-at
     loop-less
     loop-again
-    is-free-part-requires
-    add-next
-    add-free-part-requires-2
     same-length
-    returns
-    same-length-2
     returns-2)

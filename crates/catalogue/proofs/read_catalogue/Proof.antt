@@ -7,10 +7,10 @@ use Rattle.catalogue.proofs.read_catalogue.Statement.{statement}
 use Rattle.catalogue.proofs.read_catalogue.Tie as tie
 
 abbrev Inv-loop : tie.InvT-loop
-Inv-loop job marks₀ unions₀ t₀ at₀ counts₀ marks unions t at counts = Left job marks₀ unions₀ t₀ at counts marks unions t
+Inv-loop job marks₀ unions₀ t₀ at₀ counts₀ vacant₀ marks unions t at counts vacant = Left job marks₀ unions₀ t₀ at counts marks unions t vacant
 
 abbrev μ-loop : tie.MeasureT-loop
-μ-loop job marks₀ unions₀ t₀ at₀ counts₀ marks unions t at counts = length job - at
+μ-loop job marks₀ unions₀ t₀ at₀ counts₀ vacant₀ marks unions t at counts vacant = length job - at
 
 loop-holds : tie.Need-loop-holds Inv-loop μ-loop
 loop-holds c = search (needs, left-start)

@@ -1,7 +1,6 @@
--- `part_items::add_part` enters a part or refuses it; which of two it would be the second of, locked or favoured, is asked only where it is one of them.
+-- `part_items::add_part` enters a part or refuses it.
 use borrow.Author.Needs.{needs}
-use Rattle.part_items.proofs.Items.{part-full, part-nameless, part-bits, part-locked, part-favoured, part-first}
-use Rattle.part_items.proofs.Search.{all-before}
+use Rattle.part_items.proofs.Items.{part-full, part-nameless, part-bits, part-locked, part-favoured, part-entered}
 use Rattle.part_items.proofs.add_part.Statement.{statement}
 use Rattle.part_items.proofs.add_part.Tie as tie
 
@@ -15,16 +14,16 @@ returns-3 : tie.Need-returns-3
 returns-3 c = search (needs, part-bits)
 
 is-second-requires : tie.Need-is-second-requires
-is-second-requires c κs = (search needs, search (needs, all-before))
-
-second-locked-requires : tie.Need-second-locked-requires
-second-locked-requires c κs = search needs
+is-second-requires c κs = search needs
 
 same-length : tie.Need-same-length
 same-length c = search needs
 
 returns-4 : tie.Need-returns-4
 returns-4 c = search (needs, part-locked)
+
+is-second-requires-2 : tie.Need-is-second-requires-2
+is-second-requires-2 c κs = search needs
 
 same-length-2 : tie.Need-same-length-2
 same-length-2 c = search needs
@@ -39,7 +38,7 @@ same-length-3 : tie.Need-same-length-3
 same-length-3 c = search needs
 
 returns-6 : tie.Need-returns-6
-returns-6 c = search (needs, part-first)
+returns-6 c = search (needs, part-entered)
 
 pub add-part-spec : {M : Type 1} → statement M
 add-part-spec =
@@ -49,9 +48,9 @@ add-part-spec =
     returns-2
     returns-3
     is-second-requires
-    second-locked-requires
     same-length
     returns-4
+    is-second-requires-2
     same-length-2
     returns-5
     put-part-requires

@@ -1,14 +1,14 @@
 -- `part_items::is_free` tells of a part that nothing speaks against.
 use borrow.Author.Needs.{needs}
-use Rattle.part_items.proofs.Free.{if-not, if-free}
+use Rattle.part_items.proofs.Free.{if-not, fitting-named, if-free}
 use Rattle.part_items.proofs.is_free.Statement.{statement}
 use Rattle.part_items.proofs.is_free.Tie as tie
 
 fits-requires : tie.Need-fits-requires
 fits-requires c κs = search needs
 
-is-second-requires : tie.Need-is-second-requires
-is-second-requires c κs = search needs
+is-first-requires : tie.Need-is-first-requires
+is-first-requires c κs = search (needs, fitting-named)
 
 returns : tie.Need-returns
 returns c = search (needs, if-free)
@@ -17,4 +17,4 @@ returns-2 : tie.Need-returns-2
 returns-2 c = search (needs, if-not)
 
 pub is-free-spec : {M : Type 1} → statement M
-is-free-spec = tie.close (tie.spec fits-requires is-second-requires returns returns-2)
+is-free-spec = tie.close (tie.spec fits-requires is-first-requires returns returns-2)

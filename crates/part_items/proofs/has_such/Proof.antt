@@ -1,23 +1,22 @@
--- `part_items::has_locked` tells whether a name has a locked part: the loop has passed none so far.
+-- `part_items::has_such` tells whether a part of a name has a flag: the loop has passed none so far.
 use borrow.Author.Needs.{needs}
 use Prim.Native.Nat.{_-_}
 use Rattle.cache.specs.Areas.{catalogue}
-use Rattle.part_items.specs.Flags.{isLocked}
 use Rattle.part_items.proofs.Search.{Unseen, unseen-start, unseen-found, unseen-step, unseen-end}
-use Rattle.part_items.proofs.has_locked.Statement.{statement}
-use Rattle.part_items.proofs.has_locked.Tie as tie
+use Rattle.part_items.proofs.has_such.Statement.{statement}
+use Rattle.part_items.proofs.has_such.Tie as tie
 
 abbrev Inv-loop : tie.InvT-loop
-Inv-loop marks unions t k name p₀ p = Unseen (catalogue k marks unions t) isLocked name p
+Inv-loop marks unions t k flag name p₀ p = Unseen (catalogue k marks unions t) flag name p
 
 abbrev μ-loop : tie.MeasureT-loop
-μ-loop marks unions t k name p₀ p = k .parts - p
+μ-loop marks unions t k flag name p₀ p = k .parts - p
 
 loop-holds : tie.Need-loop-holds Inv-loop μ-loop
 loop-holds c = search (needs, unseen-start)
 
-locked-of-requires : tie.Need-locked-of-requires Inv-loop μ-loop
-locked-of-requires c κs = search needs
+is-such-requires : tie.Need-is-such-requires Inv-loop μ-loop
+is-such-requires c κs = search needs
 
 returns : tie.Need-returns Inv-loop μ-loop
 returns c = search (needs, unseen-found)
@@ -34,14 +33,14 @@ loop-again c = search (needs, unseen-step)
 returns-2 : tie.Need-returns-2 Inv-loop μ-loop
 returns-2 c = search (needs, unseen-end)
 
-pub has-locked-spec : {M : Type 1} → statement M
-has-locked-spec =
+pub has-such-spec : {M : Type 1} → statement M
+has-such-spec =
     tie.close
     (tie.spec
     Inv-loop
     μ-loop
     loop-holds
-    locked-of-requires
+    is-such-requires
     returns
     add-p
     loop-less
