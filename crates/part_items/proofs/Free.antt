@@ -1,13 +1,11 @@
 -- A part that nothing speaks against: the bytes that tell of it, the tests for it, and its entering.
 use mathlib.Core.Path.{_≡_, refl, sym, _∙_, ap}
-use mathlib.Core.Bool.{Bool, true, false, not, _&&_, _||_, false≢true}
+use mathlib.Core.Bool.{Bool, true, false, not, _&&_, false≢true}
 use mathlib.Core.List.{List, [], _∷_}
 use Prim.Native.Nat.{ℕ, zero, suc, _+_, _<_, _≤_}
 use native.Mathlib.Omega.{arith}
-use native.Mathlib.Decide.{ℕ-discrete}
 use lib.Dec.{eqb, leb}
-use lib.ListN.{length, getD, set, replicate}
-use lib.Seq.{getD-set-other}
+use lib.ListN.{getD, set, replicate}
 use borrow.Author.Tests.{eqb-true, leb-true}
 use Rattle.rules.specs.Lists.{any, snoc}
 use Rattle.rules.proofs.Bools.{by-cases, and-left, and-right, and-false}
