@@ -85,7 +85,13 @@ fn at_ceilings() -> Vec<Job> {
     let names = ["ceiling of clauses", "ceiling of literals", "ceiling of waiting"];
     let accepted = edges::at_ceilings().into_iter().step_by(2);
     let named = names.into_iter().zip(accepted);
-    named.map(|(name, Request { job, .. })| of_bytes(name, job)).collect()
+    let mut jobs: Vec<Job> =
+        named.map(|(name, Request { job, .. })| of_bytes(name, job)).collect();
+    // An owner is added and not run: the clauses are made and not listed.
+    let mut refused = jobs[0].request.job.clone();
+    refused.extend(job_of(vec![Record::Add { owner: ROOT }]));
+    jobs.insert(1, of_bytes("ceiling of clauses, refused", refused));
+    jobs
 }
 
 const CHAIN_OF_16_KB: usize = 22;
