@@ -502,6 +502,7 @@ fn is_passed(
 }
 
 // The command at `at`, which was read up to byte `next`, is carried out if it is one of these and is not refused; if not, it is left.
+// `clauses`, `w` and most of the counters are not read: the contract speaks of the state that they hold with `s`.
 fn take_command(
     settled: &mut [u8],
     blocked: &mut [u8; 768],
