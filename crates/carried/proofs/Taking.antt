@@ -1,5 +1,5 @@
 -- Commands that change the numbers of added owners and of decisions alone, or nothing: each by itself, and one after another.
-use mathlib.Core.Path.{_≡_, refl, sym, _∙_}
+use mathlib.Core.Path.{_≡_, refl, _∙_}
 use mathlib.Core.Logic.{inl, inr, ⊎-elim}
 use mathlib.Core.Bool.{Bool, true}
 use mathlib.Core.List.{List}
@@ -9,7 +9,6 @@ use lib.ListN.{length, getD, set, drop, take, replicate}
 use Rattle.rules.specs.Catalogue.{Catalogue}
 use Rattle.rules.specs.Records.{Command, read}
 use Rattle.rules.specs.Decisions.{upToLevel}
-use Rattle.rules.specs.State.{State, decidedTrue}
 use Rattle.refusal.specs.declared.Refusal.{Refusal}
 use Rattle.reader.specs.declared.Command as code
 use Rattle.reader.specs.declared.Command.the-variants as C
@@ -25,7 +24,6 @@ use Rattle.decision_tracker.specs.Tracking.{decisions, Kept, Told}
 use Rattle.encoder.specs.declared.Counters.{Counters}
 use Rattle.goals.specs.Goals.{trueOf}
 use Rattle.blocking.specs.Blocking.{Blocked}
-use Rattle.serving.specs.Flags.{Flagged}
 use Rattle.encoding.specs.Running.{Reaches}
 use Rattle.commands.specs.declared.Count.{Count}
 use Rattle.commands.specs.declared.Count.the-variants as Count
@@ -37,7 +35,7 @@ use Rattle.sheet.specs.Sheet.{CommandDid}
 use Rattle.sheet.proofs.Outcomes.{as-add, as-decide, as-undo}
 use Rattle.sheet.proofs.Flags.{NoRun, add-no-run, decide-no-run, undo-no-run, command-flagged}
 use Rattle.carried.specs.declared.Place.{Place}
-use Rattle.carried.specs.Carrying.{Idles, Notes, Unblocks, DrawIdles, SettledDid, counted, Takes, Leaves, Took, Stands, Went, WentOn}
+use Rattle.carried.specs.Carrying.{Idles, Notes, Unblocks, DrawIdles, counted, Takes, Leaves, Took, Stands, WentOn}
 use Rattle.carried.proofs.Blocking.{has-true, idles-add, idles-draw, idles-decide, idles-undo}
 use Rattle.carried.proofs.Settling.{notes-add, notes-undo, notes-draw, notes-none}
 use Rattle.carried.proofs.Records.{has-held, settled-passes, settled-carries, step-carried, sheet-onward, sheet-whole}
