@@ -94,3 +94,66 @@ pub fn read_to_end<R: Read>(reader: &mut R, area: &mut [u8]) -> Filled
         failed: pass_rest(reader),
     }
 }
+
+#[cfg(test)]
+mod tests {
+    use super::*;
+    use std::io;
+    use std::test::Fail;
+
+    // Gives a byte at a time, and fails in place of the fourth.
+    #[derive(Drop)]
+    struct Failing {
+        given: u8,
+    }
+
+    impl Read for Failing {
+        fn read(&mut self, buf: &mut [u8]) -> io::Result<usize> {
+            if self.given == 3 {
+                return Err(io::Error::from(io::ErrorKind::Other));
+            }
+            if buf.is_empty() {
+                return Ok(0);
+            }
+            self.given = self.given.saturating_add(1);
+            buf[0] = self.given;
+            Ok(1)
+        }
+    }
+
+    #[test]
+    fn keeps_what_the_area_holds(rt: HostRuntime) -> Result<(), Fail> {
+        let mut reader = b"abcdef".as_slice();
+        let mut area = [0u8; 4];
+        let read = read_to_end(&mut reader, &mut area);
+        assert!(rt; !read.failed);
+        assert_eq!(rt; read.length, 4);
+        assert_eq!(rt; area, *b"abcd");
+        assert!(rt; reader.is_empty());
+        Ok(())
+    }
+
+    #[test]
+    fn tells_a_read_that_fails(rt: HostRuntime) -> Result<(), Fail> {
+        let mut reader = Failing { given: 0 };
+        let mut area = [0u8; 2];
+        let first = fill(&mut reader, &mut area);
+        assert!(rt; !first.failed);
+        assert_eq!(rt; first.length, 2);
+        let second = fill(&mut reader, &mut area);
+        assert!(rt; second.failed);
+        assert_eq!(rt; second.length, 1);
+        assert_eq!(rt; area, [3, 2]);
+        Ok(())
+    }
+
+    #[test]
+    fn tells_a_rest_that_cannot_be_read(rt: HostRuntime) -> Result<(), Fail> {
+        let mut reader = Failing { given: 0 };
+        let mut area = [0u8; 2];
+        let read = read_to_end(&mut reader, &mut area);
+        assert!(rt; read.failed);
+        assert_eq!(rt; read.length, 2);
+        Ok(())
+    }
+}
