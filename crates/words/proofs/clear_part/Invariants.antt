@@ -6,23 +6,21 @@ use native.Mathlib.Decide.{dec_lt}
 use native.Mathlib.Omega.{arith}
 use lib.ListN.{length, get_or, set, length-set, get_or-eq_default}
 use lib.Seq.{get_or-set_same, get_or-set_other}
-use borrow.Author.Rules.{rules}
 use Rattle.words.specs.Words.{words, length_words, words_at, Zeroed}
-use Rattle.words.proofs.clear_part.Statement.{statement}
-use Rattle.words.proofs.clear_part.Tie as tie
+use Rattle.words.proofs.clear_part.Given as goal
 
-record Zeros (from to : ℕ) (d s : List ℕ) (i : ℕ) : Type 0 where
-  past : from * 2 ≤ i
-  within : i ≤ to * 2
-  long : to * 2 ≤ length d
-  same : length s ≡ length d
-  zeros : (j : ℕ) → from * 2 ≤ j → j < i → get_or s j 0 ≡ 0
-  others : (j : ℕ) → (from * 2 ≤ j → j < i → ⊥) → get_or s j 0 ≡ get_or d j 0
+pub record Zeros (from to : ℕ) (d s : List ℕ) (i : ℕ) : Type 0 where
+  pub past : from * 2 ≤ i
+  pub within : i ≤ to * 2
+  pub long : to * 2 ≤ length d
+  pub same : length s ≡ length d
+  pub zeros : (j : ℕ) → from * 2 ≤ j → j < i → get_or s j 0 ≡ 0
+  pub others : (j : ℕ) → (from * 2 ≤ j → j < i → ⊥) → get_or s j 0 ≡ get_or d j 0
 
-start : {from to : ℕ} {d : List ℕ} → from ≤ to → to * 2 ≤ length d → Zeros from to d d (from * 2)
+pub start : {from to : ℕ} {d : List ℕ} → from ≤ to → to * 2 ≤ length d → Zeros from to d d (from * 2)
 start h g = record { past = omega arith; within = omega arith; long = g; same = refl; zeros = λ j p q. absurd (omega arith); others = λ j p. refl }
 
-step : {from to i : ℕ} {d s : List ℕ} → Zeros from to d s i → i < to * 2 → Zeros from to d (set s i 0) (i + 1)
+pub step : {from to i : ℕ} {d s : List ℕ} → Zeros from to d s i → i < to * 2 → Zeros from to d (set s i 0) (i + 1)
 step {from} {to} {i} {d} {s} f h =
     record { past = omega (arith, f.past); within = omega arith; long = f.long; same = length-set s i 0 ∙ f.same; zeros = zero-there; others = other-there }
   where
@@ -37,7 +35,7 @@ step {from} {to} {i} {d} {s} f h =
         get_or-set_other s i j 0 0 (λ e. p (omega (arith, f.past)) (omega arith)) ∙ f.others j (λ a b. p a (omega arith))
 
 -- a number is 0 or as it was if its two bytes are
-end : {from to i : ℕ} {d s : List ℕ} → Zeros from to d s i → to * 2 ≤ i → Zeroed from to (words d) (words s)
+pub end : {from to i : ℕ} {d s : List ℕ} → Zeros from to d s i → to * 2 ≤ i → Zeroed from to (words d) (words s)
 end {from} {to} {i} {d} {s} f h = record { zeros = zero_number; others = other-number }
   where
     number : (x y : List ℕ) (j : ℕ) → length x ≡ length y → get_or x (j * 2) 0 ≡ get_or y (j * 2) 0 → get_or x (j * 2 + 1) 0 ≡ get_or y (j * 2 + 1) 0 → get_or (words x) j 0 ≡ get_or (words y) j 0
@@ -58,38 +56,8 @@ end {from} {to} {i} {d} {s} f h = record { zeros = zero_number; others = other-n
         number s d j f.same (f.others (j * 2) (λ a b. p (omega arith) (omega (arith, f.within))))
         (f.others (j * 2 + 1) (λ a b. p (omega arith) (omega (arith, f.within))))
 
-abbrev invariant-loop : tie.invariant-loop
-invariant-loop s₀ from to end i₀ s i = Zeros from to s₀ s i
+abbrev pub invariant-loop-i : goal.invariant-loop-i
+invariant-loop-i l = Zeros l.from l.to l.initial.s l.s l.i
 
-abbrev decreases-loop : tie.decreases-loop
-decreases-loop s₀ from to end i₀ s i = end - i
-
-loop-holds : tie.Need-loop-init invariant-loop decreases-loop
-loop-holds c = search (rules, start)
-
-mul-end : tie.Need-overflow-mul-end invariant-loop decreases-loop
-mul-end c = search rules
-
-mul-i : tie.Need-overflow-mul-i invariant-loop decreases-loop
-mul-i c = search rules
-
-slice-write-s : tie.Need-slice-write-s invariant-loop decreases-loop
-slice-write-s c = search rules
-
-add-i : tie.Need-overflow-add-i invariant-loop decreases-loop
-add-i c = search rules
-
-loop-less : tie.Need-loop-smaller invariant-loop decreases-loop
-loop-less c = search rules
-
-loop-again : tie.Need-loop-preserved invariant-loop decreases-loop
-loop-again c = search (rules, step)
-
-same_length : tie.Need-same-length invariant-loop decreases-loop
-same_length c = search rules
-
-returns : tie.Need-returns invariant-loop decreases-loop
-returns c = search (rules, end)
-
-pub clear-part-spec : {M : Type 1} → statement M
-clear-part-spec = tie.close (tie.spec invariant-loop decreases-loop mul-end mul-i loop-holds slice-write-s add-i loop-less loop-again same_length returns)
+abbrev pub decreases-loop-i : goal.decreases-loop-i
+decreases-loop-i l = l.end - l.i
