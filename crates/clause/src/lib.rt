@@ -1,4 +1,6 @@
 // Literals, after clause.rs: a variable with a sign, in one number.
+#![tactic(auto)]
+
 ghost use Rattle.std.specs.Prelude.{◌≡◌, Bool, ◌+◌, ◌*◌, ◌<◌, ◌≤◌};
 ghost use Rattle.rules.specs.Literal.{opposite};
 ghost use Rattle.clause.specs.Literals.{literal_of, signed, held};

@@ -1,4 +1,6 @@
 // What is wrong with a job, case by case, and the number and place that the paper gives it.
+#![tactic(auto)]
+
 ghost use Rattle.std.specs.Prelude.{◌≡◌};
 ghost use Rattle.rules.specs.Refusals.{number_and_place};
 ghost use Rattle.refusal.specs.Refusing.{refusal_of};

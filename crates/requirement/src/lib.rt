@@ -1,4 +1,6 @@
 // Requirements, after requirement.rs and conditional_requirement.rs: a goal, and a goal with its owner and condition.
+#![tactic(auto)]
+
 ghost use Rattle.std.specs.Prelude.{◌≡◌};
 ghost use Rattle.rules.specs.Items as rules;
 ghost use Rattle.requirement.specs.Requirements.{goal_of, form_of, number_of};
