@@ -8,14 +8,14 @@ ghost use Rattle.entries.specs.Deferred.{DrawnAt, DrawnAll, Stored, Drawn};
 use state::Limits;
 
 // A requirement and the index of one of its disjuncts.
-#[derive(Drop)]
+#[derive(Clone, Copy)]
 pub struct Entry {
     pub requirement: u16,
     pub disjunct: u16,
 }
 
 // How many entries wait and are drawn after a draw.
-#[derive(Drop)]
+#[derive(Clone, Copy)]
 pub struct Counts {
     pub kept: usize,
     pub drawn: usize,

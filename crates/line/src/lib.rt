@@ -7,7 +7,7 @@ ghost use Rattle.line.specs.Tasks.{task_of};
 use state::Limits;
 
 // By number: an owner's is its part's, or 1,024 for the root; a drawn entry's is its place among the drawn ones.
-#[derive(Drop)]
+#[derive(Clone, Copy)]
 pub enum Task {
     Owner(u16),
     Name(u16),
