@@ -1,4 +1,6 @@
 // The task line of a run, and tasks as numbers.
+#![tactic(auto)]
+
 ghost use Rattle.std.specs.Prelude.{◌≡◌, ◌+◌, ◌<◌, length};
 ghost use Rattle.state.specs.Layout.{held, Fits};
 ghost use Rattle.line.specs.Line.{line_at, Queued};

@@ -1,4 +1,6 @@
 // Variables by origin, after variable_map.rs: rows of the origins in order, and for each origin a slot with its variable and one more.
+#![tactic(auto)]
+
 ghost use Rattle.std.specs.Prelude.{◌≡◌, true, ◌+◌, ◌*◌, ◌<◌, ◌≤◌, length, get_or};
 ghost use Rattle.rules.specs.Lists.{snoc};
 ghost use Rattle.rules.specs.Catalogue.{root, range, union};
