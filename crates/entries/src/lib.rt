@@ -1,4 +1,6 @@
 // Waiting and drawn entries in a lent area of their own. Callers see two lists, and not how they lie in the area. A draw drains those that wait as a lent list of records (deferred.rt).
+#![tactic(auto)]
+
 mod deferred;
 
 ghost use Rattle.std.specs.Prelude.{◌≡◌, ◌+◌, ◌*◌, ◌<◌, ◌≤◌, length, get_or};

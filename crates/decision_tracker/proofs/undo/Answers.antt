@@ -1,5 +1,5 @@
 use borrow.Author.Rules.{rules}
-use Rattle.decision_tracker.proofs.Laws.{Undoing, undo_start, some_left, undo_step, undo_end}
+use Rattle.decision_tracker.proofs.Laws.{undo_start, some_left, undo_step, undo_end}
 use Rattle.decision_tracker.proofs.undo.Goals as goal
 
 pub loop-l-init : goal.loop-l-init

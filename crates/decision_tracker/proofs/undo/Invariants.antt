@@ -1,6 +1,5 @@
 -- `decision_tracker::undo` drops decisions from the end while they are above the level. The invariant: all that were dropped are above it.
-use borrow.Author.Rules.{rules}
-use Rattle.decision_tracker.proofs.Laws.{Undoing, undo_start, some_left, undo_step, undo_end}
+use Rattle.decision_tracker.proofs.Laws.{Undoing}
 use Rattle.decision_tracker.proofs.undo.Given as goal
 
 abbrev pub invariant-loop-l : goal.invariant-loop-l

@@ -1,6 +1,5 @@
 use borrow.Author.Rules.{rules}
-use Prim.Native.Nat.{◌-◌}
-use Rattle.marked.proofs.Laws.{Clearing, clear_start, clear_step, clear_end}
+use Rattle.marked.proofs.Laws.{clear_start, clear_step, clear_end}
 use Rattle.marked.proofs.clear.Goals as goal
 
 pub loop-i-init : goal.loop-i-init

@@ -1,7 +1,6 @@
 -- `marked::clear` empties the list. The invariant: the numbers passed have no mark any more, and the other marks are as they were.
-use borrow.Author.Rules.{rules}
 use Prim.Native.Nat.{◌-◌}
-use Rattle.marked.proofs.Laws.{Clearing, clear_start, clear_step, clear_end}
+use Rattle.marked.proofs.Laws.{Clearing}
 use Rattle.marked.proofs.clear.Given as goal
 
 abbrev pub invariant-loop-i : goal.invariant-loop-i
