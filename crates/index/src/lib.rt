@@ -1,6 +1,8 @@
 // Chains through the catalogue's areas, made once when the catalogue is read: the parts of a name, the requirements and the constraints of an owner,
 // the members of a union. A walk along a chain meets the rows of one key, in file order, and no others; idle rows of a union it passes over.
 // Beside them: bounds of a range's members and of a name's favoured parts, a range's first non-matching part, and the parts of a name as bits.
+#![tactic(auto)]
+
 ghost use Rattle.std.specs.Prelude.{◌≡◌, [], ◌∷◌, ◌+◌, ◌*◌, ◌^◌, ◌<◌, ◌≤◌, ltb, length, get_or, set};
 ghost use Rattle.rules.specs.Lists.{list_if};
 ghost use Rattle.rules.specs.Candidates.{matching, non_matching};

@@ -1,9 +1,36 @@
 // Reads recorded jobs from standard input, each as its length in four bytes, the low one first, and then so many bytes, and prints of each what
 // `kitlist` prints. A recorded job may have a byte more than a job may have, and is then refused.
-ghost use Rattle.std.specs.Prelude.{◌≡◌, ◌+◌, ◌*◌, get_or};
+#![tactic(auto)]
+
+ghost use Rattle.std.specs.Prelude.{◌≡◌, ◌+◌, ◌*◌, IfSome, OnOk, get_or, take};
+ghost use Rattle.std.specs.Io.KnownBytes.{Appends};
+ghost use Rattle.rules.specs.Job.{kitlist};
 ghost use Rattle.words.specs.Words.{words};
 
-use libc::{STDERR_FILENO, STDOUT_FILENO};
+use std::fmt;
+use std::io::{Read, Write};
+
+// Why the jobs that follow are not replayed.
+#[derive(Clone, Copy)]
+enum Failure {
+    Unread,
+    CutLength,
+    LongJob,
+    CutJob,
+    Unwritten,
+}
+
+impl fmt::Display for Failure {
+    fn fmt<W: fmt::Write>(&self, f: &mut fmt::Formatter<W>) -> fmt::Result {
+        f.write_str(match self {
+            Failure::Unread => "standard input cannot be read",
+            Failure::CutLength => "a length is cut short",
+            Failure::LongJob => "a recorded job is too long",
+            Failure::CutJob => "a recorded job is cut short",
+            Failure::Unwritten => "standard output cannot be written",
+        })
+    }
+}
 
 // The number that four bytes hold.
 fn length_in(head: &[u8]) -> usize
@@ -15,52 +42,61 @@ fn length_in(head: &[u8]) -> usize
 }
 
 // Says why the jobs that follow are not replayed.
-fn stop(why: &[u8]) -> bool {
-    io::write_all(STDERR_FILENO, b"replay: ");
-    io::write_all(STDERR_FILENO, why);
-    io::write_all(STDERR_FILENO, b"\n");
-    false
+fn stop(rt: &impl Eprint, why: Failure) {
+    let _ = eprintln!(rt; "replay: {why}");
 }
 
-// A job of this length, read into the area; whether another may follow.
-fn replay_job(area: &mut [u8], length: usize) -> bool {
+// A job of this length, read into the area.
+fn replay_job<R: Read, W: Write>(
+    reader: &mut R,
+    writer: &mut W,
+    area: &mut [u8],
+    length: usize,
+) -> Result<(), Failure>
+    ensures { OnOk result (IfSome (R.remaining reader.old)
+        (λ input. Appends (W.contents writer.old) (W.contents writer.new) (kitlist (take length input)))) }
+{
     if area.len() < length {
-        return stop(b"a recorded job is too long");
+        return Err(Failure::LongJob);
     }
-    let read = input::fill(&mut area[0..length]);
+    let read = input::fill(reader, &mut area[..length]);
     if read.length < length {
-        return stop(b"a recorded job is cut short");
+        return Err(Failure::CutJob);
     }
     let mut out = [0u8; 65536];
-    let shown = shown::shown_in(&area[0..length], &mut out);
-    if !io::write_all(STDOUT_FILENO, &out[0..shown]) {
-        return stop(b"standard output cannot be written");
+    let shown = shown::shown_in(&area[..length], &mut out);
+    match writer.write_all(&out[..shown]) {
+        Ok(()) => Ok(()),
+        Err(_) => Err(Failure::Unwritten),
     }
-    true
 }
 
 // The next recorded job, if there is one; whether another may follow.
-fn replay_next() -> bool {
+fn replay_next<R: Read, W: Write>(reader: &mut R, writer: &mut W) -> Result<bool, Failure> {
     let mut head = [0u8; 4];
-    let read = input::fill(&mut head);
+    let read = input::fill(reader, &mut head);
     if read.failed {
-        return stop(b"standard input cannot be read");
+        return Err(Failure::Unread);
     }
     if read.length == 0 {
-        return false;
+        return Ok(false);
     }
     if read.length < 4 {
-        return stop(b"a length is cut short");
+        return Err(Failure::CutLength);
     }
     let length = length_in(&head);
     let mut area = [0u8; 65537];
-    replay_job(&mut area, length)
+    replay_job(reader, writer, &mut area, length)?;
+    Ok(true)
 }
 
-// Nothing says that the input ends, so the loop counts its turns down, from a number that no run uses up.
-fn main() {
-    let mut turns = u64::MAX;
-    while turns > 0 && replay_next() {
-        turns -= 1;
+// Nothing says that the input ends, so the loop's turns are counted, up to a number that no run uses up.
+fn main(rt: HostRuntime) {
+    for _ in 0..u64::MAX {
+        match replay_next(&mut rt.stdin(), &mut rt.stdout()) {
+            Ok(true) => {}
+            Ok(false) => return,
+            Err(why) => return stop(&rt, why),
+        }
     }
 }
