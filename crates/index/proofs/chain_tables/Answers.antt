@@ -1,6 +1,6 @@
 -- `index::chain_tables` makes the chains one after another; each leaves the others.
 use borrow.Author.Rules.{rules}
-use Rattle.index.proofs.Laws.{requirements_keyed, constraints_keyed, parts_keyed_last, parts_linked_last, parts_keyed_late, all_built}
+use Rattle.index.proofs.Laws.{requirements_keyed, constraints_keyed, parts_keyed_last, parts_linked_last, all_built}
 use Rattle.index.proofs.chain_tables.Goals as goal
 
 pub link_requirements-requires-clause-keyed : goal.link_requirements-requires-clause-keyed
@@ -15,16 +15,5 @@ bound_parts-requires c = (search rules, parts_keyed_last c.requires.laid.0 c.req
 pub note_non_matching-requires-clause-linked : goal.note_non_matching-requires-clause-linked
 note_non_matching-requires-clause-linked c = search (rules, parts_linked_last)
 
-pub add_bits-requires : goal.add_bits-requires
-add_bits-requires c = (search rules, search (rules, parts_keyed_late))
-
 pub returns : goal.returns
-returns c = all_built
-    c.requires.laid.0
-    c.link_parts.ensures
-    c.link_requirements.ensures
-    c.link_constraints.ensures
-    c.bound_ranges.ensures
-    c.bound_parts.ensures
-    c.note_non_matching.ensures
-    c.add_bits.ensures
+returns c = search (rules, all_built)

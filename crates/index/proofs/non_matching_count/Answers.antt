@@ -1,4 +1,4 @@
--- `index::non_matching_count` counts the non-matching parts of a range, up to `most`.
+-- `index::non_matching_count` counts the non-matching parts of a range.
 use borrow.Author.Rules.{rules}
 use Rattle.index.proofs.Counting.{non_matching_counted}
 use Rattle.index.proofs.non_matching_count.Goals as goal

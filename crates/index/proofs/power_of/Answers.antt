@@ -1,7 +1,0 @@
--- `index::power_of` gives 2 to the power j.
-use borrow.Author.Rules.{rules}
-use Rattle.index.proofs.NameBits.{power_is}
-use Rattle.index.proofs.power_of.Goals as goal
-
-pub returns : goal.returns
-returns c = search (rules, power_is)
