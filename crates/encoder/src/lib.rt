@@ -1,4 +1,6 @@
 // The encoder's state in its areas: how much of each table is used. Steps that change it stand in `opening`, `storing`, `reporting`, `setting` and the crates above them.
+#![tactic(auto)]
+
 ghost use Rattle.std.specs.Prelude.{◌≡◌};
 ghost use Rattle.encoder.specs.Did.{filled};
 

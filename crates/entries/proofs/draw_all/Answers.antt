@@ -1,6 +1,5 @@
 use borrow.Author.Rules.{rules}
-use Prim.Native.Nat.{◌-◌}
-use Rattle.entries.proofs.Drain.{Drawing, drawing_start, drawing_step, drawing_end}
+use Rattle.entries.proofs.Drain.{drawing_start, drawing_step, drawing_end}
 use Rattle.entries.proofs.draw_all.Goals as goal
 
 pub loop-i-init : goal.loop-i-init

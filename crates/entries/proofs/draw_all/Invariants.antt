@@ -1,7 +1,6 @@
 -- `entries::draw_all` draws all that are held. The invariant: those of the first i are drawn, and all still wait.
-use borrow.Author.Rules.{rules}
 use Prim.Native.Nat.{◌-◌}
-use Rattle.entries.proofs.Drain.{Drawing, drawing_start, drawing_step, drawing_end}
+use Rattle.entries.proofs.Drain.{Drawing}
 use Rattle.entries.proofs.draw_all.Given as goal
 
 abbrev pub invariant-loop-i : goal.invariant-loop-i

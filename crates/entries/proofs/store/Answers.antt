@@ -1,6 +1,5 @@
 use borrow.Author.Rules.{rules}
-use Prim.Native.Nat.{◌-◌}
-use Rattle.entries.proofs.Drain.{Storing, storing_start, storing_step, storing_end}
+use Rattle.entries.proofs.Drain.{storing_start, storing_step, storing_end}
 use Rattle.entries.proofs.store.Goals as goal
 
 pub loop-i-init : goal.loop-i-init

@@ -1,7 +1,6 @@
 -- `entries::store` puts the first n records of a list in the place of those that wait. The invariant: the first i of them wait.
-use borrow.Author.Rules.{rules}
 use Prim.Native.Nat.{◌-◌}
-use Rattle.entries.proofs.Drain.{Storing, storing_start, storing_step, storing_end}
+use Rattle.entries.proofs.Drain.{Storing}
 use Rattle.entries.proofs.store.Given as goal
 
 abbrev pub invariant-loop-i : goal.invariant-loop-i

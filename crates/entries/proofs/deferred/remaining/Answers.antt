@@ -1,7 +1,6 @@
 -- `entries::deferred::remaining` makes the list, loads the rows into it and drains those that are held.
 use mathlib.Core.Path.{◌∙◌}
 use native.Mathlib.Omega.{arith}
-use lib.ListN.{length-replicate}
 use Rattle.entries.proofs.Places.{loaded_drained}
 use Rattle.entries.proofs.deferred.remaining.Goals as goal
 
