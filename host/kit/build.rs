@@ -1,8 +1,8 @@
-//! The proved functions come from the static library that `rt staticlib kit` writes.
+//! The proved functions come from the static library that `rt lib` makes in crates/kit_c.
 
 fn main() {
-    let directory = concat!(env!("CARGO_MANIFEST_DIR"), "/../../target/staticlib");
+    let directory = concat!(env!("CARGO_MANIFEST_DIR"), "/../../crates/kit_c/out");
     println!("cargo:rustc-link-search=native={directory}");
-    println!("cargo:rustc-link-lib=static=kit");
-    println!("cargo:rerun-if-changed={directory}/libkit.a");
+    println!("cargo:rustc-link-lib=static=kit_c");
+    println!("cargo:rerun-if-changed={directory}/libkit_c.a");
 }

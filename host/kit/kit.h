@@ -5,7 +5,7 @@
  * each work area must be for the limits; one that is shorter is refusal 7. After a call the work areas
  * are zero over their whole length.
  *
- * Link with libkit.a, which `rt staticlib kit` writes to target/staticlib. It needs memcpy and memset
+ * Link with crates/kit_c/out/libkit_c.a, which `rt lib` makes in crates/kit_c. It needs memcpy and memset
  * and nothing else. The functions keep nothing between calls: several threads may call them at once,
  * each with memory of its own.
  */

@@ -14,8 +14,7 @@ use terms::{Answer, Lent, Limits};
 // ---- check
 
 // Is the job's catalogue right? The four limits and six work areas are those that `run` would be given. After the call the areas are zero.
-#[unsafe(no_mangle)]
-pub extern "C" fn kit_check(
+pub fn kit_check(
     job: &[u8],
     variables: u64,
     clauses: u64,
@@ -99,8 +98,7 @@ fn run_within(
 }
 
 // The job's listing, or its refusal. After the call the six work areas are zero; a refusal leaves the listing area as it was.
-#[unsafe(no_mangle)]
-pub extern "C" fn kit_run(
+pub fn kit_run(
     job: &[u8],
     variables: u64,
     clauses: u64,

@@ -9,6 +9,17 @@ use job::answer::{Answer, Refusal, Request, Side};
 
 use crate::paths;
 
+/// Whether the model stands beside the repository. Where it does not, what needs it says so and is
+/// left out; with `CI=true` that is a failure.
+pub fn is_there() -> bool {
+    let there = paths::model().is_dir();
+    if !there {
+        println!("comparison with the model skipped: ../shared/model is not beside the repository");
+        assert!(std::env::var("CI").as_deref() != Ok("true"), "the model is missing");
+    }
+    there
+}
+
 pub struct Model {
     process: Child,
     requests: Option<BufWriter<ChildStdin>>,

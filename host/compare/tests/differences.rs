@@ -3,7 +3,11 @@
 
 use std::fs;
 
-use compare::{misreadings, model::Model, paths};
+use compare::{
+    misreadings,
+    model::{self, Model},
+    paths,
+};
 use job::{
     answer::{Answer, Request, Side},
     recorded::bytes_of_hex,
@@ -26,13 +30,16 @@ fn both_sides_agree_on_every_job() {
     let jobs = jobs(&page());
     assert!(jobs.len() >= 20, "{}", jobs.len());
     let answers = Rust.answers(&jobs);
-    assert!(answers == Model::new().answers(&jobs));
+    assert!(!model::is_there() || answers == Model::new().answers(&jobs));
     let refused = |answer: &&Answer| matches!(answer, Answer::Refused(_));
     assert_eq!(answers.iter().filter(refused).count(), 1, "refusal 9 before 8 alone");
 }
 
 #[test]
 fn each_misreading_is_noticed_by_its_job() {
+    if !model::is_there() {
+        return;
+    }
     let page = page();
     let (_, table) = page.split_once("### Misreadings").expect("the table");
     let (table, _) = table.split_once("\n## ").expect("its end");

@@ -1,4 +1,4 @@
-//! The reference is what stands in ../shared, whole.
+//! The reference is resolvo's 17 files, whole: each has its sum, to which the build holds it.
 
 use std::{fs, path::Path};
 
@@ -15,19 +15,39 @@ fn files_below(directory: &Path, found: &mut Vec<String>, root: &Path) {
     }
 }
 
+/// The files that have a sum, in order.
+fn summed() -> Vec<String> {
+    let sums = paths::repository().join("host/reference/files.sha256");
+    let sums = fs::read_to_string(sums).expect("the sums");
+    sums.lines().filter_map(|line| line.split_whitespace().nth(1)).map(str::to_string).collect()
+}
+
 #[test]
-fn every_file_has_its_sum_and_its_link() {
+fn every_file_with_a_sum_is_a_file_here() {
+    let files = summed();
+    assert_eq!(files.len(), 17);
+    for file in files {
+        let data = paths::repository().join("host/reference").join(&file).symlink_metadata();
+        assert!(data.expect("a file").is_file(), "{file}");
+    }
+}
+
+/// Where the files that were copied still stand beside the repository, these are all of them, unchanged.
+#[test]
+fn the_copies_are_what_was_copied() {
     let root = paths::repository().join("../shared/docs/src");
+    if !root.is_dir() {
+        return;
+    }
     let mut files = Vec::new();
     files_below(&root, &mut files, &root);
     files.sort();
-    let reference = paths::repository().join("host/reference");
-    let sums = fs::read_to_string(reference.join("files.sha256")).expect("the sums");
-    let summed: Vec<&str> =
-        sums.lines().filter_map(|line| line.split_whitespace().nth(1)).collect();
-    assert_eq!(summed, files);
-    assert_eq!(files.len(), 17);
+    assert_eq!(summed(), files);
     for file in files {
-        assert!(reference.join(&file).is_symlink(), "{file}");
+        let copy = paths::repository().join("host/reference").join(&file);
+        assert!(
+            fs::read(copy).expect("a copy") == fs::read(root.join(&file)).expect("a file"),
+            "{file}"
+        );
     }
 }

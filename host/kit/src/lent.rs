@@ -2,7 +2,7 @@
 //! limits are refusal 7. After a call the work areas are zero.
 //!
 //! `kit.h` beside this crate has the same declarations for C; `tests/declarations.rs` holds both to
-//! `crates/kit/src/lib.rt` and the answer of `crates/terms/src/lib.rt`.
+//! `crates/kit_c/src/lib.rt` and the answer of `crates/terms/src/lib.rt`.
 
 use job::limits::Limits;
 

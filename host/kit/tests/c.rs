@@ -18,7 +18,7 @@ fn compiled() -> PathBuf {
         .args(["-std=c11", "-Wall", "-Wextra", "-Wpedantic", "-Werror", "-O1", "-I"])
         .arg(crate_directory)
         .arg(crate_directory.join("tests/c/kitlist.c"))
-        .arg(crate_directory.join("../../target/staticlib/libkit.a"))
+        .arg(crate_directory.join("../../crates/kit_c/out/libkit_c.a"))
         .arg("-o")
         .arg(&program)
         .status()

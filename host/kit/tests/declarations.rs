@@ -14,13 +14,25 @@ fn words(text: &str) -> String {
 
 /// The answer's crate and that of the exported functions.
 fn rattle() -> String {
-    ["crates/terms/src/lib.rt", "crates/kit/src/lib.rt"].map(read).join(" ")
+    ["crates/terms/src/lib.rt", "crates/kit_c/src/lib.rt"].map(read).join(" ")
 }
 
 /// What stands between the two.
 fn between<'a>(text: &'a str, before: &str, after: &str) -> &'a str {
     let (_, rest) = text.split_once(before).unwrap_or_else(|| panic!("no {before:?}"));
     rest.split_once(after).unwrap_or_else(|| panic!("no {after:?} behind {before:?}")).0
+}
+
+/// The attributes right before the item.
+fn attributes<'a>(text: &'a str, item: &str) -> &'a str {
+    let (before, _) = text.split_once(item).unwrap_or_else(|| panic!("no {item:?}"));
+    let mut rest = before;
+    while let Some((start, _)) =
+        rest.trim_end().strip_suffix(']').and_then(|it| it.rsplit_once("#["))
+    {
+        rest = start;
+    }
+    &before[rest.len()..]
 }
 
 /// Names and types of what is written `name: type,` one after another.
@@ -31,7 +43,7 @@ fn fields(list: &str) -> Vec<(&str, &str)> {
 
 /// The exported functions of the source with their parameters.
 fn functions(source: &str) -> Vec<(&str, Vec<(&str, &str)>)> {
-    let functions = source.split("#[no_mangle] pub extern \"C\" fn ").skip(1);
+    let functions = source.split("#[unsafe(no_mangle)] pub extern \"C\" fn ").skip(1);
     functions
         .map(|function| {
             let (name, rest) = function.split_once('(').expect("a function");
@@ -101,7 +113,8 @@ fn nothing_else_is_declared() {
 #[test]
 fn the_answer_has_the_fields_of_the_source() {
     let (source, rust, header) = (rattle(), read("host/kit/src/lent.rs"), read("host/kit/kit.h"));
-    let of_source = between(&source, "#[repr(C)] pub struct Answer {", "}");
+    let of_source = between(&source, "pub struct Answer {", "}");
+    assert!(attributes(&source, "pub struct Answer {").contains("#[repr(C)]"));
     assert_eq!(between(&rust, "pub struct Answer {", "}"), of_source);
     assert!(between(&rust, "#[repr(C)]", "{").ends_with("pub struct Answer "));
     let in_c = fields(of_source).into_iter().map(|(name, kind)| {

@@ -10,7 +10,7 @@ use beside::{search, side::Kit};
 use compare::{
     comparison::{compare, smallest},
     generate::{self, short},
-    model::Model,
+    model::{self, Model},
 };
 use job::answer::{Request, Side};
 
@@ -43,6 +43,9 @@ fn side(word: &str) -> Box<dyn Side> {
 }
 
 fn run(word: &str, requests: impl Iterator<Item = Request>) -> ExitCode {
+    if word != "kit" && !model::is_there() {
+        return ExitCode::SUCCESS;
+    }
     let mut ours = side(word);
     let outcome = compare(&mut *ours, requests);
     let compared = outcome.compared;
