@@ -23,6 +23,11 @@ choice c r w = filter (chosen c r w) (up_to 0 (length c.parts))
 
 -- ---- counts
 
+-- n is a list's length, and no more than the ceiling of parts
+pub record Counted (n : ℕ) (xs : List ℕ) : Type 0 where
+  pub is : n ≡ length xs
+  pub most : n ≤ 1024
+
 -- n is a list's length, or `most` if it is longer
 pub record CountedTo (most n : ℕ) (xs : List ℕ) : Type 0 where
   pub is : n ≡ min (length xs) most

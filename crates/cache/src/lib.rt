@@ -1,5 +1,7 @@
 // The lists that follow from a catalogue, after cache.rs: is a part one of the matching, non-matching or favoured parts of a range?
 // Membership is a look-up in the marks. The unions are not read here: they are part of the catalogue that the contracts speak of.
+#![tactic(auto)]
+
 ghost use Rattle.std.specs.Prelude.{◌≡◌, length};
 ghost use Rattle.rules.specs.Candidates.{member};
 ghost use Rattle.cache.specs.Areas.{catalogue, Held};
@@ -8,7 +10,7 @@ ghost use Rattle.cache.specs.Lists.{asked, chosen};
 use tables::Counts;
 
 // Which parts of a range's name are asked for: its members, the rest, its favoured members, its other members.
-#[derive(Drop)]
+#[derive(Clone, Copy)]
 pub enum Choice {
     Matching,
     NonMatching,

@@ -1,5 +1,7 @@
 // Reading a catalogue into its areas: each record's item is entered or refused, up to the first sheet record.
 // What is left of the definitions' walks stays the same at every record.
+#![tactic(auto)]
+
 ghost use Rattle.std.specs.Prelude.{◌≡◌, ◌+◌, ◌<◌, ◌≤◌, length};
 ghost use Rattle.rules.specs.Records.{kind_of};
 ghost use Rattle.rules.specs.Job.{starts_sheet};
@@ -17,14 +19,14 @@ use refusal::Refusal;
 use tables::Counts;
 
 // A place, and the counts there.
-#[derive(Drop)]
+#[derive(Clone, Copy)]
 struct Place {
     at: usize,
     counts: Counts,
 }
 
 // After the record at a place: the place and the counts after it, or the place is that of the first sheet record, or why it is refused.
-#[derive(Drop)]
+#[derive(Clone, Copy)]
 pub enum Step {
     Next { at: usize, counts: Counts },
     Sheet,
@@ -32,7 +34,7 @@ pub enum Step {
 }
 
 // A whole catalogue, up to the first sheet record or the end; or why and where it is refused.
-#[derive(Drop)]
+#[derive(Clone, Copy)]
 pub enum Read {
     Sheet { at: usize, counts: Counts },
     Refused { refusal: Refusal, at: usize },

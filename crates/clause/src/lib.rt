@@ -1,16 +1,18 @@
 // Literals, after clause.rs: a variable with a sign, in one number.
+#![tactic(auto)]
+
 ghost use Rattle.std.specs.Prelude.{◌≡◌, Bool, ◌+◌, ◌*◌, ◌<◌, ◌≤◌};
 ghost use Rattle.rules.specs.Literal.{opposite};
 ghost use Rattle.clause.specs.Literals.{literal_of, signed, held};
 
 // Twice the variable, and one more where the sign is negative.
-#[derive(Drop)]
+#[derive(Clone, Copy)]
 pub struct Literal {
     pub code: u16,
 }
 
 // What the decisions say of a variable, or of a literal.
-#[derive(Drop)]
+#[derive(Clone, Copy)]
 pub enum Value {
     Undecided,
     False,

@@ -1,5 +1,7 @@
 // Conditions as disjuncts of ranges, after conditions.rs: how many disjuncts a condition has, how long they are, and any one of them.
 // Nothing is stored but sizes: disjunct i is worked out when it is asked for.
+#![tactic(auto)]
+
 ghost use Rattle.std.specs.Prelude.{◌≡◌, [], ◌∷◌, ◌<◌, max, length, get_or};
 ghost use Rattle.rules.specs.Lists.{snoc};
 ghost use Rattle.rules.specs.Catalogue.{joined};
@@ -11,7 +13,7 @@ ghost use Rattle.conditions.specs.Sizes.{size_of, Sized, HasSize, Counted, Carri
 use tables::{Counts, Size};
 
 // A disjunct: its first `len` ranges must all hold.
-#[derive(Drop)]
+#[derive(Clone, Copy)]
 pub struct Disjunct {
     pub ranges: [u16; 16],
     pub len: usize,
@@ -83,7 +85,7 @@ fn pushed(d: Disjunct, range: u16) -> Disjunct
 }
 
 // Where a disjunct comes from: it is one range, or a disjunct of one half, or one of each.
-#[derive(Drop)]
+#[derive(Clone, Copy)]
 pub enum Source {
     Range(u16),
     Half {
@@ -138,7 +140,7 @@ pub fn source_of(t: &[u8], k: Counts, c: usize, i: usize) -> Source
 }
 
 // A disjunct, by its condition and its place among the condition's.
-#[derive(Drop)]
+#[derive(Clone, Copy)]
 struct Place {
     condition: usize,
     index: usize,

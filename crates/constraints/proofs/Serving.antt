@@ -24,7 +24,7 @@ use Rattle.tables.specs.declared.Counts.{Counts}
 use Rattle.tables.specs.declared.Constraint as code
 use Rattle.tables.specs.Tables.{tables, constraint_is}
 use Rattle.cache.specs.Areas.{catalogue}
-use Rattle.cache.specs.Lists.{CountedTo}
+use Rattle.cache.specs.Lists.{Counted}
 use Rattle.state.specs.declared.Limits.{Limits}
 use Rattle.variable_map.specs.declared.Origin as variable_map
 use Rattle.variable_map.specs.Mapping.{origin_of}
@@ -44,11 +44,11 @@ use Rattle.constraints.proofs.Owners.{range_at, owner_at_law}
 
 -- ---- by how many parts do not match
 
-pub is_few : (c : Catalogue) (r : ℕ) {x : ℕ} → CountedTo 4 x (non_matching c r) → x < 4 → few (non_matching c r) ≡ true
+pub is_few : (c : Catalogue) (r : ℕ) {x : ℕ} → Counted x (non_matching c r) → x < 4 → few (non_matching c r) ≡ true
 unfolding few
 is_few c r k h = lt-ltb (length (non_matching c r)) 4 (omega (arith, k.is))
 
-pub is_many : (c : Catalogue) (r : ℕ) {x : ℕ} → CountedTo 4 x (non_matching c r) → 4 ≤ x → few (non_matching c r) ≡ false
+pub is_many : (c : Catalogue) (r : ℕ) {x : ℕ} → Counted x (non_matching c r) → 4 ≤ x → few (non_matching c r) ≡ false
 unfolding few
 is_many c r k h = le-ltb (length (non_matching c r)) 4 (omega (arith, k.is))
 
@@ -59,7 +59,7 @@ module _ (c : Catalogue) (run : Run) (o : Owner) (r : ℕ) where
   unfolding constrain_few fold
   nothing e s = rw e
 
-  pub none_constrained : {x : ℕ} {l : Limits} {n : Counters} {st : ℕ → List ℕ} {cl : List ℕ} → CountedTo 4 x (non_matching c r) → x ≡ 0 → ClausesDid c l (λ v. constrain_few c run o r) n st cl n st cl
+  pub none_constrained : {x : ℕ} {l : Limits} {n : Counters} {st : ℕ → List ℕ} {cl : List ℕ} → Counted x (non_matching c r) → x ≡ 0 → ClausesDid c l (λ v. constrain_few c run o r) n st cl n st cl
   none_constrained k h = clauses_none (λ v s. nothing (none_of (non_matching c r) (omega (arith, k.is))) s)
     where
       none_of : (xs : List ℕ) → length xs ≡ 0 → xs ≡ []
@@ -158,7 +158,7 @@ module _ (c : Catalogue) (run : Run) (i : ℕ) where
 module _ (k : Counts) (m u t : List ℕ) (i : ℕ) (it : code.Constraint) (e : constraint_is it ≡ get_or (tables k t).constraints i no_constraint) (x : ℕ)
     (f : owner_of x ≡ owner_is it.owner) (w : variable_map.Origin) (g : origin_of w ≡ chosen (owner_of x)) (run : Run)
     {l : Limits} {n n' n'' : Counters} {st st' st'' : ℕ → List ℕ} {cl cl' : List ℕ} (d : PlainDid l (λ c v. add_variable (origin_of w)) n st n' st') {y : ℕ}
-    (a : CountedTo 4 y (non_matching (catalogue k m u t) it.range)) where
+    (a : Counted y (non_matching (catalogue k m u t) it.range)) where
   pub few_served : y < 4 → ClausesDid (catalogue k m u t) l (λ v. constrain_few (catalogue k m u t) run (owner_of x) it.range) n' st' cl n'' st'' cl'
       → ClausesDid (catalogue k m u t) l (λ v. serving (catalogue k m u t) run (constraint i)) n st cl n'' st'' cl'
   unfolding serving

@@ -7,7 +7,7 @@ ghost use Rattle.rules.specs.Opening.{constraint};
 ghost use Rattle.rules.specs.Variables.{chosen, violation, known};
 ghost use Rattle.rules.proofs.WellFormed.{WellFormed};
 ghost use Rattle.cache.specs.Areas.{catalogue};
-ghost use Rattle.cache.specs.Lists.{CountedTo};
+ghost use Rattle.cache.specs.Lists.{Counted};
 ghost use Rattle.index.specs.Indexed.{Indexed};
 ghost use Rattle.state.specs.Layout.{held, Fits};
 ghost use Rattle.variable_map.specs.Mapping.{variables};
@@ -65,7 +65,7 @@ fn constrain_each(
     )
 }
 
-// Under 4 non-matching parts, of which `count` are counted up to 4: one clause each.
+// Under 4 non-matching parts, `count` of them: one clause each.
 fn constrain_few(
     marks: &[u8],
     unions: &[u8],
@@ -86,7 +86,7 @@ fn constrain_few(
     requires long_enough { LongEnough l (length clauses.old) 16384 }
     requires number_nonzero { (0 < run.number) × (r < k.ranges) × (o < 1025) }
     requires knows { Knows (is_full n) (variables n.variables (held l s.old)) (chosen (owner_of o)) }
-    requires counted_to { CountedTo 4 count (non_matching (catalogue k marks.now unions.now t.now) r) }
+    requires counted { Counted count (non_matching (catalogue k marks.now unions.now t.now) r) }
     ensures { ClausesDid (catalogue k marks.now unions.now t.now) l (λ v. constrain_few (catalogue k marks.now unions.now t.now) (run_of run) (owner_of o) r) n (held l s.old) clauses.old result (held l s.new) clauses.new }
 {
     if count == 0 {
@@ -183,7 +183,7 @@ pub fn serve_constraint(
     let o = owners::owner_number(it.owner);
     let r = it.range as usize;
     let m = opening::name_variable(s, l, n, owners::owner_origin(o));
-    let count = index::non_matching_count(marks, unions, t, k, r, 4);
+    let count = index::non_matching_count(marks, unions, t, k, r);
     if count < 4 {
         return constrain_few(marks, unions, t, k, s, clauses, l, m, run, r, o, count);
     }

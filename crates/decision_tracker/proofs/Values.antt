@@ -25,7 +25,7 @@ evaluate_other [] d l n = rw (ne_eqb l.variable d.variable n, evaluate)
 evaluate_other (e ∷ ds) d l n =
     by_cases (eqb l.variable e.variable) (λ q. rw (q, evaluate)) (λ q. rw (q, evaluate) (evaluate_other ds d l n))
 
-pub evaluate_new : {ds : List Decision} (d : Decision) (l : Literal) → Undecided ds l.variable → l.variable ≡ d.variable
+pub evaluate_new : (d : Decision) (l : Literal) {ds : List Decision} → Undecided ds l.variable → l.variable ≡ d.variable
     → evaluate (snoc ds d) l ≡ decided_as (same l.positive d.value) d.level
 unfolding evaluate snoc
 evaluate_new d l Each.nil e = rw (eq-eqb l.variable d.variable e, evaluate)

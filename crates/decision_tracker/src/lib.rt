@@ -1,4 +1,6 @@
 // Decisions, after decision.rs and decision_tracker.rs: rows of the decisions, oldest first, and the value of each variable.
+#![tactic(auto)]
+
 ghost use Rattle.std.specs.Prelude.{◌≡◌, ◌+◌, ◌*◌, ◌<◌, ◌≤◌, eqb, length, get_or};
 ghost use Rattle.rules.specs.Lists.{snoc};
 ghost use Rattle.rules.specs.Literal.{pos};
@@ -12,7 +14,7 @@ use clause::{Literal, Value};
 use state::Limits;
 
 // A variable's value, the level and the clause that forced it: its number and one more, or 0 where the sheet decided.
-#[derive(Drop)]
+#[derive(Clone, Copy)]
 pub struct Decision {
     pub variable: u16,
     pub value: bool,

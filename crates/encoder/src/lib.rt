@@ -1,10 +1,12 @@
 // The encoder's state in its areas: how much of each table is used. Steps that change it stand in `opening`, `storing`, `reporting`, `setting` and the crates above them.
+#![tactic(auto)]
+
 ghost use Rattle.std.specs.Prelude.{◌≡◌};
 ghost use Rattle.encoder.specs.Did.{filled};
 
 // How much of each table is used; the tasks that the present task has queued begin at `first`. `full` is 1 if a limit would be passed, and else 0: a number
 // as the others, because a byte among them leaves a hole, which makes each copy slow.
-#[derive(Drop)]
+#[derive(Clone, Copy)]
 pub struct Counters {
     pub variables: usize,
     pub clauses: usize,
@@ -25,7 +27,7 @@ pub struct Counters {
 }
 
 // A run: its number from 1, its level, and how many variables it began with.
-#[derive(Drop)]
+#[derive(Clone, Copy)]
 pub struct Run {
     pub number: u16,
     pub level: u16,

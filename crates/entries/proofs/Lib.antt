@@ -1,5 +1,3 @@
 pub mod Laws
 pub mod Drain
-pub mod Cells
 pub mod Places
-pub mod Thin

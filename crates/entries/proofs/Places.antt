@@ -14,7 +14,7 @@ use Rattle.rules.proofs.ListLaws.{up_to_last, length_up_to, length_filters}
 use Rattle.rules.proofs.MemberLaws.{filter_append, filter_pass, filter_stop}
 use Rattle.state.proofs.Rows.{row_at_law, rows_more}
 use Rattle.entries.specs.declared.Entry.{Entry}
-use Rattle.entries.specs.Entries.{no_entry, row_at_index}
+use Rattle.entries.specs.Entries.{no_entry, entry_of, row_at_index}
 use Rattle.entries.specs.Deferred.{picked, is_free, is_held, behind, record_of, record_at, listed, free_records, free_rows}
 
 -- ---- places
@@ -126,6 +126,18 @@ loading_step bytes ys m zs l r =
           ∙ (take-suc-set zs m e within ∙ (ap (λ (l' : List Entry). l' ++ (e ∷ [])) r.front ∙ sym (rows_more (λ i. record_of (row_at_index bytes i)) m)));
     }
 
+record_is : (e : Entry) (x : ℕ × ℕ) → entry_of e ≡ x → e ≡ record_of x
+unfolding entry_of
+record_is e x h = ap record_of h
+
+-- as the code has it: a row is read, and pushed
+pub loading_more : (bytes : List ℕ) (ys : List Entry) (m : ℕ) (zs : List Entry) (e : Entry) (m' : ℕ) (zs' : List Entry) → m < length ys → Loading bytes ys m zs
+    → entry_of e ≡ row_at_index bytes m → (m' ≡ m + 1) × (zs' ≡ set zs m e) → Loading bytes ys m' zs'
+loading_more bytes ys m zs e m' zs' h r i p = rw (p.0, p.1, record_is e (row_at_index bytes m) i) (loading_step bytes ys m zs h r)
+
+pub loaded : (bytes : List ℕ) (ys : List Entry) (m n : ℕ) (zs : List Entry) → Loading bytes ys m zs → m ≤ n → n ≤ m → take n zs ≡ listed bytes n
+loaded bytes ys m n zs r h g = let e : m ≡ n = omega arith in rw e at r.front
+
 -- ---- draining: of the first i records the free ones stand in front, and the others are as they were
 
 pub record Draining (held : List ℕ) (ys : List Entry) (i : ℕ) (zs : List Entry) (to : ℕ) : Type 0 where
@@ -173,6 +185,15 @@ draining_step held ys i zs to l r = record { count = length-set zs to e ∙ r.co
         ap (λ (n : ℕ). drop n (set zs to e)) (add-one i)
         ∙ (drop-set-lt (suc i) zs to e (omega (arith, r.fewer)) ∙ (ap tail (sym (drop-cons zs i (record_of no_entry) within_i) ∙ (r.rest ∙ drop-cons ys i (record_of no_entry) l))
         ∙ ap (λ (n : ℕ). drop n ys) (sym (add-one i))))
+
+-- as the code has it: a record is read, pushed, and the place moves on
+pub draining_more : (held : List ℕ) (ys : List Entry) (i : ℕ) (zs : List Entry) (to : ℕ) (e : Entry) (more : ℕ) (zs' : List Entry) (to' : ℕ) → i < length ys
+    → Draining held ys i zs to → e ≡ record_at zs i → (more ≡ to + 1) × (zs' ≡ set zs to e) → to' ≡ behind held i to more → Draining held ys (i + 1) zs' to'
+draining_more held ys i zs to e more zs' to' h r is p q = rw (q, p.1, p.0, is) (draining_step held ys i zs to h r)
+
+pub drained_all : (held : List ℕ) (ys : List Entry) (i : ℕ) (zs : List Entry) (to n : ℕ) → Draining held ys i zs to → i ≤ n → n ≤ i
+    → (to ≤ n) × (take to zs ≡ free_records held n ys)
+drained_all held ys i zs to n r h g = let e : i ≡ n = omega arith in rw (← e) (r.fewer, r.front)
 
 -- ---- both: the free ones of the rows that were loaded
 

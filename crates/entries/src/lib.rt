@@ -1,4 +1,6 @@
 // Waiting and drawn entries in a lent area of their own. Callers see two lists, and not how they lie in the area. A draw drains those that wait as a lent list of records (deferred.rt).
+#![tactic(auto)]
+
 mod deferred;
 
 ghost use Rattle.std.specs.Prelude.{◌≡◌, ◌+◌, ◌*◌, ◌<◌, ◌≤◌, length, get_or};
@@ -8,14 +10,14 @@ ghost use Rattle.entries.specs.Deferred.{DrawnAt, DrawnAll, Stored, Drawn};
 use state::Limits;
 
 // A requirement and the index of one of its disjuncts.
-#[derive(Drop)]
+#[derive(Clone, Copy)]
 pub struct Entry {
     pub requirement: u16,
     pub disjunct: u16,
 }
 
 // How many entries wait and are drawn after a draw.
-#[derive(Drop)]
+#[derive(Clone, Copy)]
 pub struct Counts {
     pub kept: usize,
     pub drawn: usize,

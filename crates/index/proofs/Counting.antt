@@ -19,7 +19,7 @@ use Rattle.tables.specs.Tables.{tables}
 use Rattle.cache.specs.declared.Choice.{Choice}
 use Rattle.cache.specs.declared.Choice.TheVariants.{Matching, NonMatching}
 use Rattle.cache.specs.Areas.{catalogue, Held}
-use Rattle.cache.specs.Lists.{chosen, choice, CountedTo}
+use Rattle.cache.specs.Lists.{chosen, choice, Counted, CountedTo}
 use Rattle.cache.proofs.Laws.{parts_held}
 use Rattle.cache.proofs.Lists.{matching_is, non_matching_is}
 use Rattle.index.specs.Chains.{FirstNonMatching, Skips}
@@ -137,8 +137,12 @@ module _ (k : Counts) (m u t : List ℕ) (r : ℕ) where
       → CountedTo top 0 (matching (catalogue k m u t) r)
   matching_none top h s l = matching_counted (count_nothing k m u t r Matching top h s l)
 
-  pub non_matching_counted : {top n : ℕ} → CountedTo top n (choice (catalogue k m u t) r NonMatching) → CountedTo top n (non_matching (catalogue k m u t) r)
-  non_matching_counted x = rw (← non_matching_is (catalogue k m u t) r) x
+  pub non_matching_counted : {n : ℕ} → Held k (length m) (length u) (length t) → CountedTo 1024 n (choice (catalogue k m u t) r NonMatching)
+      → Counted n (non_matching (catalogue k m u t) r)
+  non_matching_counted h x =
+      let e = x.is in
+      let l = held_most k m u t r NonMatching h in
+      rw (← non_matching_is (catalogue k m u t) r) (record { is = omega arith; most = omega arith })
 
   -- there are some exactly where the first of them is a part
   pub non_matching_some : {x : ℕ} → Held k (length m) (length u) (length t) → r < k.ranges → FirstNonMatching k.parts (tables k t) m r x

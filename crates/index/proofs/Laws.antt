@@ -11,11 +11,10 @@ use Rattle.words.specs.Words.{words}
 use Rattle.marks.specs.Marks.{NextMember, EndOfMembers}
 use Rattle.tables.specs.declared.Counts.{Counts}
 use Rattle.tables.specs.Tables.{tables_in, tables, Laid}
-use Rattle.index.specs.Chains.{First, Chain, owner_row, parts_by_name, requirements_by_owner, constraints_by_owner, key_of, Linked, Key, Keyed, Only, range_bounds, FavouredBounded, Bounded, Chains, Keys, Linking, Heading, BoundSet, bound_set, Bounding, Favouring, NonMatchingNoted, Noting, NamesKnown, AddingBits, Chained}
+use Rattle.index.specs.Chains.{First, Chain, owner_row, parts_by_name, requirements_by_owner, constraints_by_owner, key_of, Linked, Key, Keyed, Only, range_bounds, FavouredBounded, Bounded, Chains, Keys, Linking, Heading, BoundSet, bound_set, Bounding, Favouring, NonMatchingNoted, Noting, Chained}
 use Rattle.index.proofs.Chaining.{Apart, Beside, only_none, only_then, only_head, only_link, linked_only, linked_more, linked_none, keyed_kept, keyed_beside, linked_beside}
 use Rattle.index.proofs.Places as places
 use Rattle.index.proofs.Favoured.{favoured_beside}
-use Rattle.index.proofs.NonMatching.{noted_beside}
 
 -- ---- owners' rows
 
@@ -193,28 +192,19 @@ module _ {k : Counts} {m t u v w x y : List ℕ} (l : Laid k (length t)) (a : Li
       linked_beside (places.parts_beside_favoured k t l) f.only (linked_beside (places.parts_beside_ranges k t l) d.only
       (linked_beside (places.parts_beside_constraints k t l) c.only (linked_beside (places.parts_beside_requirements k t l) b.only a.linked)))
 
-  pub parts_keyed_late : {z : List ℕ} → Keys k t → Noting k m k.ranges y z → Keyed parts_by_name k.parts k.names (words z)
-  parts_keyed_late e g =
-      keyed_beside (places.parts_beside_non_matching k t l) g.only
-      (keyed_beside (places.parts_beside_favoured k t l) f.only (parts_keyed_last l e a b c d))
-
-  pub all_built : {z z' : List ℕ} → Noting k m k.ranges y z → AddingBits k k.parts z z' → Chained k m t z'
-  all_built g n =
+  pub all_built : {z : List ℕ} → Noting k m k.ranges y z → Chained k m t z
+  all_built g =
       record {
-        same = n.same ∙ (g.same ∙ (f.same ∙ (d.same ∙ (c.same ∙ (b.same ∙ a.same)))));
+        same = g.same ∙ (f.same ∙ (d.same ∙ (c.same ∙ (b.same ∙ a.same))));
         chains = record {
-          parts = linked_beside (places.parts_beside_names k t l) n.only (linked_beside (places.parts_beside_non_matching k t l) g.only parts_linked_last);
-          requirements = linked_beside (places.requirements_beside_names k t l) n.only (linked_beside (places.requirements_beside_non_matching k t l) g.only
-              (linked_beside (places.requirements_beside_favoured k t l) f.only
-              (linked_beside (places.requirements_beside_ranges k t l) d.only (linked_beside (places.requirements_beside_constraints k t l) c.only b.linked))));
-          constraints = linked_beside (places.constraints_beside_names k t l) n.only (linked_beside (places.constraints_beside_non_matching k t l) g.only
-              (linked_beside (places.constraints_beside_favoured k t l) f.only (linked_beside (places.constraints_beside_ranges k t l) d.only c.linked)));
-          ranges = bounded_beside (places.ranges_beside_names k t l) n.only (bounded_beside (places.ranges_beside_non_matching k t l) g.only
-              (bounded_beside (places.ranges_beside_favoured k t l) f.only d.bounded));
-          favoured = favoured_beside (places.parts_beside_names k t l) (places.favoured_beside_names k t l) n.same n.only
-              (favoured_beside (places.parts_beside_non_matching k t l) (places.favoured_beside_non_matching k t l) g.same g.only (FavouredBounded.bounded f.favoured));
-          non_matching_law = noted_beside (places.non_matching_beside_names k t l) n.same n.only (NonMatchingNoted.noted g.noted);
-          names = NamesKnown.known n.bits;
+          parts = linked_beside (places.parts_beside_non_matching k t l) g.only parts_linked_last;
+          requirements = linked_beside (places.requirements_beside_non_matching k t l) g.only (linked_beside (places.requirements_beside_favoured k t l) f.only
+              (linked_beside (places.requirements_beside_ranges k t l) d.only (linked_beside (places.requirements_beside_constraints k t l) c.only b.linked)));
+          constraints = linked_beside (places.constraints_beside_non_matching k t l) g.only
+              (linked_beside (places.constraints_beside_favoured k t l) f.only (linked_beside (places.constraints_beside_ranges k t l) d.only c.linked));
+          ranges = bounded_beside (places.ranges_beside_non_matching k t l) g.only (bounded_beside (places.ranges_beside_favoured k t l) f.only d.bounded);
+          favoured = favoured_beside (places.parts_beside_non_matching k t l) (places.favoured_beside_non_matching k t l) g.same g.only (FavouredBounded.bounded f.favoured);
+          non_matching_law = NonMatchingNoted.noted g.noted;
         };
       }
 

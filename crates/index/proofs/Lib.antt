@@ -2,7 +2,6 @@ pub mod Chaining
 pub mod Places
 pub mod Favoured
 pub mod NonMatching
-pub mod NameBits
 pub mod Laws
 pub mod Selecting
 pub mod Owners

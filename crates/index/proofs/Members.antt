@@ -24,7 +24,6 @@ use Rattle.index.proofs.Chaining.{only_none, only_then, only_head, linked_beside
 use Rattle.index.proofs.Places as places
 use Rattle.index.proofs.Favoured.{favoured_beside}
 use Rattle.index.proofs.NonMatching.{noted_beside}
-use Rattle.index.proofs.NameBits.{names_beside}
 use Rattle.index.proofs.Laws.{bounded_beside}
 use Rattle.index.proofs.Times.{times_append, times_snoc}
 
@@ -175,7 +174,6 @@ chains_beside {k} {m} {t} {u} l h c =
       ranges = bounded_beside (places.ranges_beside_unions k t l) o c.ranges;
       favoured = favoured_beside (places.parts_beside_unions k t l) (places.favoured_beside_unions k t l) h.same o c.favoured;
       non_matching_law = noted_beside (places.non_matching_beside_unions k t l) h.same o c.non_matching_law;
-      names = names_beside l (places.parts_beside_unions k t l) (places.names_beside_unions k t l) o c.names;
     }
 
 -- ---- one row more

@@ -10,7 +10,7 @@ use Rattle.tables.specs.Tables.{tables_in, Laid}
 use Rattle.tables.proofs.Rows.{Free}
 use Rattle.tables.proofs.Stores.{first}
 use Rattle.tables.proofs.Rows.{free_kept}
-use Rattle.index.specs.Chains.{parts_by_name, requirements_by_owner, constraints_by_owner, key_of, Only, range_bounds, favoured_bounds, non_matching_heads, name_rows}
+use Rattle.index.specs.Chains.{parts_by_name, requirements_by_owner, constraints_by_owner, key_of, Only, range_bounds, favoured_bounds, non_matching_heads}
 use Rattle.index.specs.Members.{union_heads}
 use Rattle.index.proofs.Chaining.{Apart, Beside, key_beside}
 
@@ -454,78 +454,6 @@ module _ (k : Counts) (t : List ℕ) (l : Laid k (length t)) where
       let n = l.names in
       let q = l.requirements in
       let c = l.constraints in
-      let u = l.unions in
-      record {
-        heads = λ x h. ((λ y g e. omega arith), (λ j g e. omega arith));
-        links = λ i h. ((λ y g e. omega arith), (λ j g e. omega arith));
-        keys = λ i h. ((λ y g e. omega arith), (λ j g e. omega arith));
-      }
-
-  pub parts_beside_names : Beside parts_by_name k.parts k.names name_rows 0 4096
-  parts_beside_names =
-      let p = l.parts in
-      let n = l.names in
-      let q = l.requirements in
-      let c = l.constraints in
-      record {
-        heads = λ x h. ((λ y g e. omega arith), (λ j g e. omega arith));
-        links = λ i h. ((λ y g e. omega arith), (λ j g e. omega arith));
-        keys = λ i h. ((λ y g e. omega arith), (λ j g e. omega arith));
-      }
-
-  pub requirements_beside_names : Beside requirements_by_owner k.requirements (k.parts + 1) name_rows 0 4096
-  requirements_beside_names =
-      let p = l.parts in
-      let n = l.names in
-      let q = l.requirements in
-      let c = l.constraints in
-      record {
-        heads = λ x h. ((λ y g e. omega arith), (λ j g e. omega arith));
-        links = λ i h. ((λ y g e. omega arith), (λ j g e. omega arith));
-        keys = λ i h. ((λ y g e. omega arith), (λ j g e. omega arith));
-      }
-
-  pub constraints_beside_names : Beside constraints_by_owner k.constraints (k.parts + 1) name_rows 0 4096
-  constraints_beside_names =
-      let p = l.parts in
-      let n = l.names in
-      let q = l.requirements in
-      let c = l.constraints in
-      record {
-        heads = λ x h. ((λ y g e. omega arith), (λ j g e. omega arith));
-        links = λ i h. ((λ y g e. omega arith), (λ j g e. omega arith));
-        keys = λ i h. ((λ y g e. omega arith), (λ j g e. omega arith));
-      }
-
-  pub ranges_beside_names : Beside range_bounds k.ranges k.ranges name_rows 0 4096
-  ranges_beside_names =
-      let r = l.ranges in
-      record {
-        heads = λ x h. ((λ y g e. omega arith), (λ j g e. omega arith));
-        links = λ i h. ((λ y g e. omega arith), (λ j g e. omega arith));
-        keys = λ i h. ((λ y g e. omega arith), (λ j g e. omega arith));
-      }
-
-  pub favoured_beside_names : Beside favoured_bounds k.names k.names name_rows 0 4096
-  favoured_beside_names =
-      let n = l.names in
-      record {
-        heads = λ x h. ((λ y g e. omega arith), (λ j g e. omega arith));
-        links = λ i h. ((λ y g e. omega arith), (λ j g e. omega arith));
-        keys = λ i h. ((λ y g e. omega arith), (λ j g e. omega arith));
-      }
-
-  pub non_matching_beside_names : Beside non_matching_heads 0 k.ranges name_rows 0 4096
-  non_matching_beside_names =
-      let r = l.ranges in
-      record {
-        heads = λ x h. ((λ y g e. omega arith), (λ j g e. omega arith));
-        links = λ i h. ((λ y g e. omega arith), (λ j g e. omega arith));
-        keys = λ i h. ((λ y g e. omega arith), (λ j g e. omega arith));
-      }
-
-  pub names_beside_unions : Beside name_rows 0 4096 union_heads 0 k.unions
-  names_beside_unions =
       let u = l.unions in
       record {
         heads = λ x h. ((λ y g e. omega arith), (λ j g e. omega arith));

@@ -138,24 +138,6 @@ module _ (k : Counts) (m u t : List ℕ) where
     unfolding chosen asked is_non_matching
     non_matching_is_chosen i h = rw (part_name_held k m u t i, range_name_held k m u t r, members_held k m u t r h)
 
-    -- a part that is not outside is passed, and what is skipped behind it
-    pub nearest_next : {from p x : ℕ} {b : Bool} → r < k.ranges → Skips k.parts (chosen (catalogue k m u t) r NonMatching) from p → b ≡ is_non_matching (tables k t) m r p → b ≡ false
-        → Skips k.parts (chosen (catalogue k m u t) r NonMatching) (p + 1) x → Skips k.parts (chosen (catalogue k m u t) r NonMatching) from x
-    nearest_next {p = p} h s e f z =
-        let n = z.onward in
-        let l = z.inside in
-        skips_both s (skips_both (record { onward = omega arith; inside = omega arith; none = λ i a b. here i (omega arith) }) z)
-      where
-        here : (i : ℕ) → i ≡ p → chosen (catalogue k m u t) r NonMatching i ≡ false
-        here i q = rw q (non_matching_is_chosen p h ∙ (sym e ∙ f))
-
-    -- from the next part of the name on no part is outside up to x
-    pub skips_far : (i : ℕ) {name next x : ℕ} → r < k.ranges → name ≡ get_or (tables k t).ranges r 0 → First k.parts (key_of parts_by_name (words t)) name (i + 1) next
-        → Skips k.parts (is_non_matching (tables k t) m r) next x → Skips k.parts (chosen (catalogue k m u t) r NonMatching) (i + 1) x
-    skips_far i h q f s =
-        skips_both (skips_outside q f)
-        (record { onward = s.onward; inside = s.inside; none = λ j a b. non_matching_is_chosen j h ∙ s.none j a b })
-
     -- the first non-matching part, as the index keeps it
     pub skips_first : {x : ℕ} (w : Choice) → w ≡ NonMatching → r < k.ranges → FirstNonMatching k.parts (tables k t) m r x
         → Skips k.parts (chosen (catalogue k m u t) r w) 0 x

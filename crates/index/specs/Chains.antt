@@ -1,6 +1,5 @@
 -- Chains through the rows of the catalogue's tables: for each key the first row that has it, and for each row the next one with the same key.
-use Rattle.std.specs.Prelude.{◌≡◌, Bool, true, false, not, cond, ◌&&◌, List, ℕ, ◌+◌, ◌*◌, ◌/◌, ◌%◌, ◌<◌, ◌≤◌, eqb, ltb, get_or, set}
-use Rattle.rules.specs.AtMostOne.{bit}
+use Rattle.std.specs.Prelude.{◌≡◌, Bool, true, false, not, cond, ◌&&◌, List, ℕ, ◌+◌, ◌*◌, ◌<◌, ◌≤◌, eqb, get_or, set}
 use Rattle.rules.specs.Catalogue.{Owner, root, part, no_part}
 use Rattle.words.specs.Words.{words}
 use Rattle.marks.specs.Marks.{is_marked, NextMember, EndOfMembers}
@@ -111,28 +110,8 @@ pub record Noted (k : Counts) (m : List ℕ) (x : ℕ) (t : List ℕ) : Type 0 w
 pub data NonMatchingNoted (k : Counts) (m t : List ℕ) : Type 0 where
   noted : Noted k m k.ranges t → NonMatchingNoted k m t
 
--- of a name a row of 64 numbers: bit p % 16 of number p / 16 is that of part p
-unfoldable pub name_bit : List ℕ → (name p : ℕ) → Bool
-name_bit w x p = bit (p % 16) (get_or w (21252 + 64 * x + p / 16) 0)
-
--- the numbers of all rows: heads without links
-abbrev pub name_rows : Chain
-name_rows = record { key_at = λ a. 21252 + a; head_at = λ a. 21252 + a; link_at = λ a. 21252 + a; row = λ x. x }
-
--- the bit of a part is set in the row of its name alone; of the parts from n on none is set
-pub record NameBits (k : Counts) (n : ℕ) (t : List ℕ) : Type 0 where
-  pub is : (x p : ℕ) → x < k.names → p < 1024 → name_bit (words t) x p ≡ (ltb p n && eqb (key_of parts_by_name (words t) p) x)
-
--- of all parts: closed too
-pub data NamesKnown (k : Counts) (t : List ℕ) : Type 0 where
-  known : NameBits k k.parts t → NamesKnown k t
-
--- x has the bits of the sixteen parts from part 16 q on: that of a part is set if it is a member of range r
-pub record MemberBits (m : List ℕ) (r q x : ℕ) : Type 0 where
-  pub is : (p : ℕ) → p < 1024 → p / 16 ≡ q → bit (p % 16) x ≡ is_marked m r p
-
 -- the chains by name and by owner lead through all rows, the members of every range and the favoured parts of every name are bounded,
--- the first non-matching part of every range is known, and so is the name of each part by the names' bits
+-- and the first non-matching part of every range is known
 pub record Chains (k : Counts) (m t : List ℕ) : Type 0 where
   pub parts : Linked parts_by_name k.parts k.names 0 (words t)
   pub requirements : Linked requirements_by_owner k.requirements (k.parts + 1) 0 (words t)
@@ -140,7 +119,6 @@ pub record Chains (k : Counts) (m t : List ℕ) : Type 0 where
   pub ranges : Bounded k m k.ranges (words t)
   pub favoured : FavouredBounded k t
   pub non_matching_law : NonMatchingNoted k m t
-  pub names : NamesKnown k t
 
 -- names of parts and owners are given
 pub record Keys (k : Counts) (t : List ℕ) : Type 0 where
@@ -182,12 +160,6 @@ pub record Noting (k : Counts) (m : List ℕ) (x : ℕ) (t t' : List ℕ) : Type
   pub same : tables k t' ≡ tables k t
   pub only : Only non_matching_heads 0 k.ranges (words t) (words t')
   pub noted : Noted k m x t'
-
--- the same of the names' bits, those of the parts below n being set
-pub record AddingBits (k : Counts) (n : ℕ) (t t' : List ℕ) : Type 0 where
-  pub same : tables k t' ≡ tables k t
-  pub only : Only name_rows 0 4096 (words t) (words t')
-  pub bits : NameBits k n t'
 
 -- the tables with their chains
 pub record Chained (k : Counts) (m t t' : List ℕ) : Type 0 where

@@ -1,7 +1,9 @@
 // Chains through the catalogue's areas, made once when the catalogue is read: the parts of a name, the requirements and the constraints of an owner,
 // the members of a union. A walk along a chain meets the rows of one key, in file order, and no others; idle rows of a union it passes over.
-// Beside them: bounds of a range's members and of a name's favoured parts, a range's first non-matching part, and the parts of a name as bits.
-ghost use Rattle.std.specs.Prelude.{◌≡◌, [], ◌∷◌, ◌+◌, ◌*◌, ◌^◌, ◌<◌, ◌≤◌, ltb, length, get_or, set};
+// Beside them: bounds of a range's members and of a name's favoured parts, and a range's first non-matching part.
+#![tactic(auto)]
+
+ghost use Rattle.std.specs.Prelude.{◌≡◌, [], ◌∷◌, ◌+◌, ◌*◌, ◌<◌, ◌≤◌, ltb, length, get_or, set};
 ghost use Rattle.rules.specs.Lists.{list_if};
 ghost use Rattle.rules.specs.Candidates.{matching, non_matching};
 ghost use Rattle.words.specs.Words.{words};
@@ -9,7 +11,7 @@ ghost use Rattle.unions.specs.Unions.{no_row, rows};
 ghost use Rattle.kept.specs.Kept.{Given};
 ghost use Rattle.marks.specs.Marks.{NextMember, EndOfMembers};
 ghost use Rattle.cache.specs.Areas.{catalogue, Held};
-ghost use Rattle.cache.specs.Lists.{chosen, choice, CountedTo};
+ghost use Rattle.cache.specs.Lists.{chosen, choice, Counted, CountedTo};
 ghost use Rattle.cache.specs.declared.Choice.TheVariants.{Matching, NonMatching};
 ghost use Rattle.tables.specs.Tables.{tables, Laid};
 ghost use Rattle.index.specs.Chains.{
@@ -33,9 +35,6 @@ ghost use Rattle.index.specs.Chains.{
   is_non_matching,
   FirstNonMatching,
   Noting,
-  NameBits,
-  AddingBits,
-  MemberBits,
   Chains,
   Chained,
   Skips,
@@ -352,39 +351,6 @@ fn note_non_matching(marks: &[u8], t: &mut [u8], k: Counts)
     }
 }
 
-// 2 to the power j.
-fn power_of(j: usize) -> u16
-    requires { j < 16 }
-    ensures { result ≡ 2 ^ j }
-{
-    1 << j
-}
-
-// The bit of part i in the row of its name, those of the parts before it being set.
-fn add_bit(t: &mut [u8], k: Counts, i: usize)
-    requires laid { Laid k (length t.old) × Keyed parts_by_name k.parts k.names (words t.old) }
-    requires name_bits { NameBits k i t.old × (i < k.parts) }
-    ensures { AddingBits k (i + 1) t.old t.new }
-{
-    let name = part_key(t, k, i);
-    let at = 21252 + 64 * name + i / 16;
-    let bits = words::get(t, at);
-    words::put(t, at, bits + power_of(i % 16));
-}
-
-// Those of all parts.
-fn add_bits(t: &mut [u8], k: Counts)
-    requires { Laid k (length t.old) × Keyed parts_by_name k.parts k.names (words t.old) }
-    ensures { AddingBits k k.parts t.old t.new }
-{
-    words::clear_part(t, 21252, 21252 + 64 * k.names);
-    let mut i = 0;
-    while i < k.parts {
-        add_bit(t, k, i);
-        i += 1;
-    }
-}
-
 // The chains through the tables.
 fn chain_tables(marks: &[u8], t: &mut [u8], k: Counts)
     requires laid { Laid k (length t.old) × (65536 ≤ length marks.now) }
@@ -397,7 +363,6 @@ fn chain_tables(marks: &[u8], t: &mut [u8], k: Counts)
     bound_ranges(marks, t, k);
     bound_parts(t, k);
     note_non_matching(marks, t, k);
-    add_bits(t, k);
 }
 
 // ---- the members of unions
@@ -745,59 +710,12 @@ fn next_of_name(marks: &[u8], unions: &[u8], t: &[u8], k: Counts, r: usize, i: u
     member_from(marks, t, k, r, next)
 }
 
-// The members of range r among sixteen parts, the first of which is part 16 q, as bits.
-fn member_bits(marks: &[u8], r: usize, q: usize) -> u16
-    requires { (65536 ≤ length marks.now) × (r < 512) × (q < 64) }
-    ensures { MemberBits marks.now r q result }
-{
-    let at = 128 * r + 2 * q;
-    words::wide(marks[at]) + 256 * words::wide(marks[at + 1])
-}
-
-// The first part outside range r from `from` on, or a part before it: sixteen parts of which each is of another name or a member are passed at once.
-fn outside_from(marks: &[u8], t: &[u8], k: Counts, r: usize, name: usize, from: usize) -> usize
-    requires laid { Laid k (length t.now) × Chains k marks.now t.now × (65536 ≤ length marks.now) }
-    requires r_lt_ranges { (r < k.ranges) × (name < k.names) × (name ≡ get_or (tables k t.now).ranges r 0) × (from ≤ k.parts) }
-    ensures { Skips k.parts (is_non_matching (tables k t.now) marks.now r) from result }
-{
-    let row = 21252 + 64 * name;
-    let mut p = from;
-    while p < k.parts {
-        let q = p / 16;
-        if words::get(t, row + q) != member_bits(marks, r, q) {
-            return p;
-        }
-        p = p + 16 - p % 16;
-    }
-    k.parts
-}
-
-// The next part outside range r behind part i, or a part before it.
+// The next part outside range r behind part i, or a part before it: the next part of its name.
 pub fn next_outside(marks: &[u8], unions: &[u8], t: &[u8], k: Counts, r: usize, i: usize) -> usize
     requires { Held k (length marks.now) (length unions.now) (length t.now) × Chains k marks.now t.now × (r < k.ranges) × (i < k.parts) }
     ensures { Skips k.parts (chosen (catalogue k marks.now unions.now t.now) r NonMatching) (i + 1) result }
 {
-    let name = tables::range_name(t, k, r);
-    let next = next_part(marks, t, k, name, i);
-    if k.names <= name as usize {
-        return next;
-    }
-    outside_from(marks, t, k, r, name as usize, next)
-}
-
-// The next part outside range r behind part i, or how many parts there are.
-fn nearest_outside(marks: &[u8], unions: &[u8], t: &[u8], k: Counts, r: usize, i: usize) -> usize
-    requires { Held k (length marks.now) (length unions.now) (length t.now) × Chains k marks.now t.now × (r < k.ranges) × (i < k.parts) }
-    ensures { Skips k.parts (chosen (catalogue k marks.now unions.now t.now) r NonMatching) (i + 1) result }
-{
-    let mut p = next_outside(marks, unions, t, k, r, i);
-    while p < k.parts {
-        if is_non_matching(marks, t, k, r, p) {
-            return p;
-        }
-        p = next_outside(marks, unions, t, k, r, p);
-    }
-    p
+    next_part(marks, t, k, tables::range_name(t, k, r), i)
 }
 
 // The next one behind part i, or a part before it.
@@ -815,7 +733,7 @@ pub fn next_chosen(
 {
     if r < k.ranges {
         match w {
-            Choice::NonMatching => nearest_outside(marks, unions, t, k, r, i),
+            Choice::NonMatching => next_outside(marks, unions, t, k, r, i),
             Choice::Matching => next_of_name(marks, unions, t, k, r, i),
             Choice::Favoured => favoured_from(marks, t, k, tables::range_name(t, k, r), i + 1),
             Choice::Others => next_of_name(marks, unions, t, k, r, i),
@@ -894,20 +812,13 @@ pub fn matching_count(
     0
 }
 
-// How many non-matching parts, or `most` if it has more.
-pub fn non_matching_count(
-    marks: &[u8],
-    unions: &[u8],
-    t: &[u8],
-    k: Counts,
-    r: usize,
-    most: usize,
-) -> usize
+// How many non-matching parts.
+pub fn non_matching_count(marks: &[u8], unions: &[u8], t: &[u8], k: Counts, r: usize) -> usize
     requires { Held k (length marks.now) (length unions.now) (length t.now) × Chains k marks.now t.now }
-    ensures { CountedTo most result (non_matching (catalogue k marks.now unions.now t.now) r) }
+    ensures { Counted result (non_matching (catalogue k marks.now unions.now t.now) r) }
 {
     let first = first_chosen(marks, unions, t, k, r, Choice::NonMatching);
-    count(marks, unions, t, k, r, Choice::NonMatching, first, most)
+    count(marks, unions, t, k, r, Choice::NonMatching, first, 1024)
 }
 
 // Has range r a non-matching part? Its row tells.

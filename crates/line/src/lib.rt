@@ -1,4 +1,6 @@
 // The task line of a run, and tasks as numbers.
+#![tactic(auto)]
+
 ghost use Rattle.std.specs.Prelude.{◌≡◌, ◌+◌, ◌<◌, length};
 ghost use Rattle.state.specs.Layout.{held, Fits};
 ghost use Rattle.line.specs.Line.{line_at, Queued};
@@ -7,7 +9,7 @@ ghost use Rattle.line.specs.Tasks.{task_of};
 use state::Limits;
 
 // By number: an owner's is its part's, or 1,024 for the root; a drawn entry's is its place among the drawn ones.
-#[derive(Drop)]
+#[derive(Clone, Copy)]
 pub enum Task {
     Owner(u16),
     Name(u16),

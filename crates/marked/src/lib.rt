@@ -1,4 +1,6 @@
 // Lists with marks in the state area: the list in one region, and in another a mark for each number that is listed.
+#![tactic(auto)]
+
 ghost use Rattle.std.specs.Prelude.{◌≡◌, ◌<◌, length, get_or};
 ghost use Rattle.state.specs.Layout.{held, Fits};
 ghost use Rattle.marked.specs.Marked.{listed, is_marked, Marked, Free, Pushed, Emptied};

@@ -1,4 +1,6 @@
 // Members of ranges: a bit for each of 512 ranges and 1,024 parts in a lent area of bytes.
+#![tactic(auto)]
+
 ghost use Rattle.std.specs.Prelude.{◌≡◌, ◌+◌, ◌*◌, ◌^◌, ◌<◌, ◌≤◌, length};
 ghost use Rattle.rules.specs.AtMostOne.{bit};
 ghost use Rattle.marks.specs.Marks.{NextMember, EndOfMembers, is_marked, WithBit, Marked, Cleared};

@@ -1,6 +1,8 @@
 // Single steps of the encoder: an owner or a name is opened, a task is queued, a part is named for tracking, a name is
 // served with several allowed, an entry waits, an origin gets its variable. A step that would pass a limit does nothing but say that it is full;
 // once it is full no step does anything.
+#![tactic(auto)]
+
 ghost use Rattle.std.specs.Prelude.{◌≡◌, true, List, ℕ, ◌<◌, ◌≤◌, length};
 ghost use Rattle.rules.specs.Lists.{elem, snoc};
 ghost use Rattle.rules.specs.Catalogue.{Catalogue};

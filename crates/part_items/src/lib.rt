@@ -1,5 +1,7 @@
 // The catalogue's names, parts, ranges and members: the refusals 3, 4 and 5 of each in their order, and its effect on the tables and marks.
 // A part that is the second locked or favoured one of its name is told by a byte for each name and flag, and where that does not tell by a search.
+#![tactic(auto)]
+
 ghost use Rattle.std.specs.Prelude.{◌≡◌, ◌&&◌, ◌<◌, ◌≤◌, eqb, length, get_or};
 ghost use Rattle.rules.specs.Catalogue.{no_part, part_at};
 ghost use Rattle.rules.specs.Records.{Item};
@@ -15,7 +17,7 @@ use refusal::{Contradiction, Refusal, Thing};
 use tables::Counts;
 
 // A flag that one part of a name may have.
-#[derive(Drop)]
+#[derive(Clone, Copy)]
 enum Flag {
     Locked,
     Favoured,

@@ -4,7 +4,7 @@ use Prim.Native.Nat.{ℕ, ◌<◌, ◌^◌}
 use mathlib.Core.List.{List, [], ◌∷◌}
 use lib.ListN.{length}
 use seplogic.Ra.Ura.{Ura}
-use mir.Syntax.{named, w64}
+use mir.Syntax.{named, w8, w64}
 use mir.Val.{Val}
 use base.Logic.{ent, sep}
 use base.Fml.{Lft, Fml}
@@ -13,7 +13,7 @@ use contract.Lifetimes.{Lfts}
 use types.Kit.{‵, ◌⊛◌, given, ◌$◌, ◌∵◌, !, qed, move, drop, use1, split, learn, fjoin, done}
 use denote.RattleType.{RattleType}
 use denote.Laws.{Is}
-use denote.Plain.{uint_Makes}
+use denote.Plain.{uint_Makes, uint_row_laws}
 use denote.Builtin.{u8, usize}
 use denote.Ref.{Bor}
 use denote.Signature.{named_lft}
@@ -63,7 +63,7 @@ module _ {M : Type 1} {𝓤 : Ura M} (𝓛 : Logic 𝓤) (κ : Lft) where
 
   pub puts_together : (s : Bor (List ℕ)) (n : ℕ) → n < 2 ^ 64 → ent 𝓤 (sem 𝓛 (OfJob κ s)) (sep 𝓤 (sem 𝓛 (OfReader κ (record { job = s; at = n }))) (sem 𝓛 (OfJob κ s)))
   puts_together s n fits =
-      qed 𝓛 (‵ (OfJob κ s) ∷ []) ∵ use1 𝓛 (‵ (OfJob κ s) ⊛ ‵ (OfJob κ s)) ((shr_slice_copy 𝓛 (named 0) κ u8).twice s (machine s ∷ [])) $ split ! $
+      qed 𝓛 (‵ (OfJob κ s) ∷ []) ∵ use1 𝓛 (‵ (OfJob κ s) ⊛ ‵ (OfJob κ s)) ((shr_slice_copy 𝓛 (named 0) κ u8 (uint_row_laws w8)).twice s (machine s ∷ [])) $ split ! $
       nothing ! $ owned ! usize (Is usize) (uint_Makes 𝓛 w64) n _ (refl, fits) $ fjoin ! $ move ! (1 ∷ 0 ∷ []) $ fjoin ! $
       -- [what the fields own together; what job owns]
       use1 𝓛 (‵ (OfReader κ (record { job = s; at = n }))) (own_shut 𝓛 (D (κ, tt)) (L (κ, tt)) (s, (n, tt))) $ done !

@@ -1,5 +1,7 @@
 // Job bytes to records: one byte of kind, then a body whose length the kind fixes. Refusals 2 and 1.
 // A `Reader` carries the lent job with its position: its functions take it apart and call a function on the slice and the number.
+#![tactic(auto)]
+
 ghost use Rattle.std.specs.Prelude.{◌≡◌, ◌+◌, ◌*◌, ◌<◌, ◌≤◌, ◌-◌, length, take, drop, get_or, not, ◌&&◌};
 ghost use Rattle.rules.specs.Bytes.{byte_at, word_at};
 ghost use Rattle.rules.specs.Records.{of_sheet, read};

@@ -1,11 +1,8 @@
 -- What the enums stand for in the definitions.
 use Rattle.rules.specs.Refusals as rules
 use Rattle.refusal.specs.declared.Thing.{Thing}
-use Rattle.refusal.specs.declared.Thing.TheVariants as Thing
 use Rattle.refusal.specs.declared.Contradiction.{Contradiction}
-use Rattle.refusal.specs.declared.Contradiction.TheVariants as Contradiction
 use Rattle.refusal.specs.declared.Refusal.{Refusal}
-use Rattle.refusal.specs.declared.Refusal.TheVariants as Refusal
 
 unfoldable pub thing_of : Thing → rules.Thing
 thing_of Thing.Name = rules.Thing.name

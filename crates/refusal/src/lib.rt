@@ -1,10 +1,12 @@
 // What is wrong with a job, case by case, and the number and place that the paper gives it.
+#![tactic(auto)]
+
 ghost use Rattle.std.specs.Prelude.{◌≡◌};
 ghost use Rattle.rules.specs.Refusals.{number_and_place};
 ghost use Rattle.refusal.specs.Refusing.{refusal_of};
 
 // What a catalogue gives by number.
-#[derive(Drop)]
+#[derive(Clone, Copy)]
 pub enum Thing {
     Name,
     Part,
@@ -15,7 +17,7 @@ pub enum Thing {
     Constraint,
 }
 
-#[derive(Drop)]
+#[derive(Clone, Copy)]
 pub enum Contradiction {
     OtherBits,
     SecondLocked,
@@ -28,7 +30,7 @@ pub enum Contradiction {
     OtherValue,
 }
 
-#[derive(Drop)]
+#[derive(Clone, Copy)]
 pub enum Refusal {
     Unfit,
     Overlong,
@@ -49,7 +51,7 @@ pub enum Refusal {
 }
 
 // A refusal's number and place.
-#[derive(Drop)]
+#[derive(Clone, Copy)]
 pub struct Told {
     pub number: u8,
     pub place: usize,

@@ -70,6 +70,10 @@ in_earlier w start size start' size' i v q =
 -- a region ends where a later one starts, or before
 pub follows : (sizes : Layout) (i j : ℕ) → i < j → start_of sizes i + size_of sizes i ≤ start_of sizes j
 unfolding start_of size_of sum
+follows [] zero zero h = elim h [ ]
+follows [] (suc i) zero h = elim h [ ]
+follows (s ∷ sizes) zero zero h = elim h [ ]
+follows (s ∷ sizes) (suc i) zero h = elim h [ ]
 follows [] zero (suc j) h = omega arith
 follows [] (suc i) (suc j) h = omega arith
 follows (s ∷ sizes) zero (suc j) h = omega arith

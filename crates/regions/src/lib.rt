@@ -1,4 +1,6 @@
 // Numbers of a part of a lent area: it starts at number `start` and has `size` numbers. Past its end nothing is read or stored.
+#![tactic(auto)]
+
 ghost use Rattle.std.specs.Prelude.{◌≡◌, ◌+◌, ◌*◌, ◌<◌, ◌≤◌, length, get_or};
 ghost use Rattle.words.specs.Words.{words};
 ghost use Rattle.regions.specs.Regions.{part, set_in};

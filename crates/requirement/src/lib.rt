@@ -1,17 +1,19 @@
 // Requirements, after requirement.rs and conditional_requirement.rs: a goal, and a goal with its owner and condition.
+#![tactic(auto)]
+
 ghost use Rattle.std.specs.Prelude.{◌≡◌};
 ghost use Rattle.rules.specs.Items as rules;
 ghost use Rattle.requirement.specs.Requirements.{goal_of, form_of, number_of};
 
 // What is asked for: a range or a union, by its number.
-#[derive(Drop)]
+#[derive(Clone, Copy)]
 pub enum Requirement {
     Single(u16),
     Union(u16),
 }
 
 // A requirement of an owner (65,535 the root) under a condition (65,535 none).
-#[derive(Drop)]
+#[derive(Clone, Copy)]
 pub struct ConditionalRequirement {
     pub owner: u16,
     pub requirement: Requirement,

@@ -1,5 +1,7 @@
 // The catalogue's unions, conditions, requirements and constraints: the refusals 3, 4, 5 and 6 of each in their order, and its effect.
 // An owner or a condition is a number below its count, or 65,535.
+#![tactic(auto)]
+
 ghost use Rattle.std.specs.Prelude.{◌≡◌, ◌&&◌, ◌<◌, eqb, leb};
 ghost use Rattle.rules.specs.Catalogue.{unknown_owner};
 ghost use Rattle.rules.specs.Records.{Item};

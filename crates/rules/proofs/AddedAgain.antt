@@ -162,6 +162,7 @@ module _ (l : Limits) (c : Catalogue) where
 
   all_alike : {level : ℕ} (ks : List Command) → Command.run level ∈ ks → {o : Owner} {s s' : State} → Alike o s s' → carried_out_all l c ks s' ≡ carried_out_all l c ks s
   unfolding fold
+  all_alike [] m h = elim m [ ]
   all_alike (k ∷ ks) (Memᴰ.head q) h = rw (← q) (ap (carried_out_all l c ks) (run_alike l c _ h))
   all_alike (k ∷ ks) (Memᴰ.tail m) h = all_alike ks m (after_alike l c k h)
 

@@ -7,11 +7,11 @@ use mathlib.Core.List.{List, [], ◌∷◌, ◌++◌, map}
 use Prim.Native.Nat.{ℕ}
 use Rattle.rules.specs.Lists.{any, list_if}
 use Rattle.rules.specs.Clause.{Clause, gated, aux_out}
-use Rattle.rules.specs.Catalogue.{Owner, part, Goal, Catalogue, part_at, range_name, owner_at, goal_at}
+use Rattle.rules.specs.Catalogue.{Owner, part, root, Goal, Catalogue, part_at, range_name, owner_at, goal_at}
 use Rattle.rules.specs.Candidates.{non_matching, candidates, locked_part, locked_out, excluded_parts}
 use Rattle.rules.specs.Conditions.{disjunct_at}
 use Rattle.rules.specs.Variables.{Origin, chosen, one, violation, gate, known, variable_of, part_origin, part_variable}
-use Rattle.rules.specs.Opening.{Task, owner, name, requirement, constraint}
+use Rattle.rules.specs.Opening.{Task, owner, name, condition, requirement, constraint}
 use Rattle.rules.specs.Encoding.{Shape, direct, through_gate, on_firing, shape_of, few, range_origins, disjunct_origins, shape_origins, constraint_origins, task_origins, requirement_clauses, constraint_clauses, task_clauses}
 use Rattle.rules.specs.Called.{◌∈◌, constraint_range}
 use Rattle.rules.proofs.MemberLaws.{of_list_if, of_concat_map}
@@ -38,6 +38,7 @@ module _ (c : Catalogue) where
 
   shape_asks : (f : Shape) (q : ℕ) (is : List ℕ) {x : Origin} → shape_of c q ≡ f → x ∈ shape_origins c f q is → Asks c (requirement q is) x
   unfolding shape_origins disjunct_origins
+  shape_asks direct q is e m = elim m [ ]
   shape_asks through_gate q is e m = rw (Memᴰ.eq_of_singleton m) (for_gate e)
   shape_asks on_firing q is e m =
       let i = of_concat_map _ is m in
@@ -53,7 +54,9 @@ module _ (c : Catalogue) where
   pub asks : (t : Task) {x : Origin} → x ∈ task_origins c t → Asks c t x
   unfolding task_origins
   asks (owner (part p)) m = for_part (p ∷ []) (of_list_if (part_at c p).unknown _ m).1
+  asks (owner root) m = elim m [ ]
   asks (name n) m = for_part (locked_part c n ++ (locked_out c n ++ excluded_parts c n)) m
+  asks (condition q) m = elim m [ ]
   asks (requirement q is) m =
       ⊎_elim (λ e. rw e for_owner)
       (λ m. ⊎_elim (for_part (candidates c (goal_at c q))) (shape_asks (shape_of c q) q is refl) (Memᴰ.append_cases (map part_origin (candidates c (goal_at c q))) m))
@@ -98,7 +101,9 @@ module _ (c : Catalogue) (vs ws : List Origin) where
   pub task_whole : (t : Task) {k : Clause} → k ∈ task_clauses c vs ws t → k ∈ task_clauses c [] ws t
   unfolding task_clauses
   task_whole (owner (part p)) m = m
+  task_whole (owner root) m = elim m [ ]
   task_whole (name n) m = m
+  task_whole (condition q) m = elim m [ ]
   task_whole (requirement q is) m = requirement_whole (shape_of c q) (owner_at c q) (goal_at c q) q is m
   task_whole (constraint k) m = constraint_whole (few (non_matching c (constraint_range c k))) _ (constraint_range c k) m
 
@@ -120,7 +125,9 @@ module _ (c : Catalogue) (vs ws : List Origin) where
   pub task_once : (t : Task) {k : Clause} → k ∈ task_clauses c [] ws t → (k ∈ task_clauses c vs ws t) ⊎ Shared c vs ws k
   unfolding task_clauses
   task_once (owner (part p)) m = inl m
+  task_once (owner root) m = elim m [ ]
   task_once (name n) m = inl m
+  task_once (condition q) m = elim m [ ]
   task_once (requirement q is) m = requirement_once (shape_of c q) (owner_at c q) (goal_at c q) q is m
   task_once (constraint k) m = constraint_once (few (non_matching c (constraint_range c k))) _ (constraint_range c k) m
 

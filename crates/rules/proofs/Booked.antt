@@ -90,7 +90,7 @@ module _ (c : Catalogue) where
   -- the lists that the books do not read change
   unread : {done log all : List Task} {drawn : List (ℕ × ℕ)} {o : Opening} {d : List (ℕ × ℕ)} {ws : List Owner} {ns ts : List ℕ} {l : List Task}
       → Books c done log all drawn o → Books c done log all drawn (set_drawn d (set_added ws (set_named ns (set_tracked ts (set_line l o)))))
-  unread b = record {
+  unread {o} {d} {ws} {ns} {ts} {l} b = let o' = set_drawn d (set_added ws (set_named ns (set_tracked ts (set_line l o)))) in record {
     owner_queued = b.owner_queued;
     name_queued = b.name_queued;
     several_from = b.several_from;
@@ -98,8 +98,8 @@ module _ (c : Catalogue) where
     fired_from = b.fired_from;
     waiting_from = b.waiting_from;
     drawn_from = b.drawn_from;
-    called_for = λ t m. called_onward _ _ ⊆-refl ⊆-refl ⊆-refl t (b.called_for t m);
-    completed = λ t m. done_onward (record { tasks = ⊆-refl; several = ⊆-refl; handled = ⊆-refl; fired = ⊆-refl; placed = λ q i p. p }) t (b.completed t m);
+    called_for = λ t m. called_onward o o' ⊆-refl ⊆-refl ⊆-refl t (b.called_for t m);
+    completed = λ t m. done_onward {o = o} {o' = o'} (record { tasks = ⊆-refl; several = ⊆-refl; handled = ⊆-refl; fired = ⊆-refl; placed = λ q i p. p }) t (b.completed t m);
   }
 
   -- of more owners, or names, only those that new tasks open
@@ -117,7 +117,7 @@ module _ (c : Catalogue) where
   more_tasks : {done log all : List Task} {drawn : List (ℕ × ℕ)} {o : Opening} {ws : List Owner} {ns : List ℕ} {l : List Task} (new : List Task)
       → Extends owner new o.owners ws → Extends name new o.names ns → ((t : Task) → t ∈ new → CalledFor c log (set_owners ws (set_names ns o)) t)
       → Books c done log all drawn o → Books c done log (all ++ new) drawn (set_owners ws (set_names ns (set_line l o)))
-  more_tasks {all} {o} {ws} {ns} {l} new owners names calls b = record {
+  more_tasks {all} {o} {ws} {ns} {l} new owners names calls b = let o' = set_owners ws (set_names ns (set_line l o)) in record {
     owner_queued = λ w m. ⊎_elim (λ k. in_left new (b.owner_queued w k)) (λ k. in_right all k) (owners.fresh w m);
     name_queued = λ n m. ⊎_elim (λ k. in_left new (b.name_queued n k)) (λ k. in_right all k) (names.fresh n m);
     several_from = b.several_from;
@@ -126,9 +126,9 @@ module _ (c : Catalogue) where
     waiting_from = b.waiting_from;
     drawn_from = b.drawn_from;
     called_for = λ t m. ⊎_elim
-        (λ k. called_onward o _ ⊆-refl owners.kept names.kept t (b.called_for t k))
-        (λ k. called_onward (set_owners ws (set_names ns o)) _ ⊆-refl ⊆-refl ⊆-refl t (calls t k)) (in_either all m);
-    completed = λ t m. done_onward (record { tasks = λ u k. in_left new k; several = ⊆-refl; handled = ⊆-refl; fired = ⊆-refl; placed = placed }) t
+        (λ k. called_onward o o' ⊆-refl owners.kept names.kept t (b.called_for t k))
+        (λ k. called_onward (set_owners ws (set_names ns o)) o' ⊆-refl ⊆-refl ⊆-refl t (calls t k)) (in_either all m);
+    completed = λ t m. done_onward {o = o} {o' = o'} (record { tasks = λ u k. in_left new k; several = ⊆-refl; handled = ⊆-refl; fired = ⊆-refl; placed = placed }) t
         (b.completed t m);
   }
     where
@@ -142,7 +142,7 @@ module _ (c : Catalogue) where
       → ((q i : ℕ) → (q, i) ∈ waiting' → EntryFrom c log q i) → ((q i : ℕ) → (q, i) ∈ drawn' → EntryFrom c log q i)
       → ((q i : ℕ) → Placed all o.waiting drawn q i → Placed all waiting' drawn' q i)
       → Books c done log all drawn o → Books c done log all drawn' (set_waiting waiting' o)
-  moved {o} waiting drawn placed b = record {
+  moved {waiting' = ws} {o = o} waiting drawn placed b = let o' = set_waiting ws o in record {
     owner_queued = b.owner_queued;
     name_queued = b.name_queued;
     several_from = b.several_from;
@@ -150,8 +150,8 @@ module _ (c : Catalogue) where
     fired_from = b.fired_from;
     waiting_from = waiting;
     drawn_from = drawn;
-    called_for = λ t k. called_onward o _ ⊆-refl ⊆-refl ⊆-refl t (b.called_for t k);
-    completed = λ t k. done_onward (record { tasks = ⊆-refl; several = ⊆-refl; handled = ⊆-refl; fired = ⊆-refl; placed = placed }) t (b.completed t k);
+    called_for = λ t k. called_onward o o' ⊆-refl ⊆-refl ⊆-refl t (b.called_for t k);
+    completed = λ t k. done_onward {o = o} {o' = o'} (record { tasks = ⊆-refl; several = ⊆-refl; handled = ⊆-refl; fired = ⊆-refl; placed = placed }) t (b.completed t k);
   }
 
   -- a requirement's task is in the line: its disjuncts are drawn no longer
@@ -186,7 +186,7 @@ module _ (c : Catalogue) where
   noted : {done log all : List Task} {drawn : List (ℕ × ℕ)} {o : Opening} (n : ℕ) → name n ∈ log → several_allowed c n ≡ true
       → Books c done log all drawn o → Books c done log all drawn (set_several (snoc o.several n) o)
   unfolding snoc
-  noted {o} n m e b = record {
+  noted {o} n m e b = let o' = set_several (snoc o.several n) o in record {
     owner_queued = b.owner_queued;
     name_queued = b.name_queued;
     several_from = λ p k. ⊎_elim (b.several_from p) (λ (a : p ≡ n). rw a (m, e)) (before_or_end o.several k);
@@ -194,8 +194,8 @@ module _ (c : Catalogue) where
     fired_from = b.fired_from;
     waiting_from = b.waiting_from;
     drawn_from = b.drawn_from;
-    called_for = λ t k. called_onward o _ ⊆-refl ⊆-refl ⊆-refl t (b.called_for t k);
-    completed = λ t k. done_onward (record { tasks = ⊆-refl; several = λ p n. in_left _ n; handled = ⊆-refl; fired = ⊆-refl; placed = λ q i p. p }) t
+    called_for = λ t k. called_onward o o' ⊆-refl ⊆-refl ⊆-refl t (b.called_for t k);
+    completed = λ t k. done_onward {o = o} {o' = o'} (record { tasks = ⊆-refl; several = λ p n. in_left _ n; handled = ⊆-refl; fired = ⊆-refl; placed = λ q i p. p }) t
         (b.completed t k);
   }
 
@@ -203,7 +203,7 @@ module _ (c : Catalogue) where
   marked : {done log all : List Task} {drawn : List (ℕ × ℕ)} {o : Opening} (q : ℕ) (is : List ℕ) → requirement q is ∈ log
       → Books c done log all drawn o → Books c done log all drawn (mark_handled q is o)
   unfolding mark_handled snoc
-  marked {o} q is m b = record {
+  marked {o} q is m b = let o' = mark_handled q is o in record {
     owner_queued = b.owner_queued;
     name_queued = b.name_queued;
     several_from = b.several_from;
@@ -211,8 +211,8 @@ module _ (c : Catalogue) where
     fired_from = λ p i k. ⊎_elim (b.fired_from p i) (λ n. let x = entries_out q is n in (is, rw x.0 m, x.1)) (in_either o.fired k);
     waiting_from = b.waiting_from;
     drawn_from = b.drawn_from;
-    called_for = λ t k. called_onward o _ ⊆-refl ⊆-refl ⊆-refl t (b.called_for t k);
-    completed = λ t k. done_onward (record { tasks = ⊆-refl; several = ⊆-refl; handled = λ p n. in_left _ n; fired = λ e n. in_left _ n; placed = λ q i p. p }) t
+    called_for = λ t k. called_onward o o' ⊆-refl ⊆-refl ⊆-refl t (b.called_for t k);
+    completed = λ t k. done_onward {o = o} {o' = o'} (record { tasks = ⊆-refl; several = ⊆-refl; handled = λ p n. in_left _ n; fired = λ e n. in_left _ n; placed = λ q i p. p }) t
         (b.completed t k);
   }
 

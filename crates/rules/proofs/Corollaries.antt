@@ -94,7 +94,7 @@ module _ (t : Terms) (job : List ℕ) where
   decisions_walked at Each.nil h h' = let e = leads_once h h' in (e.0, rw e.1 (record { is = refl }))
   decisions_walked at (Each.cons {x = o} d ds) {c} {s} h h' =
       let q = walk_passes t job at o _ h (leads_goes h') in
-      let r = decisions_walked _ ds carried (rw (walk_passed t job at o _ h q) at h') in
+      let r = decisions_walked (at + length (bytes_of o)) ds carried (rw (walk_passed t job at o _ h q) at h') in
       (r.0, redecided_then (only_decisions t.limits c d s) r.1)
 
 -- Of the bytes of decide and undo records behind those of an accepted job. The job so made is taken to be accepted: a record of it may be
@@ -144,9 +144,10 @@ module _ (t : Terms) (job job' : List ℕ) (c : Catalogue) where
   alike_walked : (at at' : ℕ) {level : ℕ} (ks : List Command) → Command.run level ∈ ks → {o : Owner} {s s' : State} → Alike o s s'
       → SameEnd at at' (concat_map bytes_of ks) s s'
   unfolding concat_map
+  alike_walked at at' [] m h = elim m [ ]
   alike_walked at at' (k ∷ ks) (Memᴰ.head q) h =
       command_walked at at' k _ h (rw (← q) (λ g. rw (run_alike t.limits c _ h) (walk_elsewhere t job job' _ _ (concat_map bytes_of ks) _ g)))
-  alike_walked at at' (k ∷ ks) (Memᴰ.tail m) h = command_walked at at' k _ h (alike_walked _ _ ks m (after_alike t.limits c k h))
+  alike_walked at at' (k ∷ ks) (Memᴰ.tail m) h = command_walked at at' k _ h (alike_walked (at + length (bytes_of k)) (at' + length (bytes_of k)) ks m (after_alike t.limits c k h))
 
 -- The bytes `first` lead to c and s, in which the owner of number n is added or opened. Behind them stand an add of it and other commands,
 -- with a run among them; or those commands alone.

@@ -65,6 +65,7 @@ module _ {A : Type 0} {P : A → Type 0} where
   each_at (Each.cons p ps) (suc i) d l = each_at ps i d (le_of_suc-le-suc l)
 
   pub each_out : {xs : List A} → Each P xs → {x : A} → Memᴰ x xs → P x
+  each_out Each.nil m = elim m [ ]
   each_out (Each.cons p ps) (Memᴰ.head e) = rw e p
   each_out (Each.cons p ps) (Memᴰ.tail m) = each_out ps m
 

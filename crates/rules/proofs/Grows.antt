@@ -14,7 +14,7 @@ use Rattle.rules.specs.Catalogue.{Owner, part, Catalogue, range_name, goal_at}
 use Rattle.rules.specs.Candidates.{candidates}
 use Rattle.rules.specs.Variables.{Origin, with_variable, with_variables}
 use Rattle.rules.specs.Opening.{Task, owner, name, condition, requirement, constraint, Opening, set_added, set_drawn, queue, open_owner, open_name, open_names, ranges_of, ranges_first, tasks_of, serve_owner, serve_name, fire, serve_condition, fired_parts, name_for_tracking, open_ready, mark_handled, serve_requirement, serve, begin_run, end_run}
-use Rattle.rules.specs.Encoding.{Event, served, origins, clauses}
+use Rattle.rules.specs.Encoding.{Event, served, origins}
 use Rattle.rules.specs.State.{State, set_opening, decided_true, Run, emit, emit_all}
 use Rattle.rules.specs.Run.{line_taken, serve_task, serve_line, join_all, link_all, begun, run_once}
 use Rattle.rules.specs.Limits.{Limits, above}

@@ -112,7 +112,7 @@ walk_on t job job' (suc skip) at at' (b ∷ bs) more p h g =
 walk_on t job job' zero at at' (b ∷ bs) more p h g =
     let r = step_goes t job job' at at' b bs more p (went t job _ (suc at) bs _ g) in
     ap (walk (run_step t job') (body_of (kind_of b)) (suc at') (bs ++ more)) r.1
-    ∙ rw (next_place at' (length bs)) (walk_on t job job' _ (suc at) (suc at') bs more _ r.0 g)
+    ∙ rw (next_place at' (length bs)) (walk_on t job job' (body_of (kind_of b)) (suc at) (suc at') bs more _ r.0 g)
 
 -- the same bytes elsewhere, in another job
 pub walk_elsewhere : (t : Terms) (job job' : List ℕ) (at at' : ℕ) (bs : List ℕ) (p : Progress) → Goes (walk (run_step t job) 0 at bs p)
@@ -161,12 +161,16 @@ reads_back (Command.run level) = record { kind = Kind.run; row = refl; of_sheet_
 reads_back (Command.decide x value level) = record { kind = Kind.decide; row = refl; of_sheet_law = refl; is_read = rw (word_back x, word_back level) }
 reads_back (Command.undo level) = record { kind = Kind.undo; row = refl; of_sheet_law = refl; is_read = rw (word_back level) }
 
+read_whole : (k : Kind) (n : ℕ) (rest : List ℕ) → n ≤ length rest → read_kind false (some (k, n)) rest ≡ ok (record_of k (take n rest))
+unfolding read_kind read_body
+read_whole k n rest h = rw (le-ltb _ _ h)
+
 read_back : (begun : Bool) (o : Command) (rest : List ℕ) → read begun (kind_byte o) (body_bytes o ++ rest) ≡ ok (sheet o)
-unfolding read read_kind read_body
+unfolding read
 read_back begun o rest =
     let r = reads_back o in
     let whole : length (body_bytes o) ≤ length (body_bytes o ++ rest) = rw (length-append (body_bytes o) rest) (omega arith) in
-    rw (r.of_sheet_law, and_false begun, r.row, read_kind, le-ltb _ _ whole, take-append_seam (body_bytes o) rest, r.is_read)
+    rw (r.of_sheet_law, and_false begun, r.row, read_whole _ _ _ whole, take-append_seam (body_bytes o) rest, r.is_read)
 
 -- the records so far have led to this catalogue and this state
 pub data Leads : Catalogue → State → Progress → Type 0 where

@@ -50,6 +50,7 @@ helper_every y j i (x ∷ xs) (suc m) l = rw (add-suc, ← suc-add) (Memᴰ.tail
 
 helper_only : (y j i : ℕ) (xs : List ℕ) {k : Clause} → k ∈ helper_clauses y j i xs → (m : ℕ) × (m < length xs) × (k ≡ agrees (get_or xs m 0) y (bit j (i + m)))
 unfolding helper_clauses
+helper_only y j i [] m = elim m [ ]
 helper_only y j i (x ∷ xs) (Memᴰ.head q) = (zero, suc-le-suc zero-le, rw add-zero q)
 helper_only y j i (x ∷ xs) (Memᴰ.tail m) = let r = helper_only y j (suc i) xs m in (suc r.0, suc-le-suc r.1, rw (add-suc, ← suc-add) r.2)
 
@@ -62,6 +63,7 @@ helpers_every j (y ∷ ys) xs (suc m) i l h = Memᴰ.append_right (helper_clause
 helpers_only : (j : ℕ) (ys xs : List ℕ) {k : Clause} → k ∈ helpers_clauses j ys xs
     → (m : ℕ) × (i : ℕ) × (m < length ys) × (i < length xs) × (k ≡ agrees (get_or xs i 0) (get_or ys m 0) (bit (j + m) i))
 unfolding helpers_clauses
+helpers_only j [] xs m = elim m [ ]
 helpers_only j (y ∷ ys) xs m =
     ⊎_elim (λ m. let r = helper_only y j 0 xs m in (zero, r.0, suc-le-suc zero-le, r.1, rw add-zero (rw (zero-add r.0) at r.2)))
     (λ m. let r = helpers_only (suc j) ys xs m in (suc r.0, r.1, suc-le-suc r.2, r.3, rw (add-suc, ← suc-add) r.4))
@@ -75,6 +77,7 @@ part_every x i j (y ∷ ys) (suc m) l = rw (add-suc, ← suc-add) (Memᴰ.tail (
 
 part_only : (x i j : ℕ) (ys : List ℕ) {k : Clause} → k ∈ part_clauses x i j ys → (m : ℕ) × (m < length ys) × (k ≡ agrees x (get_or ys m 0) (bit (j + m) i))
 unfolding part_clauses
+part_only x i j [] m = elim m [ ]
 part_only x i j (y ∷ ys) (Memᴰ.head q) = (zero, suc-le-suc zero-le, rw add-zero q)
 part_only x i j (y ∷ ys) (Memᴰ.tail m) = let r = part_only x i (suc j) ys m in (suc r.0, suc-le-suc r.1, rw (add-suc, ← suc-add) r.2)
 

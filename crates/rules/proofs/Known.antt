@@ -17,6 +17,7 @@ use Rattle.rules.proofs.Places.{origin_same, origin_self}
 
 pub in_known : {x : Origin} (vs : List Origin) → x ∈ vs → known vs x ≡ true
 unfolding known any
+in_known [] m = elim m [ ]
 in_known {x} (v ∷ vs) (Memᴰ.head q) = rw (← q, origin_self x)
 in_known {x} (v ∷ vs) (Memᴰ.tail m) = or_right (same_origin x v) (in_known vs m)
   where

@@ -108,7 +108,7 @@ module _ (c : Catalogue) (r : Run) where
 
     pub served_after : {n m : ℕ} {ts : List Task} {s s' : State} → After ts₀ s₀ n ts s → Served m ts s s' → After ts₀ s₀ (n + m) [] s'
     served_after {n} a done = rw (add-zero n) a
-    served_after {n} a (next {n = m} p) = rw (add-suc n m, ← suc-add n m) (served_after (serves a) p)
+    served_after {n} a (next {n = m} p) = rw (add-suc n m, ← suc-add n m) (served_after {n = suc n} (serves a) p)
 
     -- what fuel leads to is a point of the run
     pub serve_line_after : (fuel : ℕ) {n : ℕ} {ts : List Task} {s : State} → After ts₀ s₀ n ts s

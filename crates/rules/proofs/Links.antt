@@ -12,7 +12,7 @@ use borrow.Author.Tests.{ltb-true, ltb-false}
 use Rattle.rules.specs.Lists.{concat_map}
 use Rattle.rules.specs.Clause.{Clause}
 use Rattle.rules.specs.Catalogue.{Catalogue, root}
-use Rattle.rules.specs.Variables.{Origin, chosen, one, known, variable_of, part_origin}
+use Rattle.rules.specs.Variables.{Origin, chosen, one, forbid, violation, gate, known, variable_of, part_origin}
 use Rattle.rules.specs.Opening.{Task, tracked_of}
 use Rattle.rules.specs.Encoding.{Event, links, origins, clauses}
 use Rattle.rules.specs.Run.{name_if_one, links_for}
@@ -25,7 +25,11 @@ use Rattle.rules.proofs.Encoded.{by_joining, Numbered, one_clause, Source, of_st
 
 of_name_if_one : {n : ℕ} (x : Origin) → n ∈ name_if_one x → x ≡ one n
 unfolding name_if_one
+of_name_if_one (chosen o) m = elim m [ ]
 of_name_if_one (one n) m = ap one (sym (Memᴰ.eq_of_singleton m))
+of_name_if_one (forbid n j) m = elim m [ ]
+of_name_if_one (violation r) m = elim m [ ]
+of_name_if_one (gate g) m = elim m [ ]
 
 module _ (c : Catalogue) (new : List Origin) (tracked : List ℕ) where
   data Link : Event → Type 0 where

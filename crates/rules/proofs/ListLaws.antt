@@ -237,6 +237,7 @@ module _ {A : Type 0} (f g : A → ℕ) where
   -- and less by k, if one of the numbers is
   pub sum_falls : ((x : A) → f x ≤ g x) → (y : A) (k : ℕ) → f y + k ≤ g y → (xs : List A) → Memᴰ y xs → sum (map f xs) + k ≤ sum (map g xs)
   unfolding sum
+  sum_falls h y k e [] m = elim m [ ]
   sum_falls h y k e (x ∷ xs) (Memᴰ.head q) = let here : f x + k ≤ g x = rw q at e in omega (arith, sum_le h xs)
   sum_falls h y k e (x ∷ xs) (Memᴰ.tail m) = omega (arith, h x, sum_falls h y k e xs m)
 

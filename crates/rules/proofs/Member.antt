@@ -41,6 +41,7 @@ implies_in false b f = refl
 module _ {A : Type 0} (f : A → Bool) where
   pub all_out : (xs : List A) → all f xs ≡ true → (x : A) → x ∈ xs → f x ≡ true
   unfolding all
+  all_out [] e x m = elim m [ ]
   all_out (y ∷ xs) e x (Memᴰ.head q) = rw q (and_left (f y) (all f xs) e)
   all_out (y ∷ xs) e x (Memᴰ.tail m) = all_out xs (and_right (f y) (all f xs) e) x m
 
@@ -60,6 +61,7 @@ module _ {A : Type 0} (f : A → Bool) where
 
   pub any_in : (xs : List A) (x : A) → x ∈ xs → f x ≡ true → any f xs ≡ true
   unfolding any
+  any_in [] x m e = elim m [ ]
   any_in (y ∷ xs) x (Memᴰ.head q) e = rw (← q, e)
   any_in (y ∷ xs) x (Memᴰ.tail m) e = or_right (f y) (any f xs) (any_in xs x m e)
     where
@@ -93,6 +95,7 @@ module _ {A : Type 0} (f : A → Bool) where
 
   pub filter_in : (xs : List A) (x : A) → x ∈ xs → f x ≡ true → x ∈ filter f xs
   unfolding filter
+  filter_in [] x m e = elim m [ ]
   filter_in (y ∷ xs) x (Memᴰ.head q) e = let e' : f y ≡ true = rw q at e in rw (e', filter) (Memᴰ.head q)
   filter_in (y ∷ xs) x (Memᴰ.tail m) e = go (f y) (filter_in xs x m e)
     where
@@ -109,6 +112,7 @@ module _ {A B : Type 0} (f : A → List B) where
 
   pub concat_in : (xs : List A) (x : A) (y : B) → x ∈ xs → y ∈ f x → y ∈ concat_map f xs
   unfolding concat_map
+  concat_in [] x y m h = elim m [ ]
   concat_in (z ∷ xs) x y (Memᴰ.head q) h = Memᴰ.append_left (concat_map f xs) (rw q at h)
   concat_in (z ∷ xs) x y (Memᴰ.tail m) h = Memᴰ.append_right (f z) (concat_in xs x y m h)
 

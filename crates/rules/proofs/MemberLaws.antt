@@ -27,6 +27,7 @@ module _ {A : Type 0} where
   pub of_list_if : {x : A} (b : Bool) (xs : List A) → x ∈ list_if b xs → (b ≡ true) × (x ∈ xs)
   unfolding list_if
   of_list_if true xs m = (refl, m)
+  of_list_if false xs m = elim m [ ]
 
   pub in_list_if : {x : A} (b : Bool) {xs : List A} → b ≡ true → x ∈ xs → x ∈ list_if b xs
   unfolding list_if
@@ -35,6 +36,7 @@ module _ {A : Type 0} where
 
   pub in_filter : {x : A} (f : A → Bool) (xs : List A) → x ∈ xs → f x ≡ true → x ∈ filter f xs
   unfolding filter
+  in_filter f [] m e = elim m [ ]
   in_filter {x} f (y ∷ xs) (Memᴰ.head q) e = go (f y) (rw q at e)
     where
       go : (b : Bool) → b ≡ true → x ∈ elim b [ true ↦ y ∷ filter f xs | false ↦ filter f xs ]
@@ -48,6 +50,7 @@ module _ {A : Type 0} where
 
   pub of_filter : {x : A} (f : A → Bool) (xs : List A) → x ∈ filter f xs → (x ∈ xs) × (f x ≡ true)
   unfolding filter
+  of_filter f [] m = elim m [ ]
   of_filter {x} f (y ∷ xs) m = go (f y) refl m (of_filter f xs)
     where
       go : (b : Bool) → f y ≡ b → x ∈ elim b [ true ↦ y ∷ filter f xs | false ↦ filter f xs ] → (x ∈ filter f xs → (x ∈ xs) × (f x ≡ true))
@@ -89,16 +92,19 @@ module _ {A : Type 0} where
 
   pub of_drop : {x : A} (n : ℕ) (xs : List A) → x ∈ drop n xs → x ∈ xs
   of_drop zero xs m = m
+  of_drop (suc n) [] m = elim m [ ]
   of_drop (suc n) (x ∷ xs) m = Memᴰ.tail (of_drop n xs m)
 
 module _ {A B : Type 0} where
   pub in_concat_map : {x : A} {y : B} (f : A → List B) (xs : List A) → x ∈ xs → y ∈ f x → y ∈ concat_map f xs
   unfolding concat_map
+  in_concat_map f [] n m = elim n [ ]
   in_concat_map {x} {y} f (z ∷ xs) (Memᴰ.head q) m = Memᴰ.append_left (concat_map f xs) (rw q at m)
   in_concat_map f (z ∷ xs) (Memᴰ.tail n) m = Memᴰ.append_right (f z) (in_concat_map f xs n m)
 
   pub of_concat_map : {y : B} (f : A → List B) (xs : List A) → y ∈ concat_map f xs → (x : A) × (x ∈ xs) × (y ∈ f x)
   unfolding concat_map
+  of_concat_map f [] m = elim m [ ]
   of_concat_map f (x ∷ xs) m =
       ⊎_elim (λ m. (x, Memᴰ.head refl, m)) (λ m. let r = of_concat_map f xs m in (r.0, Memᴰ.tail r.1, r.2)) (Memᴰ.append_cases (f x) m)
 
@@ -138,6 +144,7 @@ filter_both {A} f g (x ∷ xs) = go (g x) (filter_both f g xs)
 
 module _ {A : Type 0} (P : A → Type 0) where
   pub all_in : {x : A} (xs : List A) → All P xs → x ∈ xs → P x
+  all_in [] h m = elim m [ ]
   all_in (y ∷ xs) h (Memᴰ.head q) = rw q h.0
   all_in (y ∷ xs) h (Memᴰ.tail m) = all_in xs h.1 m
 
@@ -168,5 +175,6 @@ in_up_to i n m l = rw (up_to_place i n m l) at (at_place (up_to i n) 0 m (rw (le
 
 pub of_up_to : (i n : ℕ) {m : ℕ} → m ∈ up_to i n → m < i + n
 unfolding up_to
+of_up_to i zero m = elim m [ ]
 of_up_to i (suc n) (Memᴰ.head q) = rw q (omega arith)
 of_up_to i (suc n) (Memᴰ.tail m) = rw (add-suc, ← suc-add) (of_up_to (suc i) n m)

@@ -113,6 +113,7 @@ with_variable_known o vs = unless_cases (λ us. known us o ≡ true) _ _ vs (λ 
 
 pub with_variables_known : (os vs : List Origin) (o : Origin) → Memᴰ o os → known (with_variables os vs) o ≡ true
 unfolding with_variables fold
+with_variables_known [] vs o m = elim m [ ]
 with_variables_known (p ∷ os) vs o (Memᴰ.head q) = (keeps_variable (with_variables_prefix os (with_variable p vs)) o (rw q (with_variable_known p vs))).0
 with_variables_known (p ∷ os) vs o (Memᴰ.tail m) = with_variables_known os (with_variable p vs) o m
 

@@ -118,7 +118,7 @@ module _ (c : Catalogue) where
   emits_within : {r : Run} {s₀ s : State} {es : List Event} → Each (λ e. earlier e ≡ []) es → Within r s₀ s → Within r s₀ (emit_all c r es s)
   unfolding emit_all fold
   emits_within Each.nil w = w
-  emits_within (Each.cons {x = e} n ns) w = emits_within ns (emit_within w e (rw n Each.nil))
+  emits_within {r} {s = s} (Each.cons {x = e} n ns) w = emits_within {s = emit c r e s} ns (emit_within w e (rw n Each.nil))
 
   joined_known : (p : ℕ) (ps : List ℕ) (vs : List Origin) → known (with_variables (origins c (joins p ps)) vs) (part_origin p) ≡ true
   joined_known p ps vs = with_variables_known _ vs (part_origin p) (unfold origins in Memᴰ.head refl)

@@ -119,15 +119,20 @@ module _ (ts : List Task) where
     fire_unrepeated q [] o h = h
     fire_unrepeated q (i ∷ is) o h = queue_unrepeated (requirement q (i ∷ is)) refl _ (open_names_unrepeated (ranges_of c q) o h)
 
+    unconditional_unnamed : (b : Bool) (q : ℕ) → name_in (task_by c b q) ≡ []
+    unfolding task_by name_in
+    unconditional_unnamed true q = refl
+    unconditional_unnamed false q = refl
+
+    constraint_unnamed : (k : ℕ) → name_in (constraint k) ≡ []
+    unfolding name_in
+    constraint_unnamed k = refl
+
     own_tasks : (w : Owner) (t : Task) → t ∈ tasks_of c w → name_in t ≡ []
     unfolding tasks_of
     own_tasks w t m =
-        ⊎_elim (λ k. let x = map_out _ (requirements_of c w) k in rw x.2 (either (unconditional c x.0) x.0))
-        (λ k. let x = map_out constraint (constraints_of c w) k in rw x.2 (unfold name_in in refl)) (in_either (map _ (requirements_of c w)) m)
-      where
-        either : (b : Bool) (q : ℕ) → name_in (task_by c b q) ≡ []
-        either true q = unfold task_by name_in in refl
-        either false q = unfold task_by name_in in refl
+        ⊎_elim (λ k. let x = map_out _ (requirements_of c w) k in rw x.2 (unconditional_unnamed (unconditional c x.0) x.0))
+        (λ k. let x = map_out constraint (constraints_of c w) k in rw x.2 (constraint_unnamed x.0)) (in_either (map _ (requirements_of c w)) m)
 
     owner_unrepeated : (w : Owner) (o : Opening) → Unrepeated ts o → Unrepeated ts (serve_owner c w o)
     unfolding serve_owner

@@ -1,7 +1,6 @@
 -- The clauses that an opening calls for: the encoding rules once more, without order, task line or storing. A job stores exactly these (proofs/Stored.antt).
-use Rattle.std.specs.Prelude.{◌≡◌}
 use mathlib.Core.List.{Memᴰ}
-use Rattle.rules.specs.Base.{true, false, List, [], map, ℕ, ◌<◌, length, get_or}
+use Rattle.std.specs.Prelude.{◌≡◌, true, false, List, [], map, ℕ, ◌<◌, length, get_or}
 use Rattle.rules.specs.Clause.{Clause, install, requires, gated, excluded, constrains, aux_out, aux_owner, lock, any_gate, any_one, exclusion, unknown_dependencies}
 use Rattle.rules.specs.AtMostOne.{bit, helpers_for, agrees}
 use Rattle.rules.specs.Catalogue.{Owner, part, Catalogue, part_at, constraint_at, range_name, goal_at}

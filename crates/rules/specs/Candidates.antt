@@ -1,5 +1,5 @@
 -- 01, Encoding rules, first point: the lists that follow from a catalogue. All keep file order.
-use Rattle.rules.specs.Base.{Bool, not, List, [], ◌∷◌, ◌++◌, ℕ, eqb, length, get_or}
+use Rattle.std.specs.Prelude.{Bool, not, List, [], ◌∷◌, ◌++◌, ℕ, eqb, length, get_or}
 use Rattle.rules.specs.Lists.{filter, concat_map, up_to}
 use Rattle.rules.specs.Catalogue.{Owner, Goal, range, union, Catalogue, part_at, range_at, constraint_at, name_of, range_name, owner_at, excluded_part, same_owner}
 

@@ -1,6 +1,5 @@
 -- `check` and `run` agree. 01: "check (refusals 1 to 7, reading up to the first sheet record ..) and run"; refusals have a number, 1 to 11, and a place.
-use Rattle.std.specs.Prelude.{◌≡◌, ◌↔◌, ◌⊎◌}
-use Rattle.rules.specs.Base.{true, false, List, [], ◌∷◌, ℕ, zero, suc, ◌<◌, ◌≤◌, length}
+use Rattle.std.specs.Prelude.{◌≡◌, ◌↔◌, ◌⊎◌, true, false, List, [], ◌∷◌, ℕ, zero, suc, ◌<◌, ◌≤◌, length}
 use Rattle.rules.specs.Records.{kind_of}
 use Rattle.rules.specs.Limits.{Terms}
 use Rattle.rules.specs.Job.{body_of, refuses, answer, starts_sheet, check_answer}

@@ -1,5 +1,5 @@
 -- 01, "Clauses by word". A clause is its word and its variables (an exclusion also the part and which reason); the literals follow from them.
-use Rattle.rules.specs.Base.{List, [], ◌∷◌, ◌++◌, map, ℕ, length}
+use Rattle.std.specs.Prelude.{List, [], ◌∷◌, ◌++◌, map, ℕ, length}
 use Rattle.rules.specs.Literal.{Literal, pos, neg}
 
 -- which of a part's two reasons an exclusion gives

@@ -1,5 +1,6 @@
 -- 01, "Conditions become disjuncts of ranges, left before right".
-use Rattle.rules.specs.Base.{Bool, true, false, List, [], ◌∷◌, ◌++◌, map, Option, none, some, ℕ, zero, suc, eqb, ltb, length, get_or}
+use Rattle.std.specs.Prelude.{Bool, true, false, List, [], ◌∷◌, ◌++◌, map, ℕ, zero, suc, eqb, ltb, length, get_or}
+use Rattle.std.proofs.Math.Option.{Option, none, some}
 use Rattle.rules.specs.Lists.{any, concat_map, up_to}
 use Rattle.rules.specs.Catalogue.{Operator, and, or, Condition, leaf, joined, Catalogue, no_condition, condition_at}
 

@@ -1,5 +1,6 @@
 -- Decisions, oldest first.
-use Rattle.rules.specs.Base.{Bool, true, false, ◌&&◌, List, [], ◌∷◌, Option, ℕ, eqb, leb}
+use Rattle.std.specs.Prelude.{Bool, true, false, ◌&&◌, List, [], ◌∷◌, ℕ, eqb, leb}
+use Rattle.std.proofs.Math.Option.{Option}
 use Rattle.rules.specs.Lists.{filter, all}
 use Rattle.rules.specs.Literal.{Literal, pos}
 use Rattle.rules.specs.Truth.{same}

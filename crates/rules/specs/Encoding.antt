@@ -1,5 +1,6 @@
 -- The encoding rules: what each event asks of the variables, and the clauses it adds. Nothing else makes either.
-use Rattle.rules.specs.Base.{Bool, true, false, not, List, [], ◌∷◌, ◌++◌, map, Option, none, some, ℕ, suc, ltb, length}
+use Rattle.std.specs.Prelude.{Bool, true, false, not, List, [], ◌∷◌, ◌++◌, map, ℕ, suc, ltb, length}
+use Rattle.std.proofs.Math.Option.{Option, none, some}
 use Rattle.rules.specs.Lists.{list_if, concat_map, up_to}
 use Rattle.rules.specs.Literal.{Literal, pos, neg}
 use Rattle.rules.specs.Clause.{Clause, requires, gated, excluded, constrains, aux_out, aux_owner, lock, any_gate, any_one, exclusion, unknown_dependencies}

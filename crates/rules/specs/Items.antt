@@ -1,5 +1,6 @@
 -- 01, the record table: what each catalogue record adds, and its refusals in the order 3, 4, 5, 6.
-use Rattle.rules.specs.Base.{Bool, false, not, ◌&&◌, ◌||◌, cond, List, [], ◌∷◌, Option, none, some, ℕ, eqb, ltb, leb, length, get_or, set}
+use Rattle.std.specs.Prelude.{Bool, false, not, ◌&&◌, ◌||◌, cond, List, [], ◌∷◌, ℕ, eqb, ltb, leb, length, get_or, set}
+use Rattle.std.proofs.Math.Option.{Option, none, some}
 use Rattle.rules.specs.Lists.{any, snoc}
 use Rattle.rules.specs.AtMostOne.{bit}
 use Rattle.rules.specs.Catalogue.{Owner, root, part, Goal, range, union, Part, Range, Operator, and, or, Condition, leaf, joined, Requirement, Constraint, Catalogue, part_at, range_at, unknown_owner}

@@ -1,6 +1,7 @@
 -- A whole job, from its bytes to the answer and the listing's bytes. 01, Order: "7, the job's length (3), then record by record
 -- 2, 1, 3, 4, 5, 6, 9, 8, 10; at the end 11, then 10 for the listing".
-use Rattle.rules.specs.Base.{Bool, true, false, not, ◌&&◌, List, [], ◌∷◌, ◌++◌, map, Option, none, some, ℕ, zero, suc, ltb, length, drop}
+use Rattle.std.specs.Prelude.{Bool, true, false, not, ◌&&◌, List, [], ◌∷◌, ◌++◌, map, ℕ, zero, suc, ltb, length, drop}
+use Rattle.std.proofs.Math.Option.{Option, none, some}
 use Rattle.rules.specs.Catalogue.{Catalogue, empty_catalogue}
 use Rattle.rules.specs.Refusals.{Refusal, unfit, overlong, not_run, listing_full, number_and_place, ◌if◌, Result, ok, refuse, unless_any}
 use Rattle.rules.specs.Records.{Kind, kind_of, of_sheet, Record, catalogue, sheet, read}

@@ -1,6 +1,6 @@
 -- Demand 3: what a set P of parts must keep, over the catalogue's records and the opening at the job's end; and the demand's statement.
-use Rattle.std.specs.Prelude.{◌≡◌, ◌↔◌, ◌⊎◌}
-use Rattle.rules.specs.Base.{Bool, true, false, not, ◌&&◌, ◌||◌, List, [], ◌∷◌, map, Option, none, some, ℕ, ◌<◌, ◌≤◌, eqb, leb, length, get_or}
+use Rattle.std.specs.Prelude.{◌≡◌, ◌↔◌, ◌⊎◌, Bool, true, false, not, ◌&&◌, ◌||◌, List, [], ◌∷◌, map, ℕ, ◌<◌, ◌≤◌, eqb, leb, length, get_or}
+use Rattle.std.proofs.Math.Option.{Option, none, some}
 use Rattle.rules.specs.Lists.{filter, any, all, count, up_to}
 use Rattle.rules.specs.Clause.{Clause, literals}
 use Rattle.rules.specs.Truth.{Values, all_true}

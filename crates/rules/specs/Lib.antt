@@ -1,4 +1,3 @@
-pub mod Base
 pub mod Lists
 pub mod Literal
 pub mod Clause

@@ -1,5 +1,6 @@
 -- 01, The kit listing, to the byte: "One space parts fields, a line feed ends lines".
-use Rattle.rules.specs.Base.{true, false, cond, List, [], ◌∷◌, ◌++◌, map, Option, none, some, ℕ, zero, suc, ◌+◌, ◌/◌, ◌%◌, ltb, length}
+use Rattle.std.specs.Prelude.{true, false, cond, List, [], ◌∷◌, ◌++◌, map, ℕ, zero, suc, ◌+◌, ◌/◌, ◌%◌, ltb, length}
+use Rattle.std.proofs.Math.Option.{Option, none, some}
 use Prim.Native.Char.{code}
 use Prim.Native.String.{String}
 use Rattle.rules.specs.Lists.{filter, concat_map, up_to}

@@ -1,5 +1,5 @@
 -- Lists, by tests that compute.
-use Rattle.rules.specs.Base.{Bool, true, false, ◌&&◌, ◌||◌, cond, List, [], ◌∷◌, ◌++◌, ℕ, zero, suc, ◌+◌, eqb}
+use Rattle.std.specs.Prelude.{Bool, true, false, ◌&&◌, ◌||◌, cond, List, [], ◌∷◌, ◌++◌, ℕ, zero, suc, ◌+◌, eqb}
 
 module _ {A : Type 0} where
   unfoldable pub filter : (A → Bool) → List A → List A

@@ -1,6 +1,6 @@
 -- The opening: which owners and names a job opens, what is handled, fired, waiting, drawn and tracked.
 -- A machine of its own. It knows no variable and no clause; of the decisions it asks only "is this part decided true".
-use Rattle.rules.specs.Base.{Bool, true, false, not, ◌&&◌, ◌||◌, List, [], ◌∷◌, ◌++◌, map, ℕ, eqb}
+use Rattle.std.specs.Prelude.{Bool, true, false, not, ◌&&◌, ◌||◌, List, [], ◌∷◌, ◌++◌, map, ℕ, eqb}
 use Rattle.rules.specs.Lists.{filter, any, all, elem, snoc, concat_map, fold, when, unless, distinct}
 use Rattle.rules.specs.Catalogue.{Owner, part, Catalogue, part_at, constraint_at, several_allowed, name_of, range_name, goal_at, condition_at, same_owner, unknown_owner}
 use Rattle.rules.specs.Candidates.{matching, non_matching, goal_ranges, candidates, requirements_of, constraints_of}

@@ -1,7 +1,7 @@
 -- A reader of listings, from 01's account of them alone: "One space parts fields, a line feed ends lines"; "`v` variable, origin (root, part, ..) and number;
 -- `c` clause, word, signed variables". And demand 3 as it reads over a listing's bytes.
-use Rattle.std.specs.Prelude.{◌≡◌, ◌↔◌, ◌-◌}
-use Rattle.rules.specs.Base.{Bool, true, false, ◌&&◌, List, [], ◌∷◌, ◌++◌, Option, none, some, ℕ, ◌+◌, ◌*◌, ◌<◌, eqb, length, get_or, drop}
+use Rattle.std.specs.Prelude.{◌≡◌, ◌↔◌, ◌-◌, Bool, true, false, ◌&&◌, List, [], ◌∷◌, ◌++◌, ℕ, ◌+◌, ◌*◌, ◌<◌, eqb, length, get_or, drop}
+use Rattle.std.proofs.Math.Option.{Option, none, some}
 use Rattle.rules.specs.Lists.{list_if, concat_map, fold}
 use Rattle.rules.specs.Literal.{Literal, pos, neg}
 use Rattle.rules.specs.Truth.{Values, all_true}

@@ -1,5 +1,6 @@
 -- 01, Records: "One byte of kind, then a body whose length the kind fixes".
-use Rattle.rules.specs.Base.{Bool, true, false, not, ◌&&◌, List, [], ◌∷◌, Option, none, some, ℕ, eqb, ltb, leb, length, take}
+use Rattle.std.specs.Prelude.{Bool, true, false, not, ◌&&◌, List, [], ◌∷◌, ℕ, eqb, ltb, leb, length, take}
+use Rattle.std.proofs.Math.Option.{Option, none, some}
 use Rattle.rules.specs.Bytes.{byte_at, word_at}
 use Rattle.rules.specs.Refusals.{unknown_kind, out_of_place, cut_short, Result, ok, refuse}
 

@@ -1,5 +1,5 @@
 -- 01, the table of refusals: what is wrong, and the one definition that gives its number and place.
-use Rattle.rules.specs.Base.{Bool, true, false, List, [], ◌∷◌, ℕ}
+use Rattle.std.specs.Prelude.{Bool, true, false, List, [], ◌∷◌, ℕ}
 
 -- what a catalogue gives by number
 pub data Thing : Type 0 where

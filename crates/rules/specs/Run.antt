@@ -1,5 +1,5 @@
 -- One run (34): "Tasks are served first in, first out"; at its end the named parts join and new one-of-name clauses follow.
-use Rattle.rules.specs.Base.{List, [], ◌∷◌, ◌++◌, map, ℕ, zero, suc, ◌+◌, ◌*◌, length, drop}
+use Rattle.std.specs.Prelude.{List, [], ◌∷◌, ◌++◌, map, ℕ, zero, suc, ◌+◌, ◌*◌, length, drop}
 use Rattle.rules.specs.Lists.{snoc, concat_map}
 use Rattle.rules.specs.Catalogue.{Catalogue, name_of}
 use Rattle.rules.specs.Variables.{Origin, chosen, forbid, one, violation, gate}

@@ -1,5 +1,6 @@
 -- 01, the record table: what each sheet record does, and its refusals in the order 4, 5, 9, 8, 10.
-use Rattle.rules.specs.Base.{Bool, ◌||◌, List, [], ◌∷◌, none, ℕ, eqb, ltb, leb, length}
+use Rattle.std.specs.Prelude.{Bool, ◌||◌, List, [], ◌∷◌, ℕ, eqb, ltb, leb, length}
+use Rattle.std.proofs.Math.Option.{none}
 use Rattle.rules.specs.Lists.{snoc, when}
 use Rattle.rules.specs.Literal.{Literal}
 use Rattle.rules.specs.Catalogue.{Catalogue}

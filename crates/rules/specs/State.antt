@@ -1,5 +1,6 @@
 -- The state between two records: the opening, the variables and clauses, the decisions and conflicts.
-use Rattle.rules.specs.Base.{Bool, not, ◌&&◌, List, [], ◌∷◌, ◌++◌, map, some, ℕ, suc, leb, length}
+use Rattle.std.specs.Prelude.{Bool, not, ◌&&◌, List, [], ◌∷◌, ◌++◌, map, ℕ, suc, leb, length}
+use Rattle.std.proofs.Math.Option.{some}
 use Rattle.rules.specs.Lists.{snoc, when, fold}
 use Rattle.rules.specs.Literal.{Literal, pos, neg}
 use Rattle.rules.specs.Clause.{Clause, install, requires, gated, excluded, constrains, forbid, aux_out, aux_owner, lock, any_gate, any_one}

@@ -1,5 +1,5 @@
 -- Variables are numbered by their place in a list of origins. 01: "Variable 0 is the root".
-use Rattle.rules.specs.Base.{Bool, ◌&&◌, List, ℕ, eqb}
+use Rattle.std.specs.Prelude.{Bool, ◌&&◌, List, ℕ, eqb}
 use Rattle.rules.specs.Lists.{any, index_of, snoc, unless, fold}
 use Rattle.rules.specs.Catalogue.{Owner, root, part, Goal, range, union}
 

@@ -1,4 +1,6 @@
 // The clause store, after mod.rs: new clauses are written behind those already stored.
+#![tactic(auto)]
+
 ghost use Rattle.std.specs.Prelude.{◌≡◌, ◌∷◌, [], ◌+◌, ◌*◌, ◌<◌, ◌≤◌, length, get_or};
 ghost use Rattle.std.proofs.lemmas.List.Edits.{sets};
 ghost use Rattle.rules.specs.Lists.{snoc};
@@ -7,7 +9,7 @@ ghost use Rattle.solver.specs.Rows.{no_row, row_of, row_numbers, rows};
 
 // A clause as it is stored: its kind, up to two variables or a literal, its condition literals' place and number, its goal, and the run in which it
 // was a conflict, or 0.
-#[derive(Drop)]
+#[derive(Clone, Copy)]
 pub struct Stored {
     pub kind: u16,
     pub first: u16,

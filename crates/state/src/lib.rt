@@ -1,11 +1,13 @@
 // The state area of a run: its regions by number, with reading and storing of one number.
+#![tactic(auto)]
+
 ghost use Rattle.std.specs.Prelude.{◌≡◌, ◌+◌, ◌*◌, ◌<◌, ◌≤◌, length, get_or};
 ghost use Rattle.regions.specs.Regions.{start_of, size_of, stored};
 ghost use Rattle.state.specs.Changed.{Zeroed, Cleared};
 ghost use Rattle.state.specs.Layout.{sizes, held, Fits};
 
 // The four limits of a job.
-#[derive(Drop)]
+#[derive(Clone, Copy)]
 pub struct Limits {
     pub variables: usize,
     pub clauses: usize,

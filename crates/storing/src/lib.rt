@@ -143,7 +143,7 @@ pub fn is_one(s: &[u8], l: Limits, n: Counters, r: Run, y: u16, x: u16) -> bool
 }
 
 // What a clause of two literals does when it is made: it sets the one that is undecided where the other is false, and is a conflict where both are.
-#[derive(Drop)]
+#[derive(Clone, Copy)]
 pub enum Outcome {
     Nothing,
     Conflict,

@@ -1,5 +1,7 @@
 // The catalogue's tables in one lent area of bytes: reading a row, and writing one row more.
 // A number past a table's end reads as nothing, as in the definitions.
+#![tactic(auto)]
+
 ghost use Rattle.std.specs.Prelude.{◌≡◌, ◌+◌, ◌*◌, ◌/◌, ◌%◌, ◌<◌, ◌≤◌, eqb, length, get_or, set, false};
 ghost use Rattle.rules.specs.AtMostOne.{bit};
 ghost use Rattle.rules.specs.Catalogue.{no_part, no_condition, no_requirement, no_constraint};
@@ -26,7 +28,7 @@ ghost use Rattle.tables.specs.Tables.{
 use requirement::{ConditionalRequirement, Requirement};
 
 // How many of each thing a catalogue has given; `members` counts union members.
-#[derive(Drop)]
+#[derive(Clone, Copy)]
 pub struct Counts {
     pub names: usize,
     pub parts: usize,
@@ -39,7 +41,7 @@ pub struct Counts {
 }
 
 // A condition: its operator (0 and, 1 or) and halves, or 2 and a range.
-#[derive(Drop)]
+#[derive(Clone, Copy)]
 pub struct Condition {
     pub operator: u16,
     pub left: u16,
@@ -47,13 +49,13 @@ pub struct Condition {
 }
 
 // Of a condition: how many disjuncts it has, and how many ranges the longest of them.
-#[derive(Drop)]
+#[derive(Clone, Copy)]
 pub struct Size {
     pub count: u16,
     pub longest: u16,
 }
 
-#[derive(Drop)]
+#[derive(Clone, Copy)]
 pub struct Constraint {
     pub owner: u16,
     pub range: u16,

@@ -38,6 +38,7 @@ sets_before o at [] i h = refl
 sets_before o at (b ∷ bs) i h = sets_before (set o at b) (suc at) bs i (omega arith) ∙ get_or-set_other o at i b 0 (λ e. omega arith)
 
 sets_at : (o : List ℕ) (at : ℕ) (bs : List ℕ) (i : ℕ) → i < length bs → at + i < length o → get_or (sets o at bs) (at + i) 0 ≡ get_or bs i 0
+sets_at o at [] i h g = elim h [ ]
 sets_at o at (b ∷ bs) zero h g = rw add-zero (sets_before (set o at b) (suc at) bs at (omega arith) ∙ get_or-set_same o at b 0 (omega arith))
 sets_at o at (b ∷ bs) (suc i) h g =
     let e : at + suc i ≡ suc at + i = omega arith in

@@ -1,6 +1,8 @@
 // The listing's bytes, written into a lent area: fields, numbers, words. The same functions serve the pass that only measures.
 // `room` is the length of the listing's area, `at` the place of the next byte; a function gives the place behind what it wrote.
 // Once the bytes no longer fit, the place is room + 1, nothing more is written, and the place stays.
+#![tactic(auto)]
+
 ghost use Rattle.std.specs.Prelude.{◌≡◌, ◌∷◌, [], ◌-◌, ◌<◌, ◌≤◌, ltb, length};
 ghost use Rattle.std.proofs.lemmas.List.Edits.{sets};
 ghost use Rattle.rules.specs.Listing.{decimal, signed};

@@ -1,10 +1,12 @@
 // Members of unions in a lent area of bytes: a row of two numbers for each, in order of arrival. The first is union * 512 + range;
 // the second is left for the place of the next row in a chain.
+#![tactic(auto)]
+
 ghost use Rattle.std.specs.Prelude.{◌≡◌, ◌+◌, ◌*◌, ◌<◌, ◌≤◌, length, get_or, set};
 ghost use Rattle.words.specs.Words.{words};
 ghost use Rattle.unions.specs.Unions.{no_row, rows, row_of, pushed, NextOf};
 
-#[derive(Drop)]
+#[derive(Clone, Copy)]
 pub struct Member {
     pub union: u16,
     pub range: u16,

@@ -1,4 +1,6 @@
 // Variables by origin, after variable_map.rs: rows of the origins in order, and for each origin a slot with its variable and one more.
+#![tactic(auto)]
+
 ghost use Rattle.std.specs.Prelude.{◌≡◌, true, ◌+◌, ◌*◌, ◌<◌, ◌≤◌, length, get_or};
 ghost use Rattle.rules.specs.Lists.{snoc};
 ghost use Rattle.rules.specs.Catalogue.{root, range, union};
@@ -12,14 +14,14 @@ use state::Limits;
 
 // What a variable stands for, by its kind: 0 root, 1 part, 2 forbid (of a name, with a bit), 3 one-of-name, 4 violation, 5 gate of a range,
 // 6 gate of a union.
-#[derive(Drop)]
+#[derive(Clone, Copy)]
 pub struct Origin {
     pub kind: u16,
     pub number: u16,
     pub bit: u16,
 }
 
-#[derive(Drop)]
+#[derive(Clone, Copy)]
 pub enum Named {
     Variable { count: usize, variable: u16 },
     Full,
