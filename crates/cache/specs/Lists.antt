@@ -1,5 +1,5 @@
 -- The lists of a range as choices among the parts of its name, and how long they are.
-use Rattle.std.specs.Prelude.{◌≡◌, Bool, not, ◌&&◌, List, ℕ, min, eqb, length}
+use Rattle.std.specs.Prelude.{◌≡◌, Bool, not, ◌&&◌, List, ℕ, ◌≤◌, min, eqb, length}
 use Rattle.rules.specs.Lists.{filter, up_to}
 use Rattle.rules.specs.Catalogue.{Catalogue, part_at, name_of, range_name}
 use Rattle.rules.specs.Candidates.{member}
