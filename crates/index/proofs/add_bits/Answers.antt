@@ -1,8 +1,4 @@
 use borrow.Author.Rules.{rules}
-use mathlib.Core.Path.{◌≡◌}
-use Prim.Native.Nat.{◌-◌, ◌≤◌}
-use lib.ListN.{length}
-use Rattle.index.specs.Chains.{AddingBits}
 use Rattle.index.proofs.NameBits.{bits_start, bits_keyed, bits_more, bits_end}
 use Rattle.index.proofs.add_bits.Goals as goal
 

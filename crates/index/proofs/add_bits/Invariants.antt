@@ -1,10 +1,8 @@
 -- `index::add_bits` has the bits of all parts in the rows of their names. The invariant: those of the parts passed.
-use borrow.Author.Rules.{rules}
 use mathlib.Core.Path.{◌≡◌}
 use Prim.Native.Nat.{◌-◌, ◌≤◌}
 use lib.ListN.{length}
 use Rattle.index.specs.Chains.{AddingBits}
-use Rattle.index.proofs.NameBits.{bits_start, bits_keyed, bits_more, bits_end}
 use Rattle.index.proofs.add_bits.Given as goal
 
 abbrev pub invariant-loop-i : goal.invariant-loop-i

@@ -1,10 +1,8 @@
 -- `index::bound_parts` has the favoured parts of all names within bounds. The invariant: those from part i on.
-use borrow.Author.Rules.{rules}
 use mathlib.Core.Path.{◌≡◌}
 use Prim.Native.Nat.{◌≤◌}
 use lib.ListN.{length}
 use Rattle.index.specs.Chains.{Favouring}
-use Rattle.index.proofs.Favoured.{favoured_start, favoured_then, favoured_keyed, favoured_ready, favoured_end}
 use Rattle.index.proofs.bound_parts.Given as goal
 
 abbrev pub invariant-loop-i : goal.invariant-loop-i

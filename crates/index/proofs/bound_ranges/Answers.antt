@@ -1,8 +1,4 @@
 use borrow.Author.Rules.{rules}
-use mathlib.Core.Path.{◌≡◌}
-use Prim.Native.Nat.{◌-◌}
-use lib.ListN.{length}
-use Rattle.index.specs.Chains.{Bounding}
 use Rattle.index.proofs.Laws.{bounds_start, bounds_more, bounds_end}
 use Rattle.index.proofs.bound_ranges.Goals as goal
 

@@ -1,10 +1,8 @@
 -- `index::bound_ranges` stores the bounds of all. The invariant: those of the ranges passed.
-use borrow.Author.Rules.{rules}
 use mathlib.Core.Path.{◌≡◌}
 use Prim.Native.Nat.{◌-◌}
 use lib.ListN.{length}
 use Rattle.index.specs.Chains.{Bounding}
-use Rattle.index.proofs.Laws.{bounds_start, bounds_more, bounds_end}
 use Rattle.index.proofs.bound_ranges.Given as goal
 
 abbrev pub invariant-loop-r : goal.invariant-loop-r

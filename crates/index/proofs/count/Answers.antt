@@ -1,7 +1,5 @@
 use borrow.Author.Rules.{rules}
-use Prim.Native.Nat.{◌-◌}
-use Rattle.cache.specs.Areas.{catalogue}
-use Rattle.index.proofs.Counting.{Counting, count_first, count_next, count_full, count_end}
+use Rattle.index.proofs.Counting.{count_first, count_next, count_full, count_end}
 use Rattle.index.proofs.count.Goals as goal
 
 pub loop-p-init : goal.loop-p-init

@@ -1,8 +1,7 @@
 -- `index::count` gives the length of a choice, or `most`. The invariant: what was counted and what is left from part p on are the whole.
-use borrow.Author.Rules.{rules}
 use Prim.Native.Nat.{◌-◌}
 use Rattle.cache.specs.Areas.{catalogue}
-use Rattle.index.proofs.Counting.{Counting, count_first, count_next, count_full, count_end}
+use Rattle.index.proofs.Counting.{Counting}
 use Rattle.index.proofs.count.Given as goal
 
 abbrev pub invariant-loop-p : goal.invariant-loop-p

@@ -1,9 +1,7 @@
 -- `index::find_non_matching`. The invariant: no part before p is non-matching.
-use borrow.Author.Rules.{rules}
 use Prim.Native.Nat.{◌-◌}
 use Rattle.tables.specs.Tables.{tables}
 use Rattle.index.specs.Chains.{is_non_matching, Skips}
-use Rattle.index.proofs.NonMatching.{others_passed, search_on, search_found, search_ended}
 use Rattle.index.proofs.find_non_matching.Given as goal
 
 abbrev pub invariant-loop-p : goal.invariant-loop-p

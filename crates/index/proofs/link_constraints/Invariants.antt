@@ -1,9 +1,7 @@
-use borrow.Author.Rules.{rules}
 use mathlib.Core.Path.{◌≡◌}
 use Prim.Native.Nat.{◌+◌, ◌≤◌}
 use lib.ListN.{length}
 use Rattle.index.specs.Chains.{constraints_by_owner, Linking}
-use Rattle.index.proofs.Laws.{constraints_none_linked, constraints_more_linked, constraints_still_keyed, constraints_ready, constraints_all_linked}
 use Rattle.index.proofs.link_constraints.Given as goal
 
 abbrev pub invariant-loop-i : goal.invariant-loop-i

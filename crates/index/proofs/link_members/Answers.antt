@@ -1,8 +1,4 @@
 use borrow.Author.Rules.{rules}
-use mathlib.Core.Path.{◌≡◌}
-use Prim.Native.Nat.{◌≤◌}
-use lib.ListN.{length}
-use Rattle.index.specs.Members.{Threading}
 use Rattle.index.proofs.Members.{threading_start, still_given, threading_ready, threading_more, threading_end}
 use Rattle.index.proofs.link_members.Goals as goal
 

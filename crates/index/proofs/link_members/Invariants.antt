@@ -1,10 +1,8 @@
 -- `index::link_members` links all rows by their unions, last to first. The invariant: those from row i on are linked.
-use borrow.Author.Rules.{rules}
 use mathlib.Core.Path.{◌≡◌}
 use Prim.Native.Nat.{◌≤◌}
 use lib.ListN.{length}
 use Rattle.index.specs.Members.{Threading}
-use Rattle.index.proofs.Members.{threading_start, still_given, threading_ready, threading_more, threading_end}
 use Rattle.index.proofs.link_members.Given as goal
 
 abbrev pub invariant-loop-i : goal.invariant-loop-i

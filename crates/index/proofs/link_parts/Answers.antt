@@ -1,8 +1,4 @@
 use borrow.Author.Rules.{rules}
-use mathlib.Core.Path.{◌≡◌}
-use Prim.Native.Nat.{◌≤◌}
-use lib.ListN.{length}
-use Rattle.index.specs.Chains.{parts_by_name, Linking}
 use Rattle.index.proofs.Laws.{parts_none_linked, parts_more_linked, parts_still_keyed, parts_ready, parts_all_linked}
 use Rattle.index.proofs.link_parts.Goals as goal
 

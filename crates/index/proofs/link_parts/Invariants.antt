@@ -1,9 +1,7 @@
-use borrow.Author.Rules.{rules}
 use mathlib.Core.Path.{◌≡◌}
 use Prim.Native.Nat.{◌≤◌}
 use lib.ListN.{length}
 use Rattle.index.specs.Chains.{parts_by_name, Linking}
-use Rattle.index.proofs.Laws.{parts_none_linked, parts_more_linked, parts_still_keyed, parts_ready, parts_all_linked}
 use Rattle.index.proofs.link_parts.Given as goal
 
 abbrev pub invariant-loop-i : goal.invariant-loop-i

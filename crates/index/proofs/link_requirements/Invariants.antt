@@ -1,9 +1,7 @@
-use borrow.Author.Rules.{rules}
 use mathlib.Core.Path.{◌≡◌}
 use Prim.Native.Nat.{◌+◌, ◌≤◌}
 use lib.ListN.{length}
 use Rattle.index.specs.Chains.{requirements_by_owner, Linking}
-use Rattle.index.proofs.Laws.{requirements_none_linked, requirements_more_linked, requirements_still_keyed, requirements_ready, requirements_all_linked}
 use Rattle.index.proofs.link_requirements.Given as goal
 
 abbrev pub invariant-loop-i : goal.invariant-loop-i

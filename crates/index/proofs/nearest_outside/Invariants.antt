@@ -1,11 +1,9 @@
 -- `index::nearest_outside` passes no part outside the range. The invariant: none was passed.
-use borrow.Author.Rules.{rules}
 use Prim.Native.Nat.{◌+◌, ◌-◌}
 use Rattle.cache.specs.Areas.{catalogue}
 use Rattle.cache.specs.Lists.{chosen}
 use Rattle.cache.specs.declared.Choice.TheVariants.{NonMatching}
 use Rattle.index.specs.Chains.{Skips}
-use Rattle.index.proofs.Selecting.{nearest_next}
 use Rattle.index.proofs.nearest_outside.Given as goal
 
 abbrev pub invariant-loop-p : goal.invariant-loop-p

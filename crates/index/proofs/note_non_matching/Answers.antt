@@ -1,8 +1,4 @@
 use borrow.Author.Rules.{rules}
-use mathlib.Core.Path.{◌≡◌}
-use Prim.Native.Nat.{◌-◌}
-use lib.ListN.{length}
-use Rattle.index.specs.Chains.{Noting}
 use Rattle.index.proofs.NonMatching.{noted_start, still_linked, noted_more, noted_end}
 use Rattle.index.proofs.note_non_matching.Goals as goal
 

@@ -1,10 +1,8 @@
 -- `index::note_non_matching` stores the first non-matching parts of all. The invariant: those of the ranges passed.
-use borrow.Author.Rules.{rules}
 use mathlib.Core.Path.{◌≡◌}
 use Prim.Native.Nat.{◌-◌}
 use lib.ListN.{length}
 use Rattle.index.specs.Chains.{Noting}
-use Rattle.index.proofs.NonMatching.{noted_start, still_linked, noted_more, noted_end}
 use Rattle.index.proofs.note_non_matching.Given as goal
 
 abbrev pub invariant-loop-r : goal.invariant-loop-r

@@ -1,6 +1,5 @@
 use borrow.Author.Rules.{rules}
-use Prim.Native.Nat.{◌-◌}
-use Rattle.index.proofs.NameBits.{NoneOutside, outside_start, word_passed, outside_found, outside_ended}
+use Rattle.index.proofs.NameBits.{outside_start, word_passed, outside_found, outside_ended}
 use Rattle.index.proofs.outside_from.Goals as goal
 
 pub loop-p-init : goal.loop-p-init

@@ -1,7 +1,6 @@
 -- `index::outside_from` passes no part outside the range. The invariant: none was passed.
-use borrow.Author.Rules.{rules}
 use Prim.Native.Nat.{◌-◌}
-use Rattle.index.proofs.NameBits.{NoneOutside, outside_start, word_passed, outside_found, outside_ended}
+use Rattle.index.proofs.NameBits.{NoneOutside}
 use Rattle.index.proofs.outside_from.Given as goal
 
 abbrev pub invariant-loop-p : goal.invariant-loop-p

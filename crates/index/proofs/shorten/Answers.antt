@@ -1,8 +1,4 @@
 use borrow.Author.Rules.{rules}
-use mathlib.Core.Path.{◌≡◌}
-use Prim.Native.Nat.{◌-◌}
-use lib.ListN.{length}
-use Rattle.index.specs.Members.{Shortened}
 use Rattle.index.proofs.Members.{shortened_start, shortened_now, shortened_step, shortened_end}
 use Rattle.index.proofs.shorten.Goals as goal
 

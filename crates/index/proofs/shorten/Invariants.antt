@@ -1,10 +1,8 @@
 -- `index::shorten` has a chain pass its idle rows. The invariant: the chain leads from row `last` to row i.
-use borrow.Author.Rules.{rules}
 use mathlib.Core.Path.{◌≡◌}
 use Prim.Native.Nat.{◌-◌}
 use lib.ListN.{length}
 use Rattle.index.specs.Members.{Shortened}
-use Rattle.index.proofs.Members.{shortened_start, shortened_now, shortened_step, shortened_end}
 use Rattle.index.proofs.shorten.Given as goal
 
 abbrev pub invariant-loop-i : goal.invariant-loop-i

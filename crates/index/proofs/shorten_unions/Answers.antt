@@ -1,8 +1,4 @@
 use borrow.Author.Rules.{rules}
-use mathlib.Core.Path.{◌≡◌}
-use Prim.Native.Nat.{◌-◌}
-use lib.ListN.{length}
-use Rattle.index.specs.Members.{Relinked}
 use Rattle.index.proofs.Members.{relinked_none, relinked_now, relinked_then}
 use Rattle.index.proofs.shorten_unions.Goals as goal
 

@@ -1,10 +1,8 @@
 -- `index::shorten_unions` has the chains of all unions pass their idle rows. The invariant: the rows are as they were, and linked.
-use borrow.Author.Rules.{rules}
 use mathlib.Core.Path.{◌≡◌}
 use Prim.Native.Nat.{◌-◌}
 use lib.ListN.{length}
 use Rattle.index.specs.Members.{Relinked}
-use Rattle.index.proofs.Members.{relinked_none, relinked_now, relinked_then}
 use Rattle.index.proofs.shorten_unions.Given as goal
 
 abbrev pub invariant-loop-x : goal.invariant-loop-x

@@ -1,8 +1,4 @@
 use borrow.Author.Rules.{rules}
-use mathlib.Core.Path.{◌≡◌}
-use Prim.Native.Nat.{◌+◌, ◌-◌}
-use lib.ListN.{length}
-use Rattle.index.specs.Chains.{constraints_by_owner, Heading}
 use Rattle.index.proofs.Laws.{constraints_start, constraints_headed, constraints_all_headed}
 use Rattle.index.proofs.start_constraints.Goals as goal
 

@@ -1,8 +1,4 @@
 use borrow.Author.Rules.{rules}
-use mathlib.Core.Path.{◌≡◌}
-use Prim.Native.Nat.{◌-◌}
-use lib.ListN.{length}
-use Rattle.index.specs.Chains.{Favouring}
 use Rattle.index.proofs.Favoured.{favoured_start, favoured_rest}
 use Rattle.index.proofs.start_favoured.Goals as goal
 

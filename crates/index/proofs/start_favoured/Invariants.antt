@@ -1,10 +1,8 @@
 -- `index::start_favoured` has no part of any name favoured yet.
-use borrow.Author.Rules.{rules}
 use mathlib.Core.Path.{◌≡◌}
 use Prim.Native.Nat.{◌-◌}
 use lib.ListN.{length}
 use Rattle.index.specs.Chains.{Favouring}
-use Rattle.index.proofs.Favoured.{favoured_start, favoured_rest}
 use Rattle.index.proofs.start_favoured.Given as goal
 
 abbrev pub invariant-loop-x : goal.invariant-loop-x

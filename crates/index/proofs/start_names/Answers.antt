@@ -1,8 +1,4 @@
 use borrow.Author.Rules.{rules}
-use mathlib.Core.Path.{◌≡◌}
-use Prim.Native.Nat.{◌-◌}
-use lib.ListN.{length}
-use Rattle.index.specs.Chains.{parts_by_name, Heading}
 use Rattle.index.proofs.Laws.{parts_start, parts_headed, parts_all_headed}
 use Rattle.index.proofs.start_names.Goals as goal
 

@@ -1,9 +1,7 @@
-use borrow.Author.Rules.{rules}
 use mathlib.Core.Path.{◌≡◌}
 use Prim.Native.Nat.{◌-◌}
 use lib.ListN.{length}
 use Rattle.index.specs.Chains.{parts_by_name, Heading}
-use Rattle.index.proofs.Laws.{parts_start, parts_headed, parts_all_headed}
 use Rattle.index.proofs.start_names.Given as goal
 
 abbrev pub invariant-loop-x : goal.invariant-loop-x

@@ -1,9 +1,7 @@
-use borrow.Author.Rules.{rules}
 use mathlib.Core.Path.{◌≡◌}
 use Prim.Native.Nat.{◌+◌, ◌-◌}
 use lib.ListN.{length}
 use Rattle.index.specs.Chains.{requirements_by_owner, Heading}
-use Rattle.index.proofs.Laws.{requirements_start, requirements_headed, requirements_all_headed}
 use Rattle.index.proofs.start_requirements.Given as goal
 
 abbrev pub invariant-loop-x : goal.invariant-loop-x

@@ -1,8 +1,4 @@
 use borrow.Author.Rules.{rules}
-use mathlib.Core.Path.{◌≡◌}
-use Prim.Native.Nat.{◌-◌}
-use lib.ListN.{length}
-use Rattle.index.specs.Members.{Unlinked}
 use Rattle.index.proofs.Members.{unlinked_start, unlinked_more, unlinked_end}
 use Rattle.index.proofs.start_unions.Goals as goal
 

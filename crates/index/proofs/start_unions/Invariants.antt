@@ -1,10 +1,8 @@
 -- `index::start_unions` leaves every union without a row. The invariant: those below x are so.
-use borrow.Author.Rules.{rules}
 use mathlib.Core.Path.{◌≡◌}
 use Prim.Native.Nat.{◌-◌}
 use lib.ListN.{length}
 use Rattle.index.specs.Members.{Unlinked}
-use Rattle.index.proofs.Members.{unlinked_start, unlinked_more, unlinked_end}
 use Rattle.index.proofs.start_unions.Given as goal
 
 abbrev pub invariant-loop-x : goal.invariant-loop-x
