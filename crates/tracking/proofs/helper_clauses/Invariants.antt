@@ -1,0 +1,13 @@
+-- `tracking::helper_clauses` adds a helper's clauses for the tracked parts of a name. The invariant: the parts before `at` have theirs.
+use borrow.Author.Rules.{rules}
+use Prim.Native.Nat.{◌-◌}
+use Rattle.encoder.proofs.Did.{told_full, told_going}
+use Rattle.tracking.proofs.Steps.{some_tracked, some_after}
+use Rattle.tracking.proofs.Parts.{Helping, helping_start, helping_stop, helping_step, helping_end}
+use Rattle.tracking.proofs.helper_clauses.Given as goal
+
+abbrev pub invariant-loop-at : goal.invariant-loop-at
+invariant-loop-at l = Helping l.k l.t l.l l.r l.name l.y l.j l.initial.m l.initial.s l.initial.clauses l.s l.clauses l.m l.i l.at
+
+abbrev pub decreases-loop-at : goal.decreases-loop-at
+decreases-loop-at l = l.initial.m.tracked - l.at

@@ -1,0 +1,18 @@
+use borrow.Author.Rules.{rules}
+use Prim.Native.Nat.{◌-◌}
+use Rattle.state.specs.Layout.{held}
+use Rattle.marked.specs.Marked.{listed}
+use Rattle.tracking.proofs.Parts.{Looking, look_start, look_found, look_more, look_end}
+use Rattle.tracking.proofs.next_of.Goals as goal
+
+pub loop-at-init : goal.loop-at-init
+loop-at-init c = search (rules, look_start)
+
+pub returns-then-part_name-name : goal.returns-then-part_name-name
+returns-then-part_name-name c = search (rules, look_found)
+
+pub returns : goal.returns
+returns c = search (rules, look_end)
+
+pub loop-at-preserved : goal.loop-at-preserved
+loop-at-preserved c = search (rules, look_more)
