@@ -1,5 +1,4 @@
 use borrow.Author.Rules.{rules}
-use Prim.Native.Nat.{ℕ, ◌<◌}
 use native.Mathlib.Omega.{arith}
 use Rattle.judging.proofs.Judging.{place_there, works_known, range_asked, leaf_works, left_falls, right_falls, left_given, right_given, left_asked, right_asked, and_apart, and_works, or_apart, or_works}
 use Rattle.judging.proofs.+work_out.Goals as goal

@@ -1,6 +1,5 @@
 use borrow.Author.Rules.{rules}
-use Prim.Native.Nat.{◌-◌}
-use Rattle.judging.proofs.Judging.{FlagsSoFar, flags_start, flags_step, flags_end}
+use Rattle.judging.proofs.Judging.{flags_start, flags_step, flags_end}
 use Rattle.judging.proofs.flags_of.Goals as goal
 
 pub loop-i-init : goal.loop-i-init

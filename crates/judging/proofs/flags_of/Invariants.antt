@@ -1,7 +1,6 @@
 -- `judging::flags_of` gives a flag for each verdict. The invariant: the first i flags are set.
-use borrow.Author.Rules.{rules}
 use Prim.Native.Nat.{◌-◌}
-use Rattle.judging.proofs.Judging.{FlagsSoFar, flags_start, flags_step, flags_end}
+use Rattle.judging.proofs.Judging.{FlagsSoFar}
 use Rattle.judging.proofs.flags_of.Given as goal
 
 abbrev pub invariant-loop-i : goal.invariant-loop-i

@@ -1,7 +1,6 @@
 use borrow.Author.Rules.{rules}
-use Prim.Native.Nat.{◌-◌}
 use native.Mathlib.Omega.{arith}
-use Rattle.judging.proofs.Rows.{RowsSoFar, rows_start, right_early, row_there, rows_step, rows_end, one_room, rows_one}
+use Rattle.judging.proofs.Rows.{rows_start, right_early, row_there, rows_step, rows_end, one_room, rows_one}
 use Rattle.judging.proofs.put_and.Goals as goal
 
 pub put_row-requires-clause-n_in_bounds : goal.put_row-requires-clause-n_in_bounds

@@ -1,8 +1,6 @@
 -- `judging::put_and` puts the verdicts of an `and`. The invariant: the rows of the first i disjuncts of the left half are put.
-use borrow.Author.Rules.{rules}
 use Prim.Native.Nat.{◌-◌}
-use native.Mathlib.Omega.{arith}
-use Rattle.judging.proofs.Rows.{RowsSoFar, rows_start, right_early, row_there, rows_step, rows_end, one_room, rows_one}
+use Rattle.judging.proofs.Rows.{RowsSoFar}
 use Rattle.judging.proofs.put_and.Given as goal
 
 abbrev pub invariant-loop-i : goal.invariant-loop-i

@@ -1,6 +1,5 @@
 use borrow.Author.Rules.{rules}
-use Prim.Native.Nat.{◌-◌}
-use Rattle.judging.proofs.Rows.{RowSoFar, row_start, row_step, row_end}
+use Rattle.judging.proofs.Rows.{row_start, row_step, row_end}
 use Rattle.judging.proofs.put_row.Goals as goal
 
 pub loop-i-init : goal.loop-i-init

@@ -1,7 +1,6 @@
 -- `judging::put_row` puts a row of verdicts. The invariant: the first i of them are put.
-use borrow.Author.Rules.{rules}
 use Prim.Native.Nat.{◌-◌}
-use Rattle.judging.proofs.Rows.{RowSoFar, row_start, row_step, row_end}
+use Rattle.judging.proofs.Rows.{RowSoFar}
 use Rattle.judging.proofs.put_row.Given as goal
 
 abbrev pub invariant-loop-i : goal.invariant-loop-i
