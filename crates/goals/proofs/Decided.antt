@@ -16,7 +16,7 @@ use Rattle.rules.specs.Conditions.{Disjunct}
 use Rattle.rules.specs.Variables.{Origin, known, part_origin, part_variable}
 use Rattle.rules.specs.Decisions.{Decision, is_true, is_false}
 use Rattle.rules.specs.Opening.{holds_now}
-use Rattle.rules.proofs.Each.{Each, cons, each_left, each_right}
+use Rattle.rules.proofs.Each.{Each, each_left, each_right}
 use Rattle.tables.specs.declared.Counts.{Counts}
 use Rattle.conditions.specs.declared.Disjunct as D
 use Rattle.conditions.specs.Sizes.{ranges_of, Carries}

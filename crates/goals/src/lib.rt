@@ -1,4 +1,6 @@
 // Goals and disjuncts: the distinct ranges of a goal, how many candidates it has, and what is decided of parts.
+#![tactic(auto)]
+
 ghost use Rattle.std.specs.Prelude.{◌≡◌, true, not, [], ◌<◌, ◌≤◌, min, eqb, length, get_or};
 ghost use Rattle.rules.specs.Lists.{any, all, concat_map, distinct};
 ghost use Rattle.rules.specs.Catalogue.{union};
