@@ -1,7 +1,5 @@
 use borrow.Author.Rules.{rules}
-use Prim.Native.Nat.{◌-◌}
-use Rattle.line_fields.specs.Listed.{number_text}
-use Rattle.line_fields.proofs.Printing.{Printing, printing_start, printing_step, printing_end}
+use Rattle.line_fields.proofs.Printing.{printing_start, printing_step, printing_end}
 use Rattle.line_fields.proofs.Numbers.{number_text_law}
 use Rattle.line_fields.proofs.disjunct_fields.Goals as goal
 

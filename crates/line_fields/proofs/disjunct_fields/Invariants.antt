@@ -1,9 +1,7 @@
 -- `line_fields::disjunct_fields` prints the ranges of a disjunct.
-use borrow.Author.Rules.{rules}
 use Prim.Native.Nat.{◌-◌}
 use Rattle.line_fields.specs.Listed.{number_text}
-use Rattle.line_fields.proofs.Printing.{Printing, printing_start, printing_step, printing_end}
-use Rattle.line_fields.proofs.Numbers.{number_text_law}
+use Rattle.line_fields.proofs.Printing.{Printing}
 use Rattle.line_fields.proofs.disjunct_fields.Given as goal
 
 abbrev pub invariant-loop-j : goal.invariant-loop-j
