@@ -11,10 +11,10 @@ pub join_if-m-requires-clause-p_bound : goal.join_if-m-requires-clause-p_bound
 join_if-m-requires-clause-p_bound c = search (rules, parting_low)
 
 pub returns-then-m-ne0 : goal.returns-then-m-ne0
-returns-then-m-ne0 c = search (rules, parting_stop, told_full c.if2.true)
+returns-then-m-ne0 c = search (rules, parting_stop, told_full c.if-m-ne0.true)
 
 pub returns : goal.returns
 returns c = search (rules, parting_end)
 
 pub loop-i-preserved : goal.loop-i-preserved
-loop-i-preserved c = search (rules, parting_step, told_going c.if2.false)
+loop-i-preserved c = search (rules, parting_step, told_going c.if-m-ne0.false)

@@ -24,13 +24,13 @@ pub link_if-m-requires-clause-can_link : goal.link_if-m-requires-clause-can_link
 link_if-m-requires-clause-can_link c = c.loop-y.invariant.can
 
 pub link_if-m-requires-clause-y_lt_variables : goal.link_if-m-requires-clause-y_lt_variables
-link_if-m-requires-clause-y_lt_variables c = omega (arith, c.loop-y.invariant.count, c.if-m-ne0.true)
+link_if-m-requires-clause-y_lt_variables c = omega (arith, c.loop-y.invariant.count, c.loop-y-test.true)
 
 pub returns-then-m-ne0 : goal.returns-then-m-ne0
-returns-then-m-ne0 c = linked_stop (c.loop-y.invariant) _ (c.if-m-ne0.true) (c.link_if-m.ensures) ((told_full c.if2.true))
+returns-then-m-ne0 c = linked_stop (c.loop-y.invariant) _ (c.loop-y-test.true) (c.link_if-m.ensures) ((told_full c.if-m-ne0.true))
 
 pub returns : goal.returns
-returns c = linked_end (c.loop-y.invariant) (c.if-m-ne0.false)
+returns c = linked_end (c.loop-y.invariant) (c.loop-y-test.false)
 
 pub loop-y-preserved : goal.loop-y-preserved
-loop-y-preserved c = linked_step c.loop-y.invariant _ c.if-m-ne0.true c.link_if-m.ensures (told_going c.if2.false) c.link_if-m.auto.s c.link_if-m.auto.clauses
+loop-y-preserved c = linked_step c.loop-y.invariant _ c.loop-y-test.true c.link_if-m.ensures (told_going c.if-m-ne0.false) c.link_if-m.auto.s c.link_if-m.auto.clauses
