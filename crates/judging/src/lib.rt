@@ -1,4 +1,6 @@
 // Which disjuncts of a condition hold: the conditions that it comes of are worked out one by one, each once, and a range is asked once.
+#![tactic(auto)]
+
 ghost use Rattle.std.specs.Prelude.{◌≡◌, ◌+◌, ◌*◌, ◌<◌, ◌≤◌, max, length};
 ghost use Rattle.rules.specs.Conditions.{disjuncts};
 ghost use Rattle.tables.specs.Tables.{tables};

@@ -1,5 +1,7 @@
 // Fields of the listing's lines, from numbers alone; and what the listing's pieces are to be (`Listed`).
 // The same functions measure and write (`text`).
+#![tactic(auto)]
+
 ghost use Rattle.std.specs.Prelude.{false, cond, [], ◌∷◌, ◌≤◌};
 ghost use Rattle.rules.specs.Items.{goal_of};
 ghost use Rattle.rules.specs.Listing.{ascii, decimal, signed, owner_field, goal_fields, origin_fields, clause_field};

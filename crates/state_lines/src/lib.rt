@@ -1,5 +1,7 @@
 // The listing's lines of variables, opened owners and names, conflicts and decisions: all that needs no catalogue.
 // The same functions measure and write (`text`).
+#![tactic(auto)]
+
 ghost use Rattle.std.specs.Prelude.{[], ◌∷◌, ◌*◌, ◌<◌, ◌≤◌, length};
 ghost use Rattle.rules.specs.Listing.{decimal, line};
 ghost use Rattle.text.specs.Text.{Addressable, Wrote};

@@ -1,0 +1,10 @@
+-- `state_lines::conflict_line` prints the line of a clause that was a conflict, and nothing for another.
+use borrow.Author.Rules.{rules}
+use Rattle.state_lines.proofs.Lines.{conflict_none, conflict_some}
+use Rattle.state_lines.proofs.conflict_line.Goals as goal
+
+pub returns-then-row-eq0 : goal.returns-then-row-eq0
+returns-then-row-eq0 c = search (rules, conflict_none)
+
+pub returns : goal.returns
+returns c = search (rules, conflict_some)
