@@ -1,6 +1,5 @@
 use borrow.Author.Rules.{rules}
-use Prim.Native.Nat.{◌-◌}
-use Rattle.binary_encoding.proofs.Track.{Gathering, gather_start, gather_low, gather_step, gather_end}
+use Rattle.binary_encoding.proofs.Track.{gather_start, gather_low, gather_step, gather_end}
 use Rattle.binary_encoding.proofs.gather_names.Goals as goal
 
 pub loop-i-init : goal.loop-i-init

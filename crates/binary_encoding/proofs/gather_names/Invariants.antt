@@ -1,7 +1,6 @@
 -- `binary_encoding::gather_names` gathers the flagged names of the named parts. The invariant: what is left of the list's making is the whole of it.
-use borrow.Author.Rules.{rules}
 use Prim.Native.Nat.{◌-◌}
-use Rattle.binary_encoding.proofs.Track.{Gathering, gather_start, gather_low, gather_step, gather_end}
+use Rattle.binary_encoding.proofs.Track.{Gathering}
 use Rattle.binary_encoding.proofs.gather_names.Given as goal
 
 abbrev pub invariant-loop-i : goal.invariant-loop-i

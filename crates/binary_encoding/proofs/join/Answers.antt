@@ -1,5 +1,4 @@
 -- `binary_encoding::join` lets a part join its name.
-use borrow.Author.Rules.{rules}
 use native.Mathlib.Omega.{arith}
 use Rattle.state.proofs.Sizes.{fits_same}
 use Rattle.encoder.proofs.Did.{told_full, told_going}

@@ -1,7 +1,6 @@
 use borrow.Author.Rules.{rules}
-use Prim.Native.Nat.{◌-◌}
 use Rattle.encoder.proofs.Did.{told_full, told_going}
-use Rattle.binary_encoding.proofs.Names.{Parting, parting_start, parting_low, parting_stop, parting_step, parting_end}
+use Rattle.binary_encoding.proofs.Names.{parting_start, parting_low, parting_stop, parting_step, parting_end}
 use Rattle.binary_encoding.proofs.join_name.Goals as goal
 
 pub loop-i-init : goal.loop-i-init

@@ -1,5 +1,4 @@
 -- `binary_encoding::join_named` adds the clauses of a part and tracks it.
-use borrow.Author.Rules.{rules}
 use Rattle.encoder.proofs.Did.{told_full, told_going}
 use Rattle.binary_encoding.proofs.Joins.{track_marked, track_count, track_new, track_stop, track_done}
 use Rattle.binary_encoding.proofs.join_named.Goals as goal

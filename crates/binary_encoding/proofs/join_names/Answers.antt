@@ -1,7 +1,6 @@
 use borrow.Author.Rules.{rules}
-use Prim.Native.Nat.{◌-◌}
 use Rattle.encoder.proofs.Did.{told_full, told_going}
-use Rattle.binary_encoding.proofs.Names.{Naming, naming_start, naming_stop, naming_step, naming_end}
+use Rattle.binary_encoding.proofs.Names.{naming_start, naming_stop, naming_step, naming_end}
 use Rattle.binary_encoding.proofs.join_names.Goals as goal
 
 pub loop-i-init : goal.loop-i-init

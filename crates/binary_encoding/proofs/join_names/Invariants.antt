@@ -1,8 +1,6 @@
 -- `binary_encoding::join_names` lets the named parts of the names at hand join. The invariant: those of the first i names did.
-use borrow.Author.Rules.{rules}
 use Prim.Native.Nat.{◌-◌}
-use Rattle.encoder.proofs.Did.{told_full, told_going}
-use Rattle.binary_encoding.proofs.Names.{Naming, naming_start, naming_stop, naming_step, naming_end}
+use Rattle.binary_encoding.proofs.Names.{Naming}
 use Rattle.binary_encoding.proofs.join_names.Given as goal
 
 abbrev pub invariant-loop-i : goal.invariant-loop-i

@@ -1,8 +1,6 @@
-use borrow.Author.Rules.{rules}
 use native.Mathlib.Omega.{arith}
-use Prim.Native.Nat.{◌-◌}
 use Rattle.encoder.proofs.Did.{told_full, told_going}
-use Rattle.binary_encoding.proofs.Links.{Linked, linked_start, linked_stop, linked_step, linked_end}
+use Rattle.binary_encoding.proofs.Links.{linked_start, linked_stop, linked_step, linked_end}
 use Rattle.binary_encoding.proofs.link_all.Goals as goal
 
 pub loop-y-init : goal.loop-y-init

@@ -1,9 +1,6 @@
 -- `binary_encoding::link_all` links the one-of-name variables of the run, as `link_all` says. The invariant: those before y are linked.
-use borrow.Author.Rules.{rules}
-use native.Mathlib.Omega.{arith}
 use Prim.Native.Nat.{◌-◌}
-use Rattle.encoder.proofs.Did.{told_full, told_going}
-use Rattle.binary_encoding.proofs.Links.{Linked, linked_start, linked_stop, linked_step, linked_end}
+use Rattle.binary_encoding.proofs.Links.{Linked}
 use Rattle.binary_encoding.proofs.link_all.Given as goal
 
 abbrev pub invariant-loop-y : goal.invariant-loop-y

@@ -1,9 +1,4 @@
 use borrow.Author.Rules.{rules}
-use mathlib.Core.Path.{◌≡◌}
-use Prim.Native.Nat.{◌-◌}
-use lib.ListN.{length}
-use Rattle.state.specs.Layout.{held}
-use Rattle.binary_encoding.specs.Joiners.{JoinersNoted}
 use Rattle.binary_encoding.proofs.Joiners.{joiners_none, joiners_more, joiners_up}
 use Rattle.binary_encoding.proofs.note_joiners.Goals as goal
 

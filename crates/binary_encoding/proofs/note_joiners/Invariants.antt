@@ -1,11 +1,9 @@
 -- `binary_encoding::note_joiners` flags the names of the named parts that are not tracked. The invariant: those of the first i are flagged.
-use borrow.Author.Rules.{rules}
 use mathlib.Core.Path.{◌≡◌}
 use Prim.Native.Nat.{◌-◌}
 use lib.ListN.{length}
 use Rattle.state.specs.Layout.{held}
 use Rattle.binary_encoding.specs.Joiners.{JoinersNoted}
-use Rattle.binary_encoding.proofs.Joiners.{joiners_none, joiners_more, joiners_up}
 use Rattle.binary_encoding.proofs.note_joiners.Given as goal
 
 abbrev pub invariant-loop-i : goal.invariant-loop-i
