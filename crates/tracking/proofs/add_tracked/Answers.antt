@@ -1,5 +1,4 @@
 -- `tracking::add_tracked` adds all clauses of a part that joins.
-use mathlib.Core.Path.{◌∙◌}
 use borrow.Author.Rules.{rules}
 use Rattle.state.proofs.Sizes.{fits_same}
 use Rattle.encoder.proofs.Steps.{long_same}

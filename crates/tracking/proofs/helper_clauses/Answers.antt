@@ -1,8 +1,7 @@
 use borrow.Author.Rules.{rules}
-use Prim.Native.Nat.{◌-◌}
 use Rattle.encoder.proofs.Did.{told_full, told_going}
 use Rattle.tracking.proofs.Steps.{some_tracked, some_after}
-use Rattle.tracking.proofs.Parts.{Helping, helping_start, helping_stop, helping_step, helping_end}
+use Rattle.tracking.proofs.Parts.{helping_start, helping_stop, helping_step, helping_end}
 use Rattle.tracking.proofs.helper_clauses.Goals as goal
 
 pub next_of-at-requires-clause-laid : goal.next_of-at-requires-clause-laid

@@ -1,9 +1,6 @@
 -- `tracking::helper_clauses` adds a helper's clauses for the tracked parts of a name. The invariant: the parts before `at` have theirs.
-use borrow.Author.Rules.{rules}
 use Prim.Native.Nat.{◌-◌}
-use Rattle.encoder.proofs.Did.{told_full, told_going}
-use Rattle.tracking.proofs.Steps.{some_tracked, some_after}
-use Rattle.tracking.proofs.Parts.{Helping, helping_start, helping_stop, helping_step, helping_end}
+use Rattle.tracking.proofs.Parts.{Helping}
 use Rattle.tracking.proofs.helper_clauses.Given as goal
 
 abbrev pub invariant-loop-at : goal.invariant-loop-at

@@ -1,6 +1,5 @@
 use borrow.Author.Rules.{rules}
-use Prim.Native.Nat.{◌-◌}
-use Rattle.tracking.proofs.Helpers.{Fewer, fewer_start, fewer_found, fewer_step, fewer_end}
+use Rattle.tracking.proofs.Helpers.{fewer_start, fewer_found, fewer_step, fewer_end}
 use Rattle.tracking.proofs.helpers_for.Goals as goal
 
 pub loop-h-init : goal.loop-h-init

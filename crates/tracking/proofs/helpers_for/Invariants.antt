@@ -1,7 +1,6 @@
 -- `tracking::helpers_for`: how many helpers k tracked parts have. The invariant: fewer than h are too few.
-use borrow.Author.Rules.{rules}
 use Prim.Native.Nat.{◌-◌}
-use Rattle.tracking.proofs.Helpers.{Fewer, fewer_start, fewer_found, fewer_step, fewer_end}
+use Rattle.tracking.proofs.Helpers.{Fewer}
 use Rattle.tracking.proofs.helpers_for.Given as goal
 
 abbrev pub invariant-loop-h : goal.invariant-loop-h

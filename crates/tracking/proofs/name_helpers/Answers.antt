@@ -1,7 +1,6 @@
 use borrow.Author.Rules.{rules}
-use Prim.Native.Nat.{◌-◌}
 use Rattle.tracking.proofs.Steps.{any_mapped}
-use Rattle.tracking.proofs.Helpers.{helper_in_tables, Naming, naming_start, naming_step, naming_end}
+use Rattle.tracking.proofs.Helpers.{helper_in_tables, naming_start, naming_step, naming_end}
 use Rattle.tracking.proofs.name_helpers.Goals as goal
 
 pub loop-j-init : goal.loop-j-init

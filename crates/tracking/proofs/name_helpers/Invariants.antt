@@ -1,8 +1,6 @@
 -- `tracking::name_helpers` gives the first h helpers of a name their variables. The invariant: the first j have theirs.
-use borrow.Author.Rules.{rules}
 use Prim.Native.Nat.{◌-◌}
-use Rattle.tracking.proofs.Steps.{any_mapped}
-use Rattle.tracking.proofs.Helpers.{helper_in_tables, Naming, naming_start, naming_step, naming_end}
+use Rattle.tracking.proofs.Helpers.{Naming}
 use Rattle.tracking.proofs.name_helpers.Given as goal
 
 abbrev pub invariant-loop-j : goal.invariant-loop-j

@@ -1,8 +1,5 @@
 use borrow.Author.Rules.{rules}
-use Prim.Native.Nat.{◌-◌}
-use Rattle.state.specs.Layout.{held}
-use Rattle.marked.specs.Marked.{listed}
-use Rattle.tracking.proofs.Parts.{Looking, look_start, look_found, look_more, look_end}
+use Rattle.tracking.proofs.Parts.{look_start, look_found, look_more, look_end}
 use Rattle.tracking.proofs.next_of.Goals as goal
 
 pub loop-at-init : goal.loop-at-init

@@ -1,9 +1,8 @@
 -- `tracking::next_of` finds the next tracked part of a name. The invariant: none was passed.
-use borrow.Author.Rules.{rules}
 use Prim.Native.Nat.{◌-◌}
 use Rattle.state.specs.Layout.{held}
 use Rattle.marked.specs.Marked.{listed}
-use Rattle.tracking.proofs.Parts.{Looking, look_start, look_found, look_more, look_end}
+use Rattle.tracking.proofs.Parts.{Looking}
 use Rattle.tracking.proofs.next_of.Given as goal
 
 abbrev pub invariant-loop-at : goal.invariant-loop-at

@@ -1,6 +1,5 @@
 use borrow.Author.Rules.{rules}
-use Prim.Native.Nat.{◌-◌}
-use Rattle.tracking.proofs.Clauses.{helper_below, Agreeing, agreeing_start, agreeing_step, agreeing_end}
+use Rattle.tracking.proofs.Clauses.{helper_below, agreeing_start, agreeing_step, agreeing_end}
 use Rattle.tracking.proofs.part_clauses.Goals as goal
 
 pub loop-j-init : goal.loop-j-init

@@ -1,7 +1,6 @@
 -- `tracking::part_clauses` adds a part's clauses for the helpers. The invariant: the first j have theirs.
-use borrow.Author.Rules.{rules}
 use Prim.Native.Nat.{◌-◌}
-use Rattle.tracking.proofs.Clauses.{helper_below, Agreeing, agreeing_start, agreeing_step, agreeing_end}
+use Rattle.tracking.proofs.Clauses.{Agreeing}
 use Rattle.tracking.proofs.part_clauses.Given as goal
 
 abbrev pub invariant-loop-j : goal.invariant-loop-j

@@ -1,8 +1,5 @@
 use borrow.Author.Rules.{rules}
-use Prim.Native.Nat.{◌-◌}
-use Rattle.state.specs.Layout.{held}
-use Rattle.variable_map.specs.Mapping.{variables}
-use Rattle.tracking.proofs.Helpers.{helper_in_tables, Tracking, tracking_start, tracking_room, tracking_step, tracking_end}
+use Rattle.tracking.proofs.Helpers.{helper_in_tables, tracking_start, tracking_room, tracking_step, tracking_end}
 use Rattle.tracking.proofs.tracker_of.Goals as goal
 
 pub loop-j-init : goal.loop-j-init

@@ -1,9 +1,8 @@
 -- `tracking::tracker_of` collects the variables of the first h helpers. The invariant: the first j are in.
-use borrow.Author.Rules.{rules}
 use Prim.Native.Nat.{◌-◌}
 use Rattle.state.specs.Layout.{held}
 use Rattle.variable_map.specs.Mapping.{variables}
-use Rattle.tracking.proofs.Helpers.{helper_in_tables, Tracking, tracking_start, tracking_room, tracking_step, tracking_end}
+use Rattle.tracking.proofs.Helpers.{Tracking}
 use Rattle.tracking.proofs.tracker_of.Given as goal
 
 abbrev pub invariant-loop-j : goal.invariant-loop-j
