@@ -1,4 +1,6 @@
 // The sheet's commands but run: add, draw, decide, undo.
+#![tactic(auto)]
+
 ghost use Rattle.std.specs.Prelude.{◌≡◌, ◌||◌, ◌+◌, ◌<◌, ◌≤◌, eqb, ltb, length, get_or};
 ghost use Rattle.rules.specs.Decisions.{last_level};
 ghost use Rattle.rules.specs.Records.{Command};

@@ -6,8 +6,8 @@ use Rattle.checking.proofs.check_catalogue.Goals as goal
 
 pub returns : goal.returns
 returns c = record {
-      gives = search (rules, catalogue_told);
-      marks = search (rules, still_zeroed);
-      unions = search (rules, still_zeroed);
-      tables = search (rules, still_zeroed);
-    }
+  gives = search (rules, catalogue_told);
+  marks = search (rules, still_zeroed);
+  unions = search (rules, still_zeroed);
+  tables = search (rules, still_zeroed);
+}

@@ -1,5 +1,4 @@
 -- `terms::areas_cover` compares six lent lengths with those that the limits ask for.
-use borrow.Author.Rules.{rules}
 use Rattle.terms.proofs.Terms.{marks_short, unions_short, catalogue_short, clauses_short, state_short, waiting_short, all_long}
 use Rattle.terms.proofs.areas_cover.Goals as goal
 
