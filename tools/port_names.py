@@ -121,7 +121,8 @@ def main():
                 else:
                     code = m.group(1) + m.group(2) + re.sub(r"( as )(" + NAME + ")", lambda a: a.group(1) + new.get(a.group(2), a.group(2)), m.group(3))
             else:
-                code = turn(code, lib, modules)
+                # what stands in quotation marks is text
+                code = "".join(it if it.startswith('"') else turn(it, lib, modules) for it in re.split(r'("(?:[^"\\]|\\.)*")', code))
             lines.append(code + (dash + in_comment(note) if dash else ""))
         open(p, "w", encoding="utf-8").write("\n".join(lines))
 

@@ -1,5 +1,7 @@
 // A run begins: the added owners are opened, then the drawn entries fire.
 // What the areas hold between two records (`Holds`), and that a job can come to it (`Reaches`).
+#![tactic(auto)]
+
 ghost use Rattle.std.specs.Prelude.{◌≡◌, ◌<◌, ◌≤◌, length};
 ghost use Rattle.cache.specs.Areas.{catalogue};
 ghost use Rattle.state.specs.Layout.{held, Fits};

@@ -20,7 +20,6 @@ use Rattle.tables.specs.declared.Counts.{Counts}
 use Rattle.cache.specs.Areas.{catalogue}
 use Rattle.state.specs.declared.Limits.{Limits}
 use Rattle.state.specs.Changed.{Changed}
-use Rattle.variable_map.specs.Mapping.{variables}
 use Rattle.variable_map.proofs.Laws.{variables_kept}
 use Rattle.marked.specs.Marked.{listed, Marked, Emptied}
 use Rattle.marked.proofs.Laws.{length_listed, listed_same, marked_same, marked_is}

@@ -13,7 +13,7 @@ use Rattle.rules.specs.Lists.{elem, fold, when, up_to}
 use Rattle.rules.specs.Clause.{Clause}
 use Rattle.rules.specs.AtMostOne.{helpers_for, join_clauses}
 use Rattle.rules.specs.Catalogue.{no_part, Catalogue, name_of}
-use Rattle.rules.specs.Variables.{Origin, forbid, known, with_variables, part_origin}
+use Rattle.rules.specs.Variables.{Origin, forbid, with_variables, part_origin}
 use Rattle.rules.specs.Opening.{Opening, tracked_of}
 use Rattle.rules.specs.Encoding.{Event, joins, helpers_of, origins, clauses}
 use Rattle.rules.specs.State.{State, Run, emit}

@@ -1,5 +1,7 @@
 // Tracked parts join their names at a run's end, after binary_encoding.rs, and new one-of-name variables are linked.
 // Once it is full nothing more is done.
+#![tactic(auto)]
+
 ghost use Rattle.std.specs.Prelude.{◌≡◌, false, [], ◌<◌, length};
 ghost use Rattle.rules.specs.Lists.{elem};
 ghost use Rattle.rules.specs.Run.{join_all, link_all};

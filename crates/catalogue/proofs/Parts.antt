@@ -17,7 +17,6 @@ use Rattle.cache.specs.Areas.{catalogue}
 use Rattle.kept.specs.declared.Added.TheVariants.{Counted}
 use Rattle.part_items.specs.Flags.{If, Free, Joined}
 use Rattle.catalogue.specs.declared.Step.{Step}
-use Rattle.catalogue.specs.declared.Step.TheVariants as Step
 use Rattle.catalogue.specs.Walking.{Ready, body_at, ItemAt, PartAt, FreeAt, place_after, progress_after, Stepped, Onward}
 use Rattle.catalogue.proofs.Steps.{low_kind, item_next, same_refl, same_then}
 

@@ -39,7 +39,6 @@ use Rattle.kept.specs.declared.Added.TheVariants.{Counted, Refused}
 use Rattle.part_items.specs.Flags.{Vacant}
 use Rattle.part_items.proofs.Free.{vacant_start, vacant_same, vacant_zeros}
 use Rattle.catalogue.specs.declared.Step.{Step}
-use Rattle.catalogue.specs.declared.Step.TheVariants as Step
 use Rattle.catalogue.specs.declared.Read.TheVariants as Read
 use Rattle.kept.specs.Entered.{rows_of, answered, After, Entered}
 use Rattle.catalogue.specs.Walking.{Same, Ready, body_at, step_to, Taken, ItemAt, place_after, progress_after, Passed, AtSheet, Stepped, place_of, progress_of, ReadUp}

@@ -14,12 +14,9 @@ use Rattle.cache.specs.Areas.{catalogue}
 use Rattle.kept.specs.Kept.{Kept}
 use Rattle.kept.specs.Entered.{Entered}
 use Rattle.kept.specs.declared.Added.{Added}
-use Rattle.kept.specs.declared.Added.TheVariants as Added
 use Rattle.part_items.specs.Flags.{Vacant, Free}
 use Rattle.catalogue.specs.declared.Step.{Step}
-use Rattle.catalogue.specs.declared.Step.TheVariants as Step
 use Rattle.catalogue.specs.declared.Read.{Read}
-use Rattle.catalogue.specs.declared.Read.TheVariants as Read
 
 -- from byte `at` with progress p both walks come to where they come from byte at' with p'
 pub record Same (job : List ℕ) (at : ℕ) (p : Progress) (at' : ℕ) (p' : Progress) : Type 0 where

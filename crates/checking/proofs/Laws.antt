@@ -23,7 +23,6 @@ use Rattle.refusal.specs.Refusing.{refusal_of}
 use Rattle.tables.specs.declared.Counts.{Counts}
 use Rattle.cache.specs.Areas.{catalogue}
 use Rattle.catalogue.specs.declared.Read.{Read}
-use Rattle.catalogue.specs.declared.Read.TheVariants as Read
 use Rattle.catalogue.specs.Walking.{place_of, progress_of, ReadUp}
 use Rattle.terms.specs.declared.Answer.{Answer}
 use Rattle.terms.specs.declared.Limits.{Limits}

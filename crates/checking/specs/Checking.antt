@@ -7,7 +7,6 @@ use Rattle.rules.specs.Job.{reading, walk, accepts, refuses, check_step, checked
 use Rattle.rules.specs.Job as job
 use Rattle.refusal.specs.Refusing.{refusal_of}
 use Rattle.catalogue.specs.declared.Read.{Read}
-use Rattle.catalogue.specs.declared.Read.TheVariants as Read
 use Rattle.terms.specs.declared.Answer.{Answer}
 use Rattle.terms.specs.declared.Lent.{Lent}
 use Rattle.terms.specs.Terms.{terms_of}

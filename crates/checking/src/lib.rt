@@ -1,5 +1,7 @@
 // `check` on the catalogue's three areas: 7, then 3 for the length, then the catalogue's records, and what is answered.
 // The areas are zero on every way out.
+#![tactic(auto)]
+
 ghost use Rattle.std.specs.Prelude.{◌≤◌, length};
 ghost use Rattle.terms.specs.Terms.{limits_of, lent_of};
 ghost use Rattle.terms.specs.Answers.{Gives};

@@ -264,7 +264,7 @@ literals_more c vs (y ∷ ys) x =
 -- the loop at range j
 pub record Collecting (c : Catalogue) (d : D.Disjunct) (xs : Disjunct) (l : Limits) (n : Counters) (b₀ b : List ℕ) (m j : ℕ) : Type 0 where
   pub carries : Carries d xs
-  pub given : (i : ℕ) → i < d.len → get_or d.ranges i 0 < length c.ranges_2
+  pub given : (i : ℕ) → i < d.len → get_or d.ranges i 0 < length c.ranges
   pub parts : length c.parts ≤ 1024
   pub fits : Fits l (length b)
   pub same : length b ≡ length b₀

@@ -1,4 +1,6 @@
 // A constraint's task: a clause for each non-matching part, or, from 4 on, a violation variable.
+#![tactic(auto)]
+
 mod outside;
 
 ghost use Rattle.std.specs.Prelude.{◌≡◌, true, [], ◌<◌, length};

@@ -1,5 +1,4 @@
 // Deferred entries as a lent list of records: one is pushed behind the others, and the held ones are drained, in order.
-// A function that has the list as a parameter, or makes it, is proved by a walk of its code.
 ghost use Rattle.std.specs.Prelude.{◌≡◌, ◌+◌, ◌*◌, ◌<◌, ◌≤◌, length, set, take};
 ghost use Rattle.entries.specs.Deferred.{record_at, behind, listed, free_records, free_rows};
 

@@ -27,7 +27,7 @@ use Rattle.owners.proofs.Names.{range_low}
 
 module _ (c : Catalogue) where
   abbrev AllGiven : Disjunct → Type 0
-  AllGiven d = Each (λ r. r < length c.ranges_2) d
+  AllGiven d = Each (λ r. r < length c.ranges) d
 
   -- each right half behind each left one
   both_given : (ls rs : List Disjunct) → Each AllGiven ls → Each AllGiven rs → Each AllGiven (concat_map (λ l. map (λ r. l ++ r) rs) ls)

@@ -1,4 +1,6 @@
 // A condition's task: its disjuncts fire or wait. Drawn entries fire alike.
+#![tactic(auto)]
+
 ghost use Rattle.std.specs.Prelude.{◌≡◌, false, [], ◌∷◌, ◌++◌, ◌+◌, ◌<◌, ◌≤◌, length};
 ghost use Rattle.rules.specs.Lists.{filter, up_to};
 ghost use Rattle.rules.specs.Conditions.{indices, unconditional};
@@ -19,7 +21,7 @@ use state::Limits;
 use tables::Counts;
 
 // Some disjuncts of one requirement, by index: the first `len`.
-#[derive(Drop)]
+#[derive(Clone, Copy)]
 pub struct Indices {
     pub at: [u16; 64],
     pub len: usize,
@@ -48,7 +50,7 @@ pub fn pushed(is: Indices, i: u16) -> Indices
 }
 
 // Which disjuncts of a requirement hold: a flag for each of the first `count`.
-#[derive(Drop)]
+#[derive(Clone, Copy)]
 struct Judgement {
     flags: [u8; 64],
     count: usize,

@@ -1,4 +1,6 @@
 // Names of a goal's ranges are opened, and an owner's task is served.
+#![tactic(auto)]
+
 ghost use Rattle.std.specs.Prelude.{◌≡◌, true, false, [], ◌+◌, ◌<◌, length};
 ghost use Rattle.rules.specs.Lists.{fold, up_to};
 ghost use Rattle.rules.specs.Catalogue.{union, part, range_name, unknown_owner};
@@ -149,7 +151,7 @@ pub fn owner_origin(o: u16) -> Origin
 }
 
 // What is done with each record of an owner: an unconditional requirement or a constraint opens its names; a requirement or a constraint is queued.
-#[derive(Drop)]
+#[derive(Clone, Copy)]
 pub enum Rule {
     OpenRequirement,
     OpenConstraint,

@@ -1,4 +1,6 @@
 // Parts of a rule, one after another in file order: they get variables, are named for tracking and opened, or a clause is added for each.
+#![tactic(auto)]
+
 ghost use Rattle.std.specs.Prelude.{◌≡◌, true, not, ◌&&◌, [], ◌∷◌, ◌+◌, ◌<◌, eqb, length, get_or};
 ghost use Rattle.rules.specs.Lists.{fold, when};
 ghost use Rattle.rules.specs.Catalogue.{no_part};
@@ -21,7 +23,7 @@ use state::Limits;
 use tables::Counts;
 
 // Which parts: those chosen of a range; of a name the locked one, all but the locked one, or the excluded ones.
-#[derive(Drop)]
+#[derive(Clone, Copy)]
 pub enum Parts {
     Chosen { range: usize, choice: Choice },
     Locked(u16),
@@ -30,7 +32,7 @@ pub enum Parts {
 }
 
 // What is named: a variable; for a part that is also tracked; for a candidate, which is also opened if it is ready.
-#[derive(Drop)]
+#[derive(Clone, Copy)]
 pub enum Naming {
     Variable,
     Tracked,
@@ -38,7 +40,7 @@ pub enum Naming {
 }
 
 // The clause that is added: lock, excluded, constrains of an owner's variable, aux-out of a violation.
-#[derive(Drop)]
+#[derive(Clone, Copy)]
 pub enum Adding {
     Lock,
     Excluded,

@@ -1,5 +1,7 @@
 // Clauses that report a conflict, at most: stored behind the others, and heeded as they are made.
 // A clause that would pass a limit is not stored; then it is full.
+#![tactic(auto)]
+
 ghost use Rattle.std.specs.Prelude.{◌+◌, ◌<◌, ◌≤◌, length};
 ghost use Rattle.rules.specs.Clause.{excluded, constrains, aux_owner, lock};
 ghost use Rattle.state.specs.Layout.{held, Fits};

@@ -1,5 +1,7 @@
 // Clauses that may set a literal: stored behind the others, and heeded as they are made.
 // A clause that would pass a limit is not stored; then it is full.
+#![tactic(auto)]
+
 ghost use Rattle.std.specs.Prelude.{◌<◌, length};
 ghost use Rattle.rules.specs.Clause.{forbid, aux_out, any_gate, any_one};
 ghost use Rattle.clause.specs.Literals.{literal_of};

@@ -1,5 +1,7 @@
 // A clause's row is stored behind the others, and sets a literal; what a clause of two literals does when it is made.
 // A row that would pass a limit is not stored; then it is full.
+#![tactic(auto)]
+
 ghost use Rattle.std.specs.Prelude.{◌≡◌, cond, not, ◌&&◌, ◌*◌, ◌<◌, ◌≤◌, leb, length};
 ghost use Rattle.rules.specs.Decisions.{is_true};
 ghost use Rattle.clause.specs.Literals.{literal_of};

@@ -1,5 +1,7 @@
 // The terms of a call and its answers: whether its limits are allowed and its areas long enough (refusal 7), and the five numbers that it answers.
 // Nothing here looks at a job.
+#![tactic(auto)]
+
 ghost use Rattle.std.specs.Prelude.{◌≡◌, not};
 ghost use Rattle.rules.specs.Refusals.{number_and_place};
 ghost use Rattle.rules.specs.Limits.{within, allowed, covers, needed, fits};
@@ -12,7 +14,7 @@ use refusal::Refusal;
 
 // What a call answers: 0 or the number of a refusal, and its place; the listing's length, the variables and the clauses.
 #[repr(C)]
-#[derive(Drop)]
+#[derive(Clone, Copy)]
 pub struct Answer {
     pub number: u64,
     pub place: u64,
@@ -22,7 +24,7 @@ pub struct Answer {
 }
 
 // The four limits of a job.
-#[derive(Drop)]
+#[derive(Clone, Copy)]
 pub struct Limits {
     pub variables: u64,
     pub clauses: u64,
@@ -31,7 +33,7 @@ pub struct Limits {
 }
 
 // The lengths of the six work areas.
-#[derive(Drop)]
+#[derive(Clone, Copy)]
 pub struct Lent {
     pub marks: usize,
     pub unions: usize,

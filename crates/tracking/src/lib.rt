@@ -1,5 +1,7 @@
 // A name's helper variables, after binary_encoding.rs: the clauses by which part i of a name agrees with the bits of i, and those of one-of-name.
 // Once it is full nothing more is done.
+#![tactic(auto)]
+
 ghost use Rattle.std.specs.Prelude.{◌≡◌, [], ◌∷◌, ◌++◌, ◌+◌, ◌^◌, ◌<◌, ◌≤◌, length, get_or};
 ghost use Rattle.rules.specs.AtMostOne.{agrees, helpers_for, helper_clauses, part_clauses};
 ghost use Rattle.rules.specs.AtMostOne as rules;
@@ -18,7 +20,7 @@ use state::Limits;
 use tables::Counts;
 
 // A name's helper variables: the first `count` of ten.
-#[derive(Drop)]
+#[derive(Clone, Copy)]
 pub struct Tracker {
     pub helpers: [u16; 10],
     pub count: usize,

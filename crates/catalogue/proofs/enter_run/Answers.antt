@@ -1,5 +1,4 @@
 -- `catalogue::enter_run` takes a step of the walks for each part that it passes, or, where it passes none, one for the item.
-use mathlib.Core.Path.{◌∙◌}
 use borrow.Author.Rules.{rules}
 use Rattle.catalogue.proofs.Parts.{moved, still_ready, stayed}
 use Rattle.catalogue.proofs.enter_run.Goals as goal

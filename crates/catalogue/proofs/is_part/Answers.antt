@@ -1,5 +1,4 @@
 -- `catalogue::is_part` tells of a part that stands whole in a job.
-use native.Mathlib.Omega.{arith}
 use borrow.Author.Rules.{rules}
 use Rattle.part_items.proofs.Free.{if_not}
 use Rattle.catalogue.proofs.Parts.{if_part}

@@ -1,7 +1,5 @@
 use borrow.Author.Rules.{rules}
-use Prim.Native.Nat.{◌-◌}
-use lib.ListN.{length}
-use Rattle.catalogue.proofs.Parts.{none_passed, Run, run_start, run_free, run_less, run_step}
+use Rattle.catalogue.proofs.Parts.{none_passed, run_start, run_free, run_less, run_step}
 use Rattle.catalogue.proofs.pass_parts.Goals as goal
 
 pub returns-then-kind-ne2 : goal.returns-then-kind-ne2

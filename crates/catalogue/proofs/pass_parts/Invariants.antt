@@ -1,8 +1,7 @@
 -- `catalogue::pass_parts` takes a step of the walks for each part that it passes. The measure is what is left of the job.
-use borrow.Author.Rules.{rules}
 use Prim.Native.Nat.{◌-◌}
 use lib.ListN.{length}
-use Rattle.catalogue.proofs.Parts.{none_passed, Run, run_start, run_free, run_less, run_step}
+use Rattle.catalogue.proofs.Parts.{Run}
 use Rattle.catalogue.proofs.pass_parts.Given as goal
 
 abbrev pub invariant-loop-t : goal.invariant-loop-t

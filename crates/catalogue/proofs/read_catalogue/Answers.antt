@@ -1,9 +1,5 @@
-use mathlib.Core.Path.{◌∙◌}
-use native.Mathlib.Omega.{arith}
 use borrow.Author.Rules.{rules}
-use Prim.Native.Nat.{◌-◌}
-use lib.ListN.{length}
-use Rattle.catalogue.proofs.Steps.{Left, left_start, left_next, left_less, left_sheet, left_refused, left_end}
+use Rattle.catalogue.proofs.Steps.{left_start, left_next, left_less, left_sheet, left_refused, left_end}
 use Rattle.catalogue.proofs.read_catalogue.Goals as goal
 
 pub loop-at-init : goal.loop-at-init

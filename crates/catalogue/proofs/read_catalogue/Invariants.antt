@@ -1,10 +1,7 @@
 -- `catalogue::read_catalogue`: what is left of the walks is the whole walks, at each turn and at the end. The measure is what is left of the job.
-use mathlib.Core.Path.{◌∙◌}
-use native.Mathlib.Omega.{arith}
-use borrow.Author.Rules.{rules}
 use Prim.Native.Nat.{◌-◌}
 use lib.ListN.{length}
-use Rattle.catalogue.proofs.Steps.{Left, left_start, left_next, left_less, left_sheet, left_refused, left_end}
+use Rattle.catalogue.proofs.Steps.{Left}
 use Rattle.catalogue.proofs.read_catalogue.Given as goal
 
 abbrev pub invariant-loop-at : goal.invariant-loop-at

@@ -1,5 +1,4 @@
 use borrow.Author.Rules.{rules}
-use Prim.Native.Nat.{ℕ, ◌<◌}
 use Rattle.conditions.proofs.Laws.{range_room, range_is, half_falls, half_asked, half_is}
 use Rattle.conditions.proofs.Laws.{left_falls, left_asked, right_falls, right_asked, halves_is}
 use Rattle.conditions.proofs.+disjunct_behind.Goals as goal

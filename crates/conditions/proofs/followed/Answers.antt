@@ -1,6 +1,5 @@
 use borrow.Author.Rules.{rules}
-use Rattle.tables.specs.Tables.{tables}
-use Rattle.conditions.proofs.Laws.{Following, following_given, following_start, following_step}
+use Rattle.conditions.proofs.Laws.{following_given, following_start, following_step}
 use Rattle.conditions.proofs.followed.Goals as goal
 
 pub half-next-requires-in-loop-next-clause-laid : goal.half-next-requires-in-loop-next-clause-laid

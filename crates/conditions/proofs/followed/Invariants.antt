@@ -1,7 +1,6 @@
 -- `conditions::followed`: halves of an `or` are followed. The invariant: the place at hand is that of the disjunct, and so is its half.
-use borrow.Author.Rules.{rules}
 use Rattle.tables.specs.Tables.{tables}
-use Rattle.conditions.proofs.Laws.{Following, following_given, following_start, following_step}
+use Rattle.conditions.proofs.Laws.{Following}
 use Rattle.conditions.proofs.followed.Given as goal
 
 abbrev pub invariant-loop-next : goal.invariant-loop-next

@@ -1,5 +1,4 @@
 use borrow.Author.Rules.{rules}
-use Rattle.marks.specs.Marks.{EndOfMembers}
 use Rattle.marks.proofs.Laws.{ended_start, byte_before, bit_before, all_before}
 use Rattle.marks.proofs.end.Goals as goal
 

@@ -1,7 +1,5 @@
 -- `marks::end` finds the end of the members. The invariant: none stands behind p.
-use borrow.Author.Rules.{rules}
 use Rattle.marks.specs.Marks.{EndOfMembers}
-use Rattle.marks.proofs.Laws.{ended_start, byte_before, bit_before, all_before}
 use Rattle.marks.proofs.end.Given as goal
 
 abbrev pub invariant-loop-p : goal.invariant-loop-p

@@ -1,5 +1,4 @@
 -- `marks::mark` makes part p a member of range r, and changes no other member.
-use borrow.Author.Rules.{rules}
 use Rattle.marks.proofs.Laws.{mark_is}
 use Rattle.marks.proofs.mark.Goals as goal
 

@@ -1,6 +1,5 @@
 use borrow.Author.Rules.{rules}
-use Prim.Native.Nat.{◌-◌}
-use Rattle.marks.proofs.Laws.{Passed, passed_start, byte_passed, bit_passed, member_found, none_found}
+use Rattle.marks.proofs.Laws.{passed_start, byte_passed, bit_passed, member_found, none_found}
 use Rattle.marks.proofs.next.Goals as goal
 
 pub loop-p-init : goal.loop-p-init

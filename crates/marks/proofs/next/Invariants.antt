@@ -1,7 +1,6 @@
 -- `marks::next` finds the next member. The invariant: none was passed.
-use borrow.Author.Rules.{rules}
 use Prim.Native.Nat.{◌-◌}
-use Rattle.marks.proofs.Laws.{Passed, passed_start, byte_passed, bit_passed, member_found, none_found}
+use Rattle.marks.proofs.Laws.{Passed}
 use Rattle.marks.proofs.next.Given as goal
 
 abbrev pub invariant-loop-p : goal.invariant-loop-p

@@ -1,5 +1,4 @@
 -- `part_items::add_member` marks a part as a member of a range of its name, once.
-use native.Mathlib.Omega.{arith}
 use borrow.Author.Rules.{rules}
 use Rattle.part_items.proofs.Items.{member_rangeless, member_partless, member_other_name, member_twice_law, member_entered}
 use Rattle.part_items.proofs.add_member.Goals as goal

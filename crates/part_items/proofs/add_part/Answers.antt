@@ -1,5 +1,4 @@
 -- `part_items::add_part` enters a part or refuses it.
-use mathlib.Core.Path.{refl}
 use borrow.Author.Rules.{rules}
 use Rattle.part_items.proofs.Items.{part_full, part_nameless, part_bits, part_locked, part_favoured, part_entered}
 use Rattle.part_items.proofs.add_part.Goals as goal

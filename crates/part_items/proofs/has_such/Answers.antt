@@ -1,8 +1,5 @@
-use native.Mathlib.Omega.{arith}
 use borrow.Author.Rules.{rules}
-use Prim.Native.Nat.{◌-◌}
-use Rattle.cache.specs.Areas.{catalogue}
-use Rattle.part_items.proofs.Search.{Unseen, unseen_start, unseen_found, unseen_step, unseen_end}
+use Rattle.part_items.proofs.Search.{unseen_start, unseen_found, unseen_step, unseen_end}
 use Rattle.part_items.proofs.has_such.Goals as goal
 
 pub loop-p-init : goal.loop-p-init

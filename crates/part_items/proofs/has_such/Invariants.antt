@@ -1,9 +1,7 @@
 -- `part_items::has_such` tells whether a part of a name has a flag: the loop has passed none so far.
-use native.Mathlib.Omega.{arith}
-use borrow.Author.Rules.{rules}
 use Prim.Native.Nat.{◌-◌}
 use Rattle.cache.specs.Areas.{catalogue}
-use Rattle.part_items.proofs.Search.{Unseen, unseen_start, unseen_found, unseen_step, unseen_end}
+use Rattle.part_items.proofs.Search.{Unseen}
 use Rattle.part_items.proofs.has_such.Given as goal
 
 abbrev pub invariant-loop-p : goal.invariant-loop-p

@@ -1,5 +1,4 @@
 -- `part_items::is_first` tells of both flags that they are not set, or that their byte is 1.
-use native.Mathlib.Omega.{arith}
 use borrow.Author.Rules.{rules}
 use Rattle.part_items.proofs.Free.{if_not, if_first_plain, if_first}
 use Rattle.part_items.proofs.is_first.Goals as goal

@@ -1,5 +1,4 @@
 -- `part_items::is_free` tells of a part that nothing speaks against.
-use native.Mathlib.Omega.{arith}
 use borrow.Author.Rules.{rules}
 use Rattle.part_items.proofs.Free.{if_not, fitting_named, if_free}
 use Rattle.part_items.proofs.is_free.Goals as goal

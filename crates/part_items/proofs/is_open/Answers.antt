@@ -1,5 +1,4 @@
 -- `part_items::is_open` tells of a flag that is not set, or whose byte is 1.
-use native.Mathlib.Omega.{arith}
 use borrow.Author.Rules.{rules}
 use Rattle.part_items.proofs.Free.{if_open, if_unset}
 use Rattle.part_items.proofs.is_open.Goals as goal

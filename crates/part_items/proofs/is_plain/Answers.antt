@@ -1,5 +1,4 @@
 -- `part_items::is_plain` tells of flags of which neither is set.
-use native.Mathlib.Omega.{arith}
 use borrow.Author.Rules.{rules}
 use Rattle.part_items.proofs.Free.{if_not, if_plain}
 use Rattle.part_items.proofs.is_plain.Goals as goal

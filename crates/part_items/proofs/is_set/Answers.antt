@@ -1,5 +1,4 @@
 -- `part_items::is_set` is the bit of a flag.
-use native.Mathlib.Omega.{arith}
 use borrow.Author.Rules.{rules}
 use Rattle.part_items.proofs.Search.{set_locked, set_favoured}
 use Rattle.part_items.proofs.is_set.Goals as goal

@@ -1,5 +1,4 @@
 -- `part_items::note` leaves no 1 at the bytes of the flags that are set.
-use native.Mathlib.Omega.{arith}
 use borrow.Author.Rules.{rules}
 use Rattle.part_items.proofs.Free.{noted_plain, both_noted}
 use Rattle.part_items.proofs.note.Goals as goal

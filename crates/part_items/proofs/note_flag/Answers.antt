@@ -1,5 +1,4 @@
 -- `part_items::note_flag` leaves no 1 at the byte of a flag that is set.
-use native.Mathlib.Omega.{arith}
 use borrow.Author.Rules.{rules}
 use Rattle.part_items.proofs.Free.{set_noted, unset_noted}
 use Rattle.part_items.proofs.note_flag.Goals as goal

@@ -1,5 +1,4 @@
 -- `part_items::part_has` is a flag of a part.
-use native.Mathlib.Omega.{arith}
 use borrow.Author.Rules.{rules}
 use Rattle.part_items.proofs.Search.{has_locked, has_favoured}
 use Rattle.part_items.proofs.part_has.Goals as goal

@@ -1,5 +1,4 @@
 -- `part_items::place_of` is the place of a flag's and a name's byte.
-use native.Mathlib.Omega.{arith}
 use borrow.Author.Rules.{rules}
 use Rattle.part_items.proofs.Free.{place_locked, place_favoured}
 use Rattle.part_items.proofs.place_of.Goals as goal

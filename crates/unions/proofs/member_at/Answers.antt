@@ -1,5 +1,4 @@
 -- `unions::member_at` gives row i of the n rows, and zeros past them.
-use native.Mathlib.Omega.{arith}
 use borrow.Author.Rules.{rules}
 use Rattle.unions.proofs.Laws.{member_in, member_past}
 use Rattle.unions.proofs.member_at.Goals as goal

@@ -1,7 +1,4 @@
-use native.Mathlib.Omega.{arith}
 use borrow.Author.Rules.{rules}
-use Prim.Native.Nat.{◌-◌, ◌≤◌}
-use Rattle.unions.specs.Unions.{rows, NoneOf}
 use Rattle.unions.proofs.Laws.{none_start, none_passed, next_found, none_end}
 use Rattle.unions.proofs.next_of.Goals as goal
 

@@ -1,9 +1,6 @@
 -- `unions::next_of` finds the next row of a union. The invariant: none was passed.
-use native.Mathlib.Omega.{arith}
-use borrow.Author.Rules.{rules}
 use Prim.Native.Nat.{◌-◌, ◌≤◌}
 use Rattle.unions.specs.Unions.{rows, NoneOf}
-use Rattle.unions.proofs.Laws.{none_start, none_passed, next_found, none_end}
 use Rattle.unions.proofs.next_of.Given as goal
 
 abbrev pub invariant-loop-i : goal.invariant-loop-i

@@ -1,5 +1,4 @@
 -- `unions::push` stores one row more behind the n rows.
-use native.Mathlib.Omega.{arith}
 use borrow.Author.Rules.{rules}
 use Rattle.unions.proofs.Laws.{push_is}
 use Rattle.unions.proofs.push.Goals as goal

@@ -1,0 +1,7 @@
+-- `binary_encoding::join_all` lets all named parts join, as `join_all` says.
+use borrow.Author.Rules.{rules}
+use Rattle.binary_encoding.proofs.Joined.{names_low}
+use Rattle.binary_encoding.proofs.join_all.Goals as goal
+
+pub note_joiners-requires-clause-names_low : goal.note_joiners-requires-clause-names_low
+note_joiners-requires-clause-names_low c = search (rules, names_low)

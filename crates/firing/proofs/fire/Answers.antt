@@ -1,0 +1,12 @@
+-- `firing::fire` opens the names of a requirement, and queues its task.
+use borrow.Author.Rules.{rules}
+use Rattle.firing.proofs.Served.{fired}
+use Rattle.firing.proofs.Required.{goal_given}
+use Rattle.firing.proofs.fire.Goals as goal
+
+pub open_goal-m-requires-clause-goal_given : goal.open_goal-m-requires-clause-goal_given
+open_goal-m-requires-clause-goal_given c = goal_given _ _ _ _ _ _ c.requirement_at-it.ensures c.requires.catalogued c.requires.q_lt_requirements
+
+pub returns : goal.returns
+returns c = let it = c.requirement_at-it.ensures in
+    fired _ _ _ _ _ _ _ it c.open_goal-m.ensures c.queue.ensures

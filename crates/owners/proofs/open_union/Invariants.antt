@@ -1,0 +1,15 @@
+-- `owners::open_union` goes along a union's ranges. The invariant: the names of those passed are opened.
+use borrow.Author.Rules.{rules}
+use mathlib.Core.Path.{◌≡◌}
+use Prim.Native.Nat.{◌-◌}
+use lib.ListN.{length}
+use Rattle.state.specs.Layout.{held}
+use Rattle.owners.proofs.Names.{Opened, opened_start, union_range, opened_step, opened_end}
+use Rattle.state.proofs.Sizes.{fits_same}
+use Rattle.owners.proofs.open_union.Given as goal
+
+abbrev pub invariant-loop-i : goal.invariant-loop-i
+invariant-loop-i l = (length l.s ≡ length l.initial.s) × Opened l.k l.marks l.unions l.t l.l l.u l.initial.m (held l.l l.initial.s) l.i l.m (held l.l l.s)
+
+abbrev pub decreases-loop-i : goal.decreases-loop-i
+decreases-loop-i l = l.k.members - l.i

@@ -1,0 +1,10 @@
+-- `parts::is_due`: a settled part is left, whether it is one of these or not.
+use borrow.Author.Rules.{rules}
+use Rattle.parts.proofs.Names.{due_settled, due_selected}
+use Rattle.parts.proofs.is_due.Goals as goal
+
+pub returns-then-is_settled : goal.returns-then-is_settled
+returns-then-is_settled c = search (rules, due_settled)
+
+pub returns : goal.returns
+returns c = search (rules, due_selected)
