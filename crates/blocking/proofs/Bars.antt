@@ -130,6 +130,7 @@ each_start = record { grows = grows_same; passed = λ _ h l. let no : ⊥ = omeg
 
 -- what is so at each place of a list is so of each that is in it
 each_in : {A : Type 0} (P : A → Type 0) (o : A) (xs : List A) → ((i : ℕ) → i < length xs → P (get_or xs i o)) → (x : A) → x ∈ xs → P x
+each_in P o [] h x m = elim m [ ]
 each_in P o (y ∷ xs) h x (Memᴰ.head q) = rw q (h 0 (omega arith))
 each_in P o (y ∷ xs) h x (Memᴰ.tail m) = each_in P o xs (λ i l. h (suc i) (omega arith)) x m
 

@@ -135,7 +135,7 @@ module _ {c : Catalogue} {true? : ℕ → Bool} {blocked watched : List ℕ} (h 
       }
 
   -- v is put at range r
-  blocked_range : (r v : ℕ) → (v ≡ 1 → (r < length c.ranges_2) × (all_watched c watched r ≡ true)) → Blocked c true? (set blocked (256 + r) v) watched
+  blocked_range : (r v : ℕ) → (v ≡ 1 → (r < length c.ranges) × (all_watched c watched r ≡ true)) → Blocked c true? (set blocked (256 + r) v) watched
   blocked_range r v q =
       record {
         room = length-set blocked (256 + r) v ∙ h.room;
@@ -171,7 +171,7 @@ module _ {c : Catalogue} {r : ℕ} {b w : List ℕ} where
           keeps = λ f n h. blocked_range (more n h) r 2 (λ e. let no : ⊥ = omega arith in absurd no);
         }
 
-    bars : (left ≡ 0 → ⊥) → r < length c.ranges_2 → r < 512 → RangeBars c r true b w (set b (256 + r) 1) w'
+    bars : (left ≡ 0 → ⊥) → r < length c.ranges → r < 512 → RangeBars c r true b w (set b (256 + r) 1) w'
     bars n g low =
         record {
           long = d.long;

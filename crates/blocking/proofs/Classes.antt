@@ -16,14 +16,14 @@ use Rattle.marks.proofs.Bits.{bit_none, bit_more}
 
 -- ---- one bit more
 
-bit_or : (i x y : ℕ) → bit i (bit_or x y) ≡ (bit i y || bit i x)
+bit_of_or : (i x y : ℕ) → bit i (bit_or x y) ≡ (bit i y || bit i x)
 unfolding bit
-bit_or zero x y =
+bit_of_or zero x y =
     by_cases (eqb (y % 2) 1) (λ h. let e : bit_or x y % 2 ≡ 1 = omega (arith, or_step x y, eqb-true (y % 2) 1 h) in rw (h, e))
     (λ h. let e : bit_or x y % 2 ≡ x % 2 = omega (arith, or_step x y, eqb-false (y % 2) 1 h) in rw (h, e))
-bit_or (suc i) x y =
+bit_of_or (suc i) x y =
     let e : bit_or x y / 2 ≡ bit_or (x / 2) (y / 2) = omega (arith, or_step x y) in
-    rw e (bit_or i (x / 2) (y / 2))
+    rw e (bit_of_or i (x / 2) (y / 2))
 
 power_is : (j : ℕ) → j < 16 → 1 * 2 ^ j % 65536 ≡ 2 ^ j
 power_is j h =
@@ -35,7 +35,7 @@ power_bit i j =
     (rw e at (bit_more j i 0 (bit_none j))) ∙ rw (bit_none i, or_none (eqb i j))
 
 pub besides_is : (v r : ℕ) → WithBit (r % 16) v (bit_or v (1 * 2 ^ (r % 16) % 65536))
-besides_is v r = record { is = λ i. rw (power_is (r % 16) (omega arith), bit_or i v (2 ^ (r % 16)), power_bit i (r % 16)) }
+besides_is v r = record { is = λ i. rw (power_is (r % 16) (omega arith), bit_of_or i v (2 ^ (r % 16)), power_bit i (r % 16)) }
 
 -- ---- the lowest bit less
 

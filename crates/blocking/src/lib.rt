@@ -1,4 +1,6 @@
 // Whether a disjunct of a condition holds; and conditions that are blocked: as long as no watched part is decided true, none of their disjuncts holds.
+#![tactic(auto)]
+
 ghost use Rattle.std.specs.Prelude.{◌≡◌, ◌+◌, ◌*◌, ◌%◌, ◌<◌, ◌≤◌, length, get_or};
 ghost use Rattle.rules.specs.Conditions.{disjuncts};
 ghost use Rattle.tables.specs.Tables.{tables, Laid};

@@ -33,7 +33,6 @@ use Rattle.encoder.specs.Held.{Reading, opening_of, state_of, Good}
 use Rattle.encoder.specs.Did.{limits_of, on_opening}
 use Rattle.encoder.proofs.Frames.{good_kept, list_kept, line_kept}
 use Rattle.commands.specs.declared.Count.{Count}
-use Rattle.commands.specs.declared.Count.TheVariants as Count
 use Rattle.commands.specs.declared.Outcome.TheVariants.{Carried, Refused}
 use Rattle.commands.specs.Commands.{ChangesOf, Changes, with_added, AddsOwner, PartOutcomes, Adds}
 use Rattle.commands.proofs.Outcomes.{unchanged, changes_as, outcome_carried, outcome_refused}

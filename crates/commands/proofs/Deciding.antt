@@ -26,7 +26,6 @@ use Rattle.clause.specs.declared.Value.{Value}
 use Rattle.clause.specs.declared.Value.TheVariants as values
 use Rattle.clause.specs.Literals.{signed, literal_of}
 use Rattle.state.specs.declared.Limits.{Limits}
-use Rattle.variable_map.specs.Mapping.{variables}
 use Rattle.variable_map.proofs.Laws as variables
 use Rattle.variable_map.proofs.Laws.{variables_kept}
 use Rattle.decision_tracker.specs.declared.Decision as tracker
@@ -39,7 +38,6 @@ use Rattle.encoder.specs.Did.{limits_of}
 use Rattle.encoder.proofs.Frames.{good_kept, list_kept, line_kept}
 use Rattle.encoder.proofs.Counted.{with_decisions}
 use Rattle.commands.specs.declared.Count.{Count}
-use Rattle.commands.specs.declared.Count.TheVariants as Count
 use Rattle.commands.specs.declared.Outcome.TheVariants.{Carried, Refused}
 use Rattle.commands.specs.Commands.{ChangesOf, Changes, decided_to, DecidesLiteral, Decides, PlainOutcomes}
 use Rattle.commands.proofs.Outcomes.{unchanged, changes_as, outcome_carried, outcome_refused}

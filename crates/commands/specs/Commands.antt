@@ -24,7 +24,6 @@ use Rattle.encoder.specs.Held.{Reading, state_of, Good}
 use Rattle.encoder.specs.Did.{limits_of, on_opening, is_full}
 use Rattle.encoder.proofs.Counted.{with_decisions}
 use Rattle.commands.specs.declared.Count.{Count}
-use Rattle.commands.specs.declared.Count.TheVariants as Count
 use Rattle.commands.specs.declared.Outcome.{Outcome}
 use Rattle.commands.specs.declared.Outcome.TheVariants.{Carried, Refused}
 

@@ -1,5 +1,4 @@
 -- `commands::draw` draws the entries of a condition that hold: those that are flagged, where a disjunct holds at all.
-use native.Mathlib.Omega.{arith}
 use borrow.Author.Rules.{rules}
 use Rattle.commands.proofs.Drawing.{flags_drawn, draw_none, draw_end}
 use Rattle.commands.proofs.draw.Goals as goal

@@ -1,9 +1,5 @@
 use borrow.Author.Rules.{rules}
-use Prim.Native.Nat.{◌-◌}
-use Rattle.tables.specs.Tables.{tables}
-use Rattle.entries.specs.Entries.{waiting_in}
-use Rattle.commands.specs.Commands.{is_flagged}
-use Rattle.commands.proofs.Drawing.{Flagging, flagging_start, flagging_step, flagging_end}
+use Rattle.commands.proofs.Drawing.{flagging_start, flagging_step, flagging_end}
 use Rattle.commands.proofs.held_flags.Goals as goal
 
 pub loop-i-init : goal.loop-i-init

@@ -1,10 +1,9 @@
 -- `commands::held_flags` says of each entry whether it is flagged. The invariant: the flags of the first i entries are set.
-use borrow.Author.Rules.{rules}
 use Prim.Native.Nat.{◌-◌}
 use Rattle.tables.specs.Tables.{tables}
 use Rattle.entries.specs.Entries.{waiting_in}
 use Rattle.commands.specs.Commands.{is_flagged}
-use Rattle.commands.proofs.Drawing.{Flagging, flagging_start, flagging_step, flagging_end}
+use Rattle.commands.proofs.Drawing.{Flagging}
 use Rattle.commands.proofs.held_flags.Given as goal
 
 abbrev pub invariant-loop-i : goal.invariant-loop-i

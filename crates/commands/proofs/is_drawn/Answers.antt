@@ -1,5 +1,4 @@
 -- `commands::is_drawn` tells whether an entry is of the condition and its disjunct is flagged.
-use native.Mathlib.Omega.{arith}
 use borrow.Author.Rules.{rules}
 use Rattle.commands.proofs.Drawing.{other_entry, its_flag}
 use Rattle.commands.proofs.is_drawn.Goals as goal

@@ -1,7 +1,5 @@
 use borrow.Author.Rules.{rules}
-use Prim.Native.Nat.{◌-◌}
-use lib.ListN.{length}
-use Rattle.commands.proofs.Drawing.{Unset, unset_start, unset_step, unset_end, some_set}
+use Rattle.commands.proofs.Drawing.{unset_start, unset_step, unset_end, some_set}
 use Rattle.commands.proofs.none_set.Goals as goal
 
 pub loop-i-init : goal.loop-i-init

@@ -1,8 +1,7 @@
 -- `commands::none_set` tells whether no flag is set. The invariant: none of the first i is.
-use borrow.Author.Rules.{rules}
 use Prim.Native.Nat.{◌-◌}
 use lib.ListN.{length}
-use Rattle.commands.proofs.Drawing.{Unset, unset_start, unset_step, unset_end, some_set}
+use Rattle.commands.proofs.Drawing.{Unset}
 use Rattle.commands.proofs.none_set.Given as goal
 
 abbrev pub invariant-loop-i : goal.invariant-loop-i

@@ -1,8 +1,5 @@
 use borrow.Author.Rules.{rules}
-use Prim.Native.Nat.{◌-◌}
-use Rattle.solver.specs.Rows.{rows}
-use Rattle.line_fields.specs.Listed.{conflict_text}
-use Rattle.line_fields.proofs.Printing.{Printing, printing_start, printing_step, printing_end}
+use Rattle.line_fields.proofs.Printing.{printing_start, printing_step, printing_end}
 use Rattle.state_lines.proofs.conflict_lines.Goals as goal
 
 pub loop-i-init : goal.loop-i-init

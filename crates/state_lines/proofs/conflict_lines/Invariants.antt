@@ -1,9 +1,8 @@
 -- `state_lines::conflict_lines` prints a line for each conflict.
-use borrow.Author.Rules.{rules}
 use Prim.Native.Nat.{◌-◌}
 use Rattle.solver.specs.Rows.{rows}
 use Rattle.line_fields.specs.Listed.{conflict_text}
-use Rattle.line_fields.proofs.Printing.{Printing, printing_start, printing_step, printing_end}
+use Rattle.line_fields.proofs.Printing.{Printing}
 use Rattle.state_lines.proofs.conflict_lines.Given as goal
 
 abbrev pub invariant-loop-i : goal.invariant-loop-i

@@ -1,9 +1,5 @@
 use borrow.Author.Rules.{rules}
-use Prim.Native.Nat.{◌-◌}
-use Rattle.state.specs.Layout.{held}
-use Rattle.decision_tracker.specs.Tracking.{decisions}
-use Rattle.line_fields.specs.Listed.{decision_text}
-use Rattle.line_fields.proofs.Printing.{Printing, printing_start, printing_step, printing_end}
+use Rattle.line_fields.proofs.Printing.{printing_start, printing_step, printing_end}
 use Rattle.state_lines.proofs.decision_lines.Goals as goal
 
 pub loop-i-init : goal.loop-i-init

@@ -1,10 +1,9 @@
 -- `state_lines::decision_lines` prints a line for each decision.
-use borrow.Author.Rules.{rules}
 use Prim.Native.Nat.{◌-◌}
 use Rattle.state.specs.Layout.{held}
 use Rattle.decision_tracker.specs.Tracking.{decisions}
 use Rattle.line_fields.specs.Listed.{decision_text}
-use Rattle.line_fields.proofs.Printing.{Printing, printing_start, printing_step, printing_end}
+use Rattle.line_fields.proofs.Printing.{Printing}
 use Rattle.state_lines.proofs.decision_lines.Given as goal
 
 abbrev pub invariant-loop-i : goal.invariant-loop-i

@@ -1,9 +1,5 @@
 use borrow.Author.Rules.{rules}
-use Prim.Native.Nat.{◌-◌}
-use Rattle.state.specs.Layout.{held}
-use Rattle.marked.specs.Marked.{listed}
-use Rattle.line_fields.specs.Listed.{name_text}
-use Rattle.line_fields.proofs.Printing.{Printing, printing_start, printing_step, printing_end}
+use Rattle.line_fields.proofs.Printing.{printing_start, printing_step, printing_end}
 use Rattle.state_lines.proofs.name_lines.Goals as goal
 
 pub loop-i-init : goal.loop-i-init

@@ -1,10 +1,9 @@
 -- `state_lines::name_lines` prints a line for each opened name.
-use borrow.Author.Rules.{rules}
 use Prim.Native.Nat.{◌-◌}
 use Rattle.state.specs.Layout.{held}
 use Rattle.marked.specs.Marked.{listed}
 use Rattle.line_fields.specs.Listed.{name_text}
-use Rattle.line_fields.proofs.Printing.{Printing, printing_start, printing_step, printing_end}
+use Rattle.line_fields.proofs.Printing.{Printing}
 use Rattle.state_lines.proofs.name_lines.Given as goal
 
 abbrev pub invariant-loop-i : goal.invariant-loop-i

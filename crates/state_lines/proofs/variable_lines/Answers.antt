@@ -1,9 +1,5 @@
 use borrow.Author.Rules.{rules}
-use Prim.Native.Nat.{◌-◌}
-use Rattle.state.specs.Layout.{held}
-use Rattle.variable_map.specs.Mapping.{variables}
-use Rattle.line_fields.specs.Listed.{variable_text}
-use Rattle.line_fields.proofs.Printing.{Printing, printing_start, printing_step, printing_end}
+use Rattle.line_fields.proofs.Printing.{printing_start, printing_step, printing_end}
 use Rattle.state_lines.proofs.variable_lines.Goals as goal
 
 pub loop-i-init : goal.loop-i-init

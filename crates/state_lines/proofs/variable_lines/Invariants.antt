@@ -1,10 +1,9 @@
 -- `state_lines::variable_lines` prints a line for each variable.
-use borrow.Author.Rules.{rules}
 use Prim.Native.Nat.{◌-◌}
 use Rattle.state.specs.Layout.{held}
 use Rattle.variable_map.specs.Mapping.{variables}
 use Rattle.line_fields.specs.Listed.{variable_text}
-use Rattle.line_fields.proofs.Printing.{Printing, printing_start, printing_step, printing_end}
+use Rattle.line_fields.proofs.Printing.{Printing}
 use Rattle.state_lines.proofs.variable_lines.Given as goal
 
 abbrev pub invariant-loop-i : goal.invariant-loop-i

@@ -1,0 +1,15 @@
+use borrow.Author.Rules.{rules}
+use Rattle.blocking.proofs.Listing.{listing_start, listing_step, listing_end}
+use Rattle.blocking.proofs.list_condition.Goals as goal
+
+pub loop-i-init : goal.loop-i-init
+loop-i-init c = search (rules, listing_start)
+
+pub list_disjunct-requires-clause-c_lt_conditions : goal.list_disjunct-requires-clause-c_lt_conditions
+list_disjunct-requires-clause-c_lt_conditions c = (search rules, search rules, search rules)
+
+pub loop-i-preserved : goal.loop-i-preserved
+loop-i-preserved c = search (rules, listing_step)
+
+pub returns : goal.returns
+returns c = search (rules, listing_end)
