@@ -1,5 +1,7 @@
 // The listing of a state: its lines of waiting entries, and the whole.
 // The same functions measure and write (`text`).
+#![tactic(auto)]
+
 mod chains;
 
 ghost use Rattle.std.specs.Prelude.{◌≡◌, true, [], ◌∷◌, map, ◌<◌, ◌≤◌, length, get_or};

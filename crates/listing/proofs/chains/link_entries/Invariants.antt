@@ -1,0 +1,14 @@
+-- `listing::chains::link_entries` links all entries, from the last to the first.
+use borrow.Author.Rules.{rules}
+use Prim.Native.Nat.{◌≤◌}
+use Rattle.cache.specs.Areas.{catalogue}
+use Rattle.entries.specs.Entries.{waiting_in}
+use Rattle.listing.specs.Chains.{Linked}
+use Rattle.listing.proofs.Linking.{linked_none, linked_on, linked_all}
+use Rattle.listing.proofs.chains.link_entries.Given as goal
+
+abbrev pub invariant-loop-i : goal.invariant-loop-i
+invariant-loop-i l = (l.i ≤ l.n.waiting) × Linked (catalogue l.k l.marks l.unions l.t) (waiting_in l.l l.n.waiting l.w) l.n.waiting l.k.conditions l.i l.heads l.links
+
+abbrev pub decreases-loop-i : goal.decreases-loop-i
+decreases-loop-i l = l.i

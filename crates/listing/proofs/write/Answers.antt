@@ -1,0 +1,25 @@
+-- `listing::write` prints the listing: the two halves are the listing of the state that the areas hold.
+use borrow.Author.Rules.{rules}
+use Rattle.listing.proofs.Whole.{made_ready, good_rows, decisions_fit, waiting_long, whole}
+use Rattle.listing.proofs.write.Goals as goal
+
+pub first_half-a-requires-clause-ready : goal.first_half-a-requires-clause-ready
+first_half-a-requires-clause-ready c = search (rules, made_ready)
+
+pub first_half-a-requires-clause-good_rows : goal.first_half-a-requires-clause-good_rows
+first_half-a-requires-clause-good_rows c = search (rules, good_rows)
+
+pub second_half-requires-clause-ready : goal.second_half-requires-clause-ready
+second_half-requires-clause-ready c = search (rules, made_ready)
+
+pub second_half-requires-clause-good_rows : goal.second_half-requires-clause-good_rows
+second_half-requires-clause-good_rows c = search (rules, good_rows)
+
+pub second_half-requires-clause-decisions_le_variables : goal.second_half-requires-clause-decisions_le_variables
+second_half-requires-clause-decisions_le_variables c = search (rules, decisions_fit)
+
+pub second_half-requires-clause-long : goal.second_half-requires-clause-long
+second_half-requires-clause-long c = search (rules, waiting_long)
+
+pub returns : goal.returns
+returns c = whole _ _ _ _ _ _ _ _ _ c.requires.good c.first_half-a.ensures c.second_half.ensures
