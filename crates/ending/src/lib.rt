@@ -1,5 +1,7 @@
 // The end of a job: nothing added or drawn may be left, and its listing is written if it fits; what a job comes to (`Outcome`).
 // A listing that does not fit leaves the area as it was.
+#![tactic(auto)]
+
 ghost use Rattle.std.specs.Prelude.{◌≡◌, [], length};
 ghost use Rattle.cache.specs.Areas.{catalogue};
 ghost use Rattle.state.specs.Layout.{held, Fits};
