@@ -18,7 +18,6 @@ use Rattle.rules.specs.Opening.{constraint, queue, open_name, open_names, entry_
 use Rattle.rules.specs.State.{State}
 use Rattle.rules.proofs.WellFormed.{OwnerGiven, GoalGiven, WellFormed}
 use Rattle.rules.proofs.Bools.{and_false}
-use Rattle.requirement.specs.declared.Requirement.{Requirement}
 use Rattle.requirement.specs.declared.ConditionalRequirement.{ConditionalRequirement}
 use Rattle.requirement.specs.Requirements.{goal_of, requirement_is}
 use Rattle.tables.specs.declared.Counts.{Counts}

@@ -34,7 +34,6 @@ use Rattle.index.specs.Chains.{Skips}
 use Rattle.index.proofs.Walking.{walk}
 use Rattle.parts.specs.declared.Parts.{Parts}
 use Rattle.parts.specs.declared.Adding.{Adding}
-use Rattle.parts.specs.declared.Adding.TheVariants as Adding
 use Rattle.parts.specs.Parts.{selected_of, parts_for, clause_for, adding_of, CanAdd}
 use Rattle.parts.proofs.Lists.{fold_none, fold_more}
 

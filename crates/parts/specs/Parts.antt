@@ -19,7 +19,6 @@ use Rattle.parts.specs.declared.Parts.TheVariants.{Chosen, Locked, Others, Exclu
 use Rattle.parts.specs.declared.Naming.{Naming}
 use Rattle.parts.specs.declared.Naming.TheVariants.{Variable, Tracked, Candidate}
 use Rattle.parts.specs.declared.Adding.{Adding}
-use Rattle.parts.specs.declared.Adding.TheVariants as Adding
 
 unfoldable pub selected_of : Catalogue → Parts → ℕ → Bool
 selected_of c (Chosen r w) p = chosen c r w p

@@ -1,12 +1,6 @@
 use borrow.Author.Rules.{rules}
-use mathlib.Core.Path.{◌≡◌}
-use Prim.Native.Nat.{◌-◌}
-use lib.ListN.{length}
-use Rattle.cache.specs.Areas.{catalogue}
-use Rattle.state.specs.Layout.{held}
 use Rattle.state.proofs.Sizes.{fits_same}
-use Rattle.marked.specs.Marked.{owner_of}
-use Rattle.owners.proofs.Rules.{record_counted, Ruled, ruled_start, ruled_step, ruled_end}
+use Rattle.owners.proofs.Rules.{record_counted, ruled_start, ruled_step, ruled_end}
 use Rattle.owners.proofs.Along.{below_cardinal, ruled_along}
 use Rattle.owners.proofs.each_rule.Goals as goal
 

@@ -1,5 +1,4 @@
 -- `owners::open_goal` opens the names of a goal's ranges.
-use borrow.Author.Rules.{rules}
 use Rattle.owners.proofs.Names.{single_given, union_given, single_opened, union_opened}
 use Rattle.owners.proofs.open_goal.Goals as goal
 

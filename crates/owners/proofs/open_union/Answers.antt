@@ -1,9 +1,5 @@
 use borrow.Author.Rules.{rules}
-use mathlib.Core.Path.{◌≡◌}
-use Prim.Native.Nat.{◌-◌}
-use lib.ListN.{length}
-use Rattle.state.specs.Layout.{held}
-use Rattle.owners.proofs.Names.{Opened, opened_start, union_range, opened_step, opened_end}
+use Rattle.owners.proofs.Names.{opened_start, union_range, opened_step, opened_end}
 use Rattle.state.proofs.Sizes.{fits_same}
 use Rattle.owners.proofs.open_union.Goals as goal
 

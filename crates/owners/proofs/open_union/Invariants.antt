@@ -1,11 +1,9 @@
 -- `owners::open_union` goes along a union's ranges. The invariant: the names of those passed are opened.
-use borrow.Author.Rules.{rules}
 use mathlib.Core.Path.{◌≡◌}
 use Prim.Native.Nat.{◌-◌}
 use lib.ListN.{length}
 use Rattle.state.specs.Layout.{held}
-use Rattle.owners.proofs.Names.{Opened, opened_start, union_range, opened_step, opened_end}
-use Rattle.state.proofs.Sizes.{fits_same}
+use Rattle.owners.proofs.Names.{Opened}
 use Rattle.owners.proofs.open_union.Given as goal
 
 abbrev pub invariant-loop-i : goal.invariant-loop-i

@@ -1,5 +1,4 @@
 -- `owners::serve_owner` serves the root or a known part, or excludes a part with unknown dependencies.
-use borrow.Author.Rules.{rules}
 use Rattle.encoder.proofs.Steps.{good_alone}
 use Rattle.owners.proofs.Serving.{root_known, part_given, part_unknown, part_known, served_known, served_unknown}
 use Rattle.owners.proofs.serve_owner.Goals as goal

@@ -1,5 +1,4 @@
 -- `owners::take_rule` takes one rule for one record.
-use borrow.Author.Rules.{rules}
 use Rattle.owners.proofs.Rules.{given_open_requirement, given_open_constraint, given_queue_requirement, given_queue_constraint, rule_taken}
 use Rattle.owners.proofs.take_rule.Goals as goal
 

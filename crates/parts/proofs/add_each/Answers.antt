@@ -1,8 +1,5 @@
 use borrow.Author.Rules.{rules}
-use Prim.Native.Nat.{◌-◌}
-use Rattle.cache.specs.Areas.{catalogue}
-use Rattle.encoder.specs.Held.{run_of}
-use Rattle.parts.proofs.Clauses.{AddedSoFar, adding_first, adding_next, adding_end}
+use Rattle.parts.proofs.Clauses.{adding_first, adding_next, adding_end}
 use Rattle.parts.proofs.add_each.Goals as goal
 
 pub loop-p-init : goal.loop-p-init

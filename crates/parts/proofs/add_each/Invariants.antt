@@ -1,9 +1,8 @@
 -- `parts::add_each` adds the clause of each of these. The invariant: those below p have theirs, and all have variables.
-use borrow.Author.Rules.{rules}
 use Prim.Native.Nat.{◌-◌}
 use Rattle.cache.specs.Areas.{catalogue}
 use Rattle.encoder.specs.Held.{run_of}
-use Rattle.parts.proofs.Clauses.{AddedSoFar, adding_first, adding_next, adding_end}
+use Rattle.parts.proofs.Clauses.{AddedSoFar}
 use Rattle.parts.proofs.add_each.Given as goal
 
 abbrev pub invariant-loop-p : goal.invariant-loop-p

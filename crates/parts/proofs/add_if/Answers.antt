@@ -1,5 +1,4 @@
 -- `parts::add_if` adds the clause of a part that is one of these.
-use borrow.Author.Rules.{rules}
 use Rattle.parts.proofs.Clauses.{selected_known, adding_selected, adding_other}
 use Rattle.parts.proofs.add_if.Goals as goal
 

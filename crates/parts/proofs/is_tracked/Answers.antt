@@ -1,5 +1,4 @@
 -- `parts::is_tracked` says so only of a part that is named for tracking, or whose name was served with several allowed.
-use borrow.Author.Rules.{rules}
 use Rattle.parts.proofs.Names.{tracked_again, tracked_several}
 use Rattle.parts.proofs.is_tracked.Goals as goal
 

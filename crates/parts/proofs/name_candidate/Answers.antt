@@ -1,5 +1,4 @@
 -- `parts::name_candidate`: the same of a candidate, which is also opened if it is ready.
-use borrow.Author.Rules.{rules}
 use Rattle.encoder.proofs.Steps.{alone_after}
 use Rattle.parts.proofs.Names.{candidate_named}
 use Rattle.parts.proofs.name_candidate.Goals as goal

@@ -1,8 +1,6 @@
 use borrow.Author.Rules.{rules}
-use Prim.Native.Nat.{◌-◌}
 use native.Mathlib.Omega.{arith}
-use Rattle.cache.specs.Areas.{catalogue}
-use Rattle.parts.proofs.Names.{NamedSoFar, naming_first, naming_due, naming_idle, naming_end}
+use Rattle.parts.proofs.Names.{naming_first, naming_due, naming_idle, naming_end}
 use Rattle.parts.proofs.name_each.Goals as goal
 
 pub loop-p-init : goal.loop-p-init

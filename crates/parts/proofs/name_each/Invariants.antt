@@ -1,9 +1,7 @@
 -- `parts::name_each` names each of these. The invariant: those below p are named.
-use borrow.Author.Rules.{rules}
 use Prim.Native.Nat.{◌-◌}
-use native.Mathlib.Omega.{arith}
 use Rattle.cache.specs.Areas.{catalogue}
-use Rattle.parts.proofs.Names.{NamedSoFar, naming_first, naming_due, naming_idle, naming_end}
+use Rattle.parts.proofs.Names.{NamedSoFar}
 use Rattle.parts.proofs.name_each.Given as goal
 
 abbrev pub invariant-loop-p : goal.invariant-loop-p

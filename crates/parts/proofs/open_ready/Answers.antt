@@ -1,6 +1,4 @@
 -- `parts::open_ready` opens a part that is ready.
-use borrow.Author.Rules.{rules}
-use native.Mathlib.Omega.{arith}
 use Rattle.parts.proofs.Names.{ready_opened, ready_not}
 use Rattle.parts.proofs.open_ready.Goals as goal
 
