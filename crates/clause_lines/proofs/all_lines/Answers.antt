@@ -1,11 +1,5 @@
 use borrow.Author.Rules.{rules}
-use Prim.Native.Nat.{◌-◌}
-use Rattle.state.specs.Layout.{held}
-use Rattle.variable_map.specs.Mapping.{variables}
-use Rattle.cache.specs.Areas.{catalogue}
-use Rattle.line_fields.specs.Listed.{clause_text, clauses_of}
-use Rattle.clause_lines.specs.Spans.{Spans}
-use Rattle.line_fields.proofs.Printing.{Printing, printing_start, printing_step, printing_end, printing_over}
+use Rattle.line_fields.proofs.Printing.{printing_start, printing_step, printing_end, printing_over}
 use Rattle.clause_lines.proofs.all_lines.Goals as goal
 
 pub loop-i-init : goal.loop-i-init

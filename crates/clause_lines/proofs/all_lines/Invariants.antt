@@ -1,12 +1,11 @@
 -- `clause_lines::all_lines` prints a line for each clause; past the room it stops.
-use borrow.Author.Rules.{rules}
 use Prim.Native.Nat.{◌-◌}
 use Rattle.state.specs.Layout.{held}
 use Rattle.variable_map.specs.Mapping.{variables}
 use Rattle.cache.specs.Areas.{catalogue}
 use Rattle.line_fields.specs.Listed.{clause_text, clauses_of}
 use Rattle.clause_lines.specs.Spans.{Spans}
-use Rattle.line_fields.proofs.Printing.{Printing, printing_start, printing_step, printing_end, printing_over}
+use Rattle.line_fields.proofs.Printing.{Printing}
 use Rattle.clause_lines.proofs.all_lines.Given as goal
 
 abbrev pub invariant-loop-i : goal.invariant-loop-i

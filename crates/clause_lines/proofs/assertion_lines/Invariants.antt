@@ -1,11 +1,9 @@
 -- `clause_lines::assertion_lines` prints a line for each asserted variable.
-use native.Mathlib.Omega.{arith}
-use borrow.Author.Rules.{rules}
 use Prim.Native.Nat.{◌-◌}
 use Rattle.state.specs.Layout.{held}
 use Rattle.cache.specs.Areas.{catalogue}
 use Rattle.line_fields.specs.Listed.{assertion_text, clauses_of}
-use Rattle.line_fields.proofs.Printing.{Printing, printing_start, printing_step, printing_end}
+use Rattle.line_fields.proofs.Printing.{Printing}
 use Rattle.clause_lines.proofs.assertion_lines.Given as goal
 
 abbrev pub invariant-loop-i : goal.invariant-loop-i

@@ -1,5 +1,4 @@
 -- `clause_lines::chosen_literal` prints the literal of a part that is chosen, and nothing for another. A chosen part has a variable.
-use native.Mathlib.Omega.{arith}
 use borrow.Author.Rules.{rules}
 use Rattle.clause_lines.proofs.Parts.{in_tables_law, chosen_yes, chosen_no}
 use Rattle.clause_lines.proofs.chosen_literal.Goals as goal

@@ -1,10 +1,4 @@
 use borrow.Author.Rules.{rules}
-use Prim.Native.Nat.{◌-◌}
-use Rattle.state.specs.Layout.{held}
-use Rattle.variable_map.specs.Mapping.{variables}
-use Rattle.cache.specs.Areas.{catalogue}
-use Rattle.line_fields.specs.Listed.{chosen_text}
-use Rattle.line_fields.proofs.Printing.{Printing}
 use Rattle.clause_lines.proofs.Parts.{chosen_first, chosen_next, chosen_end}
 use Rattle.clause_lines.proofs.chosen_literals.Goals as goal
 

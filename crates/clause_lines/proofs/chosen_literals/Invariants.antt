@@ -1,12 +1,10 @@
 -- `clause_lines::chosen_literals` prints the literals of a choice, part by part.
-use borrow.Author.Rules.{rules}
 use Prim.Native.Nat.{◌-◌}
 use Rattle.state.specs.Layout.{held}
 use Rattle.variable_map.specs.Mapping.{variables}
 use Rattle.cache.specs.Areas.{catalogue}
 use Rattle.line_fields.specs.Listed.{chosen_text}
 use Rattle.line_fields.proofs.Printing.{Printing}
-use Rattle.clause_lines.proofs.Parts.{chosen_first, chosen_next, chosen_end}
 use Rattle.clause_lines.proofs.chosen_literals.Given as goal
 
 abbrev pub invariant-loop-p : goal.invariant-loop-p

@@ -1,6 +1,4 @@
 -- `clause_lines::clause_fields` prints the fields of a stored row, by its kind.
-use native.Mathlib.Omega.{arith}
-use mathlib.Core.Path.{◌∙◌}
 use borrow.Author.Rules.{rules}
 use Rattle.clause_lines.proofs.Clauses.{install_fields, excluded_fields, unknown_fields, constrains_fields, forbid_fields, out_fields, owner_fields, lock_fields, any_fields}
 use Rattle.clause_lines.proofs.Copying.{spans_kept}

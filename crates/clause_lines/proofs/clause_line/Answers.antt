@@ -1,5 +1,4 @@
 -- `clause_lines::clause_line` prints the line of clause i.
-use mathlib.Core.Path.{◌∙◌}
 use borrow.Author.Rules.{rules}
 use Rattle.clause_lines.proofs.Clauses.{clause_line}
 use Rattle.clause_lines.proofs.Copying.{spans_kept}

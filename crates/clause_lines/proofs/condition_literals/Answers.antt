@@ -1,9 +1,5 @@
-use native.Mathlib.Omega.{arith}
 use borrow.Author.Rules.{rules}
-use Prim.Native.Nat.{◌-◌}
-use Rattle.state.specs.Layout.{held}
-use Rattle.line_fields.specs.Listed.{literal_text}
-use Rattle.line_fields.proofs.Printing.{Printing, printing_start, printing_step}
+use Rattle.line_fields.proofs.Printing.{printing_start, printing_step}
 use Rattle.line_fields.proofs.Numbers.{literals_end}
 use Rattle.clause_lines.proofs.condition_literals.Goals as goal
 

@@ -1,11 +1,8 @@
 -- `clause_lines::condition_literals` prints the stored condition literals of a row.
-use native.Mathlib.Omega.{arith}
-use borrow.Author.Rules.{rules}
 use Prim.Native.Nat.{◌-◌}
 use Rattle.state.specs.Layout.{held}
 use Rattle.line_fields.specs.Listed.{literal_text}
-use Rattle.line_fields.proofs.Printing.{Printing, printing_start, printing_step}
-use Rattle.line_fields.proofs.Numbers.{literals_end}
+use Rattle.line_fields.proofs.Printing.{Printing}
 use Rattle.clause_lines.proofs.condition_literals.Given as goal
 
 abbrev pub invariant-loop-j : goal.invariant-loop-j

@@ -1,5 +1,4 @@
 -- `clause_lines::gated_fields` prints the fields of a gate's own requires clause.
-use mathlib.Core.Path.{◌∙◌}
 use borrow.Author.Rules.{rules}
 use Rattle.clause_lines.proofs.Clauses.{gated_known, gated_fields}
 use Rattle.clause_lines.proofs.Copying.{spans_kept}

@@ -1,5 +1,4 @@
 -- `clause_lines::range_literals` prints the literals of a range: the favoured part first.
-use mathlib.Core.Path.{◌∙◌}
 use borrow.Author.Rules.{rules}
 use Rattle.clause_lines.proofs.Parts.{known_favoured, known_others, sorted_text}
 use Rattle.clause_lines.proofs.range_literals.Goals as goal

@@ -1,5 +1,4 @@
 -- `clause_lines::requires_fields` prints the fields of an owner's requires clause.
-use mathlib.Core.Path.{◌∙◌}
 use borrow.Author.Rules.{rules}
 use Rattle.clause_lines.proofs.Clauses.{stored_within, requires_known, requires_fields}
 use Rattle.clause_lines.proofs.Copying.{spans_kept}

@@ -1,5 +1,4 @@
 -- `clause_lines::shared_range` copies the literals of a range that stand already; others it prints, and keeps where.
-use mathlib.Core.Path.{◌∙◌}
 use borrow.Author.Rules.{rules}
 use Rattle.text.proofs.Written.{onward}
 use Rattle.clause_lines.proofs.Copying.{spans_kept, spans_behind, again_spans, after_none, range_again, range_new}

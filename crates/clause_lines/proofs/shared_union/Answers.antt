@@ -1,5 +1,4 @@
 -- `clause_lines::shared_union` copies the literals of a union that stand already; others it prints, and keeps where.
-use mathlib.Core.Path.{◌∙◌}
 use borrow.Author.Rules.{rules}
 use Rattle.text.proofs.Written.{onward}
 use Rattle.clause_lines.proofs.Copying.{spans_behind, again_spans, still_spans, after_none, union_again, union_none, none_kept, union_new}

@@ -1,11 +1,6 @@
 use borrow.Author.Rules.{rules}
-use Prim.Native.Nat.{◌-◌}
 use native.Mathlib.Omega.{arith}
-use Rattle.state.specs.Layout.{held}
-use Rattle.variable_map.specs.Mapping.{variables}
-use Rattle.cache.specs.Areas.{catalogue}
-use Rattle.clause_lines.specs.Spans.{Spans}
-use Rattle.clause_lines.proofs.Walks.{Walking, walking_start, walking_known, walking_step, walking_end, walking_over}
+use Rattle.clause_lines.proofs.Walks.{walking_start, walking_known, walking_step, walking_end, walking_over}
 use Rattle.clause_lines.proofs.union_literals.Goals as goal
 
 pub loop-i-init : goal.loop-i-init

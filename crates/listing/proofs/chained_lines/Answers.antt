@@ -1,9 +1,5 @@
 use borrow.Author.Rules.{rules}
-use Prim.Native.Nat.{◌-◌}
-use Rattle.cache.specs.Areas.{catalogue}
-use Rattle.entries.specs.Entries.{waiting_in}
-use Rattle.line_fields.specs.Listed.{condition_text}
-use Rattle.line_fields.proofs.Printing.{Printing, printing_start, printing_step, printing_end}
+use Rattle.line_fields.proofs.Printing.{printing_start, printing_step, printing_end}
 use Rattle.listing.proofs.chained_lines.Goals as goal
 
 pub loop-i-init : goal.loop-i-init

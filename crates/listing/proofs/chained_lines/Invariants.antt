@@ -1,10 +1,9 @@
 -- `listing::chained_lines` prints the waiting entries, by rising condition.
-use borrow.Author.Rules.{rules}
 use Prim.Native.Nat.{◌-◌}
 use Rattle.cache.specs.Areas.{catalogue}
 use Rattle.entries.specs.Entries.{waiting_in}
 use Rattle.line_fields.specs.Listed.{condition_text}
-use Rattle.line_fields.proofs.Printing.{Printing, printing_start, printing_step, printing_end}
+use Rattle.line_fields.proofs.Printing.{Printing}
 use Rattle.listing.proofs.chained_lines.Given as goal
 
 abbrev pub invariant-loop-i : goal.invariant-loop-i

@@ -1,8 +1,5 @@
 use borrow.Author.Rules.{rules}
-use Prim.Native.Nat.{◌-◌}
-use Rattle.cache.specs.Areas.{catalogue}
-use Rattle.entries.specs.Entries.{waiting_in}
-use Rattle.listing.proofs.Linking.{Walking, walking_here, walking_start, walking_less, walking_step, walking_end}
+use Rattle.listing.proofs.Linking.{walking_here, walking_start, walking_less, walking_step, walking_end}
 use Rattle.listing.proofs.waiting_of.Goals as goal
 
 pub loop-i-init : goal.loop-i-init

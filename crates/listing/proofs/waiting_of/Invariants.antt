@@ -1,9 +1,8 @@
 -- `listing::waiting_of` prints the entries of a condition, in order of arrival: a walk along its chain passes no other entry of it.
-use borrow.Author.Rules.{rules}
 use Prim.Native.Nat.{◌-◌}
 use Rattle.cache.specs.Areas.{catalogue}
 use Rattle.entries.specs.Entries.{waiting_in}
-use Rattle.listing.proofs.Linking.{Walking, walking_here, walking_start, walking_less, walking_step, walking_end}
+use Rattle.listing.proofs.Linking.{Walking}
 use Rattle.listing.proofs.waiting_of.Given as goal
 
 abbrev pub invariant-loop-i : goal.invariant-loop-i

@@ -1,5 +1,4 @@
 -- `clause_lines::spans::again` copies the literals of a goal that stand already and fit.
-use native.Mathlib.Omega.{arith}
 use borrow.Author.Rules.{rules}
 use Rattle.clause_lines.specs.Spans.{nowhere}
 use Rattle.clause_lines.proofs.Copying.{copy_before, again_copied}

@@ -1,7 +1,5 @@
-use native.Mathlib.Omega.{arith}
 use borrow.Author.Rules.{rules}
-use Prim.Native.Nat.{◌-◌}
-use Rattle.clause_lines.proofs.Copying.{Copying, copying_start, copying_step, copying_end}
+use Rattle.clause_lines.proofs.Copying.{copying_start, copying_step, copying_end}
 use Rattle.clause_lines.proofs.spans.copy.Goals as goal
 
 pub loop-i-init : goal.loop-i-init

@@ -1,5 +1,4 @@
 -- `clause_lines::spans::keep` keeps where the literals of a goal stand, if they fitted.
-use native.Mathlib.Omega.{arith}
 use borrow.Author.Rules.{rules}
 use Rattle.clause_lines.specs.Spans.{none}
 use Rattle.clause_lines.proofs.Copying.{kept_span}

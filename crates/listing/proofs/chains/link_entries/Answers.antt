@@ -1,8 +1,4 @@
 use borrow.Author.Rules.{rules}
-use Prim.Native.Nat.{◌≤◌}
-use Rattle.cache.specs.Areas.{catalogue}
-use Rattle.entries.specs.Entries.{waiting_in}
-use Rattle.listing.specs.Chains.{Linked}
 use Rattle.listing.proofs.Linking.{linked_none, linked_on, linked_all}
 use Rattle.listing.proofs.chains.link_entries.Goals as goal
 
