@@ -16,7 +16,7 @@ use Rattle.rules.specs.Literal.{Literal, pos}
 use Rattle.rules.specs.Catalogue.{Catalogue, part_at, goal_at}
 use Rattle.rules.specs.Candidates.{matching, favoured_first, sorted, goal_ranges, candidates}
 use Rattle.rules.specs.Decisions.{Decision, evaluate, is_falsified, is_false, all_false}
-use Rattle.rules.specs.Variables.{Origin, known, part_variable}
+use Rattle.rules.specs.Variables.{Origin, part_variable}
 use Rattle.rules.proofs.Bools.{by_cases, and_false}
 use Rattle.rules.proofs.Each.{each_in, each_out}
 use Rattle.rules.proofs.Membership.{◌⊆◌, in_left, in_right, in_either, filter_within, filter_either, concat_map_in, concat_map_out, distinct_in}

@@ -10,7 +10,7 @@ use lib.ListN.{length, get_or, take, length-map}
 use lib.Seq.{take-suc, take_all, get_or-take}
 use borrow.Author.Tests.{ltb-true, ltb-false}
 use Rattle.rules.specs.Lists.{filter, list_if, concat_map, up_to}
-use Rattle.rules.specs.Literal.{Literal, pos}
+use Rattle.rules.specs.Literal.{pos}
 use Rattle.rules.specs.Catalogue.{Catalogue, no_requirement, name_of, range_name}
 use Rattle.rules.specs.Candidates.{member, parts_of, non_matching}
 use Rattle.rules.specs.Conditions.{Disjunct, disjuncts, disjuncts_of, disjunct_at, unconditional}

@@ -13,7 +13,7 @@ use Rattle.rules.specs.Candidates.{candidates}
 use Rattle.rules.specs.Conditions.{disjunct_at}
 use Rattle.rules.specs.Decisions.{all_false}
 use Rattle.rules.specs.Items as items
-use Rattle.rules.specs.Variables.{Origin, chosen, gate, known, variable_of, part_variable}
+use Rattle.rules.specs.Variables.{chosen, gate, known, variable_of, part_variable}
 use Rattle.rules.specs.Encoding.{disjunct_literals}
 use Rattle.rules.specs.State.{State}
 use Rattle.rules.specs.State as rules

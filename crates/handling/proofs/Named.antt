@@ -11,7 +11,7 @@ use Rattle.rules.specs.Lists.{fold, concat_map, distinct}
 use Rattle.rules.specs.Catalogue.{Owner, root, part, Catalogue, owner_at, goal_at, condition_at}
 use Rattle.rules.specs.Candidates.{sorted, goal_ranges, candidates}
 use Rattle.rules.specs.Conditions.{is_none, disjunct_at, unconditional}
-use Rattle.rules.specs.Variables.{Origin, chosen, known, with_variables, part_origin}
+use Rattle.rules.specs.Variables.{Origin, chosen, with_variables, part_origin}
 use Rattle.rules.specs.Encoding.{shape_by, shape, shape_of, disjunct_origins}
 use Rattle.rules.specs.State.{State, Run}
 use Rattle.rules.specs.Called.{◌∈◌}

@@ -5,7 +5,6 @@ use mathlib.Core.List.{List}
 use Prim.Native.Nat.{ℕ}
 use Rattle.rules.specs.Lists.{elem}
 use Rattle.rules.specs.Catalogue.{Catalogue, name_of}
-use Rattle.rules.specs.Variables.{known}
 use Rattle.rules.specs.Opening.{Opening}
 use Rattle.rules.specs.State.{State}
 use Rattle.rules.proofs.Bools.{by_cases}

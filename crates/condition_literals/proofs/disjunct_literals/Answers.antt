@@ -1,9 +1,6 @@
 use borrow.Author.Rules.{rules}
-use Prim.Native.Nat.{◌-◌}
-use Rattle.rules.specs.Conditions.{disjunct_at}
-use Rattle.cache.specs.Areas.{catalogue}
 use Rattle.firing.proofs.Required.{condition_given}
-use Rattle.condition_literals.proofs.Literals.{Collecting, disjunct_there, collect_start, collect_given, collect_known, collect_step, collect_end}
+use Rattle.condition_literals.proofs.Literals.{disjunct_there, collect_start, collect_given, collect_known, collect_step, collect_end}
 use Rattle.condition_literals.proofs.disjunct_literals.Goals as goal
 
 pub disjunct_of-d-requires-clause-c_lt_conditions : goal.disjunct_of-d-requires-clause-c_lt_conditions

@@ -1,10 +1,8 @@
 -- `condition_literals::disjunct_literals` puts the literals of a disjunct behind them. The invariant: those of the ranges before place j are there.
-use borrow.Author.Rules.{rules}
 use Prim.Native.Nat.{◌-◌}
 use Rattle.rules.specs.Conditions.{disjunct_at}
 use Rattle.cache.specs.Areas.{catalogue}
-use Rattle.firing.proofs.Required.{condition_given}
-use Rattle.condition_literals.proofs.Literals.{Collecting, disjunct_there, collect_start, collect_given, collect_known, collect_step, collect_end}
+use Rattle.condition_literals.proofs.Literals.{Collecting}
 use Rattle.condition_literals.proofs.disjunct_literals.Given as goal
 
 abbrev pub invariant-loop-j : goal.invariant-loop-j

@@ -1,8 +1,5 @@
 use borrow.Author.Rules.{rules}
-use Prim.Native.Nat.{◌-◌}
-use Rattle.state.specs.Layout.{held}
-use Rattle.decision_tracker.specs.Tracking.{decisions}
-use Rattle.condition_literals.proofs.Falsified.{Falsifying, falsify_start, falsify_step, falsify_fails, falsify_end}
+use Rattle.condition_literals.proofs.Falsified.{falsify_start, falsify_step, falsify_fails, falsify_end}
 use Rattle.condition_literals.proofs.literals_false.Goals as goal
 
 pub loop-j-init : goal.loop-j-init

@@ -1,7 +1,5 @@
 use borrow.Author.Rules.{rules}
-use Prim.Native.Nat.{◌-◌}
-use Rattle.cache.specs.Areas.{catalogue}
-use Rattle.condition_literals.proofs.Literals.{Going, going_first, going_known, going_next, going_end}
+use Rattle.condition_literals.proofs.Literals.{going_first, going_known, going_next, going_end}
 use Rattle.condition_literals.proofs.part_literals.Goals as goal
 
 pub loop-p-init : goal.loop-p-init

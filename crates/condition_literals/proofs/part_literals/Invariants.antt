@@ -1,8 +1,7 @@
 -- `condition_literals::part_literals` puts a range's non-matching parts behind them. The invariant: those before part p are there.
-use borrow.Author.Rules.{rules}
 use Prim.Native.Nat.{◌-◌}
 use Rattle.cache.specs.Areas.{catalogue}
-use Rattle.condition_literals.proofs.Literals.{Going, going_first, going_known, going_next, going_end}
+use Rattle.condition_literals.proofs.Literals.{Going}
 use Rattle.condition_literals.proofs.part_literals.Given as goal
 
 abbrev pub invariant-loop-p : goal.invariant-loop-p

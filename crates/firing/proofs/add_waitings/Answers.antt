@@ -1,6 +1,5 @@
 use borrow.Author.Rules.{rules}
-use Prim.Native.Nat.{◌-◌}
-use Rattle.firing.proofs.Waitings.{Waited, waited_start, waited_step, waited_end}
+use Rattle.firing.proofs.Waitings.{waited_start, waited_step, waited_end}
 use Rattle.firing.proofs.add_waitings.Goals as goal
 
 pub loop-j-init : goal.loop-j-init

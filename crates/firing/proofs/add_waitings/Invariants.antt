@@ -1,7 +1,6 @@
 -- `firing::add_waitings` puts these disjuncts behind those that wait. The invariant: those passed wait.
-use borrow.Author.Rules.{rules}
 use Prim.Native.Nat.{◌-◌}
-use Rattle.firing.proofs.Waitings.{Waited, waited_start, waited_step, waited_end}
+use Rattle.firing.proofs.Waitings.{Waited}
 use Rattle.firing.proofs.add_waitings.Given as goal
 
 abbrev pub invariant-loop-j : goal.invariant-loop-j

@@ -1,5 +1,4 @@
 -- `firing::fire` opens the names of a requirement, and queues its task.
-use borrow.Author.Rules.{rules}
 use Rattle.firing.proofs.Served.{fired}
 use Rattle.firing.proofs.Required.{goal_given}
 use Rattle.firing.proofs.fire.Goals as goal

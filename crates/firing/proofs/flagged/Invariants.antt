@@ -1,9 +1,7 @@
 -- `firing::flagged` lists the disjuncts that are flagged, or those that are not. The invariant: what is listed, with what passes of those that are left,
 -- is what passes of all.
-use borrow.Author.Rules.{rules}
-use mathlib.Core.Logic.{⊎_elim}
 use Prim.Native.Nat.{◌-◌}
-use Rattle.firing.proofs.Judging.{Listing, listing_start, listing_take, listing_pass, listing_end}
+use Rattle.firing.proofs.Judging.{Listing}
 use Rattle.firing.proofs.flagged.Given as goal
 
 abbrev pub invariant-loop-i : goal.invariant-loop-i

@@ -1,5 +1,4 @@
 -- `firing::serve_condition` lets the disjuncts wait that do not hold, and fires the requirement for the others, if there are any.
-use borrow.Author.Rules.{rules}
 use mathlib.Core.Bool.{true, false}
 use native.Mathlib.Omega.{arith}
 use Rattle.firing.proofs.Judging.{judged_listed}

@@ -1,13 +1,9 @@
 use borrow.Author.Rules.{rules}
-use Prim.Native.Nat.{◌-◌}
-use Rattle.cache.specs.Areas.{catalogue}
 use Rattle.state.proofs.Sizes.{fits_same}
-use Rattle.encoder.specs.Held.{run_of}
 use Rattle.encoder.proofs.Steps.{long_same}
-use Rattle.firing.specs.Firing.{indices_in}
 use Rattle.naming.proofs.Disjuncts.{index_low}
 use Rattle.encoder.proofs.Did.{told_full, told_going}
-use Rattle.handling.proofs.Steps.{Firing, firing_start, firing_known, firing_step, firing_end, firing_full}
+use Rattle.handling.proofs.Steps.{firing_start, firing_known, firing_step, firing_end, firing_full}
 use Rattle.handling.proofs.add_all_fired.Goals as goal
 
 pub loop-j-init : goal.loop-j-init

@@ -1,5 +1,4 @@
 -- `handling::add_direct` adds the requires clause of an unconditional requirement.
-use borrow.Author.Rules.{rules}
 use native.Mathlib.Omega.{arith}
 use Rattle.storing.proofs.Adding.{good_can_add}
 use Rattle.handling.proofs.Owning.{by_form}

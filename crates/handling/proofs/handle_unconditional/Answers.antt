@@ -1,5 +1,4 @@
 -- `handling::handle_unconditional` adds the clauses of an unconditional requirement, by its shape.
-use borrow.Author.Rules.{rules}
 use Rattle.handling.proofs.Owning.{root_direct, few_direct, many_gate}
 use Rattle.handling.proofs.Steps.{directly, by_a_gate}
 use Rattle.handling.proofs.handle_unconditional.Goals as goal

@@ -1,5 +1,4 @@
 -- `handling::owner_variable` gives the variable of the owner.
-use borrow.Author.Rules.{rules}
 use Rattle.owners.proofs.Records.{required_owner}
 use Rattle.handling.proofs.Owning.{found, owner_origin_law, owner_in_tables}
 use Rattle.handling.proofs.owner_variable.Goals as goal

@@ -1,14 +1,6 @@
 use borrow.Author.Rules.{rules}
-use Prim.Native.Nat.{◌-◌}
-use Rattle.rules.specs.Lists.{fold}
-use Rattle.rules.specs.Candidates.{sorted}
-use Rattle.cache.specs.Areas.{catalogue}
-use Rattle.state.specs.Layout.{held}
 use Rattle.state.proofs.Sizes.{fits_same}
-use Rattle.marked.specs.Marked.{listed}
-use Rattle.parts.specs.declared.Naming.TheVariants.{Candidate}
-use Rattle.parts.specs.Parts.{naming_of}
-use Rattle.naming.proofs.Loops.{Passed, pass_start, hand_step, hand_end}
+use Rattle.naming.proofs.Loops.{pass_start, hand_step, hand_end}
 use Rattle.naming.proofs.all_candidates.Goals as goal
 
 pub loop-j-init : goal.loop-j-init

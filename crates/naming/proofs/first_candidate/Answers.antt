@@ -1,7 +1,5 @@
 use borrow.Author.Rules.{rules}
-use Prim.Native.Nat.{◌-◌}
-use Rattle.cache.specs.Areas.{catalogue}
-use Rattle.naming.proofs.Firsts.{Searching, search_first, search_next, search_found, search_none}
+use Rattle.naming.proofs.Firsts.{search_first, search_next, search_found, search_none}
 use Rattle.naming.proofs.first_candidate.Goals as goal
 
 pub loop-p-init : goal.loop-p-init

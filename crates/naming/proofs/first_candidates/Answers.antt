@@ -1,10 +1,8 @@
 use borrow.Author.Rules.{rules}
 use mathlib.Core.Path.{refl, sym, ◌∙◌}
-use Prim.Native.Nat.{◌-◌}
 use native.Mathlib.Omega.{arith}
-use Rattle.cache.specs.Areas.{catalogue}
 use Rattle.state.proofs.Sizes.{fits_same}
-use Rattle.naming.proofs.Firsts.{first_seen, FirstsPassed, firsts_start, firsts_step, firsts_end}
+use Rattle.naming.proofs.Firsts.{first_seen, firsts_start, firsts_step, firsts_end}
 use Rattle.naming.proofs.first_candidates.Goals as goal
 
 pub loop-j-init : goal.loop-j-init

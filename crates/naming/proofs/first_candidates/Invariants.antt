@@ -1,11 +1,7 @@
 -- `naming::first_candidates`. The invariant: of the first j ranges at hand one candidate of each name is named.
-use borrow.Author.Rules.{rules}
-use mathlib.Core.Path.{refl, sym, ◌∙◌}
 use Prim.Native.Nat.{◌-◌}
-use native.Mathlib.Omega.{arith}
 use Rattle.cache.specs.Areas.{catalogue}
-use Rattle.state.proofs.Sizes.{fits_same}
-use Rattle.naming.proofs.Firsts.{first_seen, FirstsPassed, firsts_start, firsts_step, firsts_end}
+use Rattle.naming.proofs.Firsts.{FirstsPassed}
 use Rattle.naming.proofs.first_candidates.Given as goal
 
 abbrev pub invariant-loop-j : goal.invariant-loop-j

@@ -1,5 +1,4 @@
 -- `naming::name_candidates` names all candidates, or the first of each range.
-use borrow.Author.Rules.{rules}
 use Rattle.naming.specs.Naming.{name_candidates}
 use Rattle.naming.proofs.name_candidates.Goals as goal
 

@@ -1,10 +1,6 @@
 use borrow.Author.Rules.{rules}
-use Prim.Native.Nat.{◌-◌}
-use Rattle.conditions.specs.Sizes.{ranges_of}
-use Rattle.cache.specs.Areas.{catalogue}
 use Rattle.state.proofs.Sizes.{fits_same}
-use Rattle.naming.specs.Naming.{name_range}
-use Rattle.naming.proofs.Loops.{Passed, pass_start}
+use Rattle.naming.proofs.Loops.{pass_start}
 use Rattle.naming.proofs.Disjuncts.{ranges_step, its_condition, index_given, its_range, disjunct_end}
 use Rattle.naming.proofs.name_disjunct.Goals as goal
 

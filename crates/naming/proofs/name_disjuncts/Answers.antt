@@ -1,12 +1,6 @@
 use borrow.Author.Rules.{rules}
-use Prim.Native.Nat.{◌-◌}
-use Rattle.rules.specs.Lists.{fold}
-use Rattle.rules.specs.Conditions.{disjunct_at}
-use Rattle.cache.specs.Areas.{catalogue}
 use Rattle.state.proofs.Sizes.{fits_same}
-use Rattle.firing.specs.Firing.{indices_in}
-use Rattle.naming.specs.Naming.{name_range}
-use Rattle.naming.proofs.Loops.{Passed, pass_start}
+use Rattle.naming.proofs.Loops.{pass_start}
 use Rattle.naming.proofs.Disjuncts.{index_low, indices_step, indices_end}
 use Rattle.naming.proofs.name_disjuncts.Goals as goal
 

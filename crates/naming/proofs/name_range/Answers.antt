@@ -1,5 +1,4 @@
 -- `naming::name_range`: a fired range's non-matching parts are named for tracking; if it has none, one-of-name is.
-use borrow.Author.Rules.{rules}
 use Rattle.firing.proofs.Given.{one_fits}
 use Rattle.naming.proofs.Ranges.{one_named, rest_named}
 use Rattle.naming.proofs.name_range.Goals as goal

@@ -1,5 +1,4 @@
 -- `naming::range_candidates`: the favoured candidates of a range are named, then the others.
-use borrow.Author.Rules.{rules}
 use Rattle.encoder.proofs.Steps.{alone_after}
 use Rattle.naming.proofs.Ranges.{candidates_named}
 use Rattle.naming.proofs.range_candidates.Goals as goal
