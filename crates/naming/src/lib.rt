@@ -1,4 +1,6 @@
 // The variables of a requirement's task: candidates are named for tracking and opened if ready; so are, but for the opening, the other parts of fired ranges.
+#![tactic(auto)]
+
 ghost use Rattle.std.specs.Prelude.{◌≡◌, false, ◌<◌, length, get_or, set, replicate};
 ghost use Rattle.rules.specs.Lists.{fold};
 ghost use Rattle.rules.specs.Candidates.{matching, sorted};
