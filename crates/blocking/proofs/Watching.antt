@@ -9,7 +9,7 @@ use lib.Dec.{eqb}
 use lib.ListN.{length, get_or, set, length-set, get_or-eq_default}
 use lib.Seq.{get_or-set_same, get_or-set_other}
 use borrow.Author.Tests.{eqb-true, eqb-false, eq-eqb}
-use Rattle.rules.specs.Lists.{any, all, up_to}
+use Rattle.rules.specs.Lists.{any, up_to}
 use Rattle.rules.specs.Called.{◌∈◌}
 use Rattle.rules.specs.Catalogue.{Catalogue, name_of, range_name}
 use Rattle.rules.specs.Candidates.{member, matching}

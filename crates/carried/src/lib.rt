@@ -68,7 +68,7 @@ pub fn start(s: &mut [u8], clauses: &mut [u8], l: Limits) -> Counters
 }
 
 // What a sheet comes to.
-#[derive(Drop)]
+#[derive(Clone, Copy)]
 pub enum Sheet {
     Carried(Counters),
     Refused { refusal: Refusal, at: usize },
@@ -281,7 +281,7 @@ fn carry_command(
 // ---- the records
 
 // What a record comes to.
-#[derive(Drop)]
+#[derive(Clone, Copy)]
 pub enum Step {
     Next {
         at: usize,
@@ -383,7 +383,7 @@ fn carry_record(
 // ---- commands that change the numbers of added owners and of decisions alone, or nothing: they go without the other counters, to carry which takes longer
 
 // A byte of the sheet, and how many owners are added and decisions made there.
-#[derive(Drop)]
+#[derive(Clone, Copy)]
 struct Place {
     at: usize,
     added: usize,

@@ -1,5 +1,7 @@
 // The listing's lines of clauses and of the variables that a clause asserts false, whose candidates the catalogue has.
 // The same functions measure and write (`text`).
+#![tactic(auto)]
+
 mod spans;
 
 ghost use Rattle.std.specs.Prelude.{◌≡◌, false, ◌∷◌, map, ◌+◌, ◌<◌, ◌≤◌, eqb, length, get_or};

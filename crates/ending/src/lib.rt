@@ -16,7 +16,7 @@ use state::Limits;
 use tables::Counts;
 
 // What a job comes to.
-#[derive(Drop)]
+#[derive(Clone, Copy)]
 pub enum Outcome {
     Accepted {
         length: usize,

@@ -1,4 +1,6 @@
 // A name's task: a locked part makes every other part of the name false beside the root; then each excluded part is false.
+#![tactic(auto)]
+
 ghost use Rattle.std.specs.Prelude.{◌≡◌, [], ◌++◌, ◌<◌, length};
 ghost use Rattle.rules.specs.Lists.{fold};
 ghost use Rattle.rules.specs.Candidates.{locked_part, locked_out, excluded_parts};

@@ -10,7 +10,7 @@ ghost use Rattle.reader.specs.Reading.{length_at, body_length, next_of, command_
 use refusal::Refusal;
 
 // What stands at a position of a job: a whole record, whose numbers stay in its body, or why none is read.
-#[derive(Drop)]
+#[derive(Clone, Copy)]
 pub enum Record {
     Item,
     Sheet,
@@ -18,7 +18,7 @@ pub enum Record {
 }
 
 // A sheet record with the numbers of its body, in their order.
-#[derive(Drop)]
+#[derive(Clone, Copy)]
 pub enum Command {
     Add(u16),
     Draw(u16),

@@ -1,6 +1,5 @@
 use borrow.Author.Rules.{rules}
 use mathlib.Core.Path.{◌∙◌}
-use Prim.Native.Nat.{ℕ, ◌<◌}
 use native.Mathlib.Omega.{arith}
 use Rattle.blocking.proofs.Asking.{condition_low, known_judged, leaf_range, leaf_judged, left_falls, right_falls, left_there, right_there, left_tells, both_tell}
 use Rattle.blocking.proofs.+condition_verdict.Goals as goal

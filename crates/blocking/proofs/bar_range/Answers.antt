@@ -1,5 +1,4 @@
 -- `blocking::bar_range` blocks a range that does not hold, if its matching parts can be watched.
-use native.Mathlib.Omega.{arith}
 use borrow.Author.Rules.{rules}
 use Rattle.blocking.proofs.Blocking.{bars_flagged, bars_not, bars_now}
 use Rattle.blocking.proofs.bar_range.Goals as goal

@@ -1,12 +1,4 @@
 use borrow.Author.Rules.{rules}
-use Prim.Native.Nat.{◌-◌}
-use Rattle.cache.specs.Areas.{catalogue}
-use Rattle.state.specs.Layout.{held}
-use Rattle.variable_map.specs.Mapping.{variables}
-use Rattle.decision_tracker.specs.Tracking.{decisions}
-use Rattle.goals.specs.Goals.{true_of}
-use Rattle.blocking.specs.Blocking.{Grows}
-use native.Mathlib.Omega.{arith}
 use Rattle.blocking.proofs.Bars.{row_there, some_room, some_step, disjunct_here, disjunct_not}
 use Rattle.blocking.proofs.Verdicts.{grows_same}
 use Rattle.blocking.proofs.bar_some.Goals as goal

@@ -1,5 +1,4 @@
 -- `blocking::blocks_by_shared` tells that no disjunct of a condition holds: a range that they share does not.
-use native.Mathlib.Omega.{arith}
 use borrow.Author.Rules.{rules}
 use Rattle.blocking.proofs.Sharing.{asked_room, first_blocks, second_blocks}
 use Rattle.blocking.proofs.blocks_by_shared.Goals as goal

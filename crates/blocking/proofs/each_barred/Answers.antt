@@ -1,11 +1,5 @@
 use borrow.Author.Rules.{rules}
-use Prim.Native.Nat.{◌-◌}
-use Rattle.cache.specs.Areas.{catalogue}
-use Rattle.state.specs.Layout.{held}
-use Rattle.variable_map.specs.Mapping.{variables}
-use Rattle.decision_tracker.specs.Tracking.{decisions}
-use Rattle.goals.specs.Goals.{true_of}
-use Rattle.blocking.proofs.Bars.{row_of, Each, each_start, each_room, each_step, each_not, each_end}
+use Rattle.blocking.proofs.Bars.{row_of, each_start, each_room, each_step, each_not, each_end}
 use Rattle.blocking.proofs.each_barred.Goals as goal
 
 pub loop-i-init : goal.loop-i-init

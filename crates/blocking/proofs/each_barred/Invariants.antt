@@ -1,12 +1,11 @@
 -- `blocking::each_barred` tells that each disjunct of a listed condition has a blocked range. The invariant: each one before disjunct i has.
-use borrow.Author.Rules.{rules}
 use Prim.Native.Nat.{◌-◌}
 use Rattle.cache.specs.Areas.{catalogue}
 use Rattle.state.specs.Layout.{held}
 use Rattle.variable_map.specs.Mapping.{variables}
 use Rattle.decision_tracker.specs.Tracking.{decisions}
 use Rattle.goals.specs.Goals.{true_of}
-use Rattle.blocking.proofs.Bars.{row_of, Each, each_start, each_room, each_step, each_not, each_end}
+use Rattle.blocking.proofs.Bars.{Each}
 use Rattle.blocking.proofs.each_barred.Given as goal
 
 abbrev pub invariant-loop-i : goal.invariant-loop-i

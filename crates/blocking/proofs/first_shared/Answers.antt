@@ -1,5 +1,4 @@
 -- `blocking::first_shared` reads the first number of a condition; past the conditions there is none.
-use native.Mathlib.Omega.{arith}
 use borrow.Author.Rules.{rules}
 use Rattle.blocking.proofs.Sharing.{past_shared}
 use Rattle.blocking.proofs.first_shared.Goals as goal

@@ -1,7 +1,5 @@
 use borrow.Author.Rules.{rules}
-use Prim.Native.Nat.{◌-◌}
-use Rattle.tables.specs.Tables.{tables}
-use Rattle.blocking.proofs.Listing.{Listing, listing_start, listing_step, listing_end}
+use Rattle.blocking.proofs.Listing.{listing_start, listing_step, listing_end}
 use Rattle.blocking.proofs.list_condition.Goals as goal
 
 pub loop-i-init : goal.loop-i-init

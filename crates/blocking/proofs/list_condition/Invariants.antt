@@ -1,8 +1,7 @@
 -- `blocking::list_condition` lists a condition. The invariant: its disjuncts before disjunct i stand in the lists.
-use borrow.Author.Rules.{rules}
 use Prim.Native.Nat.{◌-◌}
 use Rattle.tables.specs.Tables.{tables}
-use Rattle.blocking.proofs.Listing.{Listing, listing_start, listing_step, listing_end}
+use Rattle.blocking.proofs.Listing.{Listing}
 use Rattle.blocking.proofs.list_condition.Given as goal
 
 abbrev pub invariant-loop-i : goal.invariant-loop-i

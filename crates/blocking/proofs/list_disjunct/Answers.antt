@@ -1,7 +1,5 @@
-use native.Mathlib.Omega.{arith}
 use borrow.Author.Rules.{rules}
-use Prim.Native.Nat.{◌-◌}
-use Rattle.blocking.proofs.Listing.{Copying, copy_start, copy_step, copy_end}
+use Rattle.blocking.proofs.Listing.{copy_start, copy_step, copy_end}
 use Rattle.blocking.proofs.list_disjunct.Goals as goal
 
 pub loop-j-init : goal.loop-j-init

@@ -1,8 +1,6 @@
 -- `blocking::list_disjunct` puts a disjunct into the lists. The invariant: its ranges before range j stand in its row.
-use native.Mathlib.Omega.{arith}
-use borrow.Author.Rules.{rules}
 use Prim.Native.Nat.{◌-◌}
-use Rattle.blocking.proofs.Listing.{Copying, copy_start, copy_step, copy_end}
+use Rattle.blocking.proofs.Listing.{Copying}
 use Rattle.blocking.proofs.list_disjunct.Given as goal
 
 abbrev pub invariant-loop-j : goal.invariant-loop-j

@@ -1,5 +1,4 @@
 -- `blocking::names_blocked` tells whether a number names a blocked range.
-use native.Mathlib.Omega.{arith}
 use borrow.Author.Rules.{rules}
 use Rattle.blocking.proofs.Sharing.{bars_none, bars_some}
 use Rattle.blocking.proofs.names_blocked.Goals as goal

@@ -1,9 +1,7 @@
 -- `blocking::note_all_shared` notes them of all conditions, once. The invariant: what is noted is so.
-use borrow.Author.Rules.{rules}
 use Prim.Native.Nat.{◌-◌}
 use Rattle.tables.specs.Tables.{tables}
 use Rattle.blocking.specs.Blocking.{Listed}
-use Rattle.blocking.proofs.Listing.{listed_looked}
 use Rattle.blocking.proofs.note_all_shared.Given as goal
 
 abbrev pub invariant-loop-x : goal.invariant-loop-x

@@ -1,5 +1,4 @@
 -- `blocking::note_shared` notes ranges that each disjunct of a condition has.
-use native.Mathlib.Omega.{arith}
 use borrow.Author.Rules.{rules}
 use Rattle.blocking.proofs.Sharing.{noted_leaf, noted_and}
 use Rattle.blocking.proofs.note_shared.Goals as goal

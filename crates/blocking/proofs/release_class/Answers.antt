@@ -1,6 +1,5 @@
 use borrow.Author.Rules.{rules}
-use Prim.Native.Nat.{◌-◌}
-use Rattle.blocking.proofs.Releasing.{Class, class_start, class_step, class_end}
+use Rattle.blocking.proofs.Releasing.{class_start, class_step, class_end}
 use Rattle.blocking.proofs.release_class.Goals as goal
 
 pub loop-r-init : goal.loop-r-init

@@ -1,7 +1,6 @@
 -- `blocking::release_class` unblocks every range of a class that has the part. The invariant: none of the class before range r is blocked that has it.
-use borrow.Author.Rules.{rules}
 use Prim.Native.Nat.{◌-◌}
-use Rattle.blocking.proofs.Releasing.{Class, class_start, class_step, class_end}
+use Rattle.blocking.proofs.Releasing.{Class}
 use Rattle.blocking.proofs.release_class.Given as goal
 
 abbrev pub invariant-loop-r : goal.invariant-loop-r

@@ -1,6 +1,5 @@
 use borrow.Author.Rules.{rules}
-use Prim.Native.Nat.{◌-◌}
-use Rattle.blocking.proofs.Releasing.{Conditions, conditions_start, conditions_step, conditions_end}
+use Rattle.blocking.proofs.Releasing.{conditions_start, conditions_step, conditions_end}
 use Rattle.blocking.proofs.release_conditions.Goals as goal
 
 pub loop-x-init : goal.loop-x-init

@@ -1,7 +1,6 @@
 -- `blocking::release_conditions` unblocks every condition. The invariant: no condition before x is blocked.
-use borrow.Author.Rules.{rules}
 use Prim.Native.Nat.{◌-◌}
-use Rattle.blocking.proofs.Releasing.{Conditions, conditions_start, conditions_step, conditions_end}
+use Rattle.blocking.proofs.Releasing.{Conditions}
 use Rattle.blocking.proofs.release_conditions.Given as goal
 
 abbrev pub invariant-loop-x : goal.invariant-loop-x

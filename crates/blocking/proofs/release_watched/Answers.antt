@@ -1,7 +1,6 @@
-use native.Mathlib.Omega.{arith}
 use borrow.Author.Rules.{rules}
 use Rattle.blocking.proofs.Classes.{lowest_fits, lowest_less}
-use Rattle.blocking.proofs.Releasing.{Classes, classes_start, classes_step, classes_end}
+use Rattle.blocking.proofs.Releasing.{classes_start, classes_step, classes_end}
 use Rattle.blocking.proofs.release_watched.Goals as goal
 
 pub loop-rest-init : goal.loop-rest-init

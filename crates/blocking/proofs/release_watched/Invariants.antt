@@ -1,8 +1,5 @@
 -- `blocking::release_watched` unblocks the ranges of each class whose bit is set that have the part. The invariant: so it is of those whose bit was taken away.
-use native.Mathlib.Omega.{arith}
-use borrow.Author.Rules.{rules}
-use Rattle.blocking.proofs.Classes.{lowest_fits, lowest_less}
-use Rattle.blocking.proofs.Releasing.{Classes, classes_start, classes_step, classes_end}
+use Rattle.blocking.proofs.Releasing.{Classes}
 use Rattle.blocking.proofs.release_watched.Given as goal
 
 abbrev pub invariant-loop-rest : goal.invariant-loop-rest

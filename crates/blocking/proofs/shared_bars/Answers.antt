@@ -1,5 +1,4 @@
 -- `blocking::shared_bars` tells whether a number of a condition names a blocked range.
-use native.Mathlib.Omega.{arith}
 use borrow.Author.Rules.{rules}
 use Rattle.blocking.proofs.Sharing.{shared_first, shared_second}
 use Rattle.blocking.proofs.shared_bars.Goals as goal

@@ -1,5 +1,4 @@
 use borrow.Author.Rules.{rules}
-use Prim.Native.Nat.{◌-◌}
 use native.Mathlib.Omega.{arith}
 use Rattle.blocking.proofs.Bars.{row_bars, row_bars_not}
 use Rattle.blocking.proofs.some_barred.Goals as goal

@@ -1,8 +1,5 @@
-use native.Mathlib.Omega.{arith}
 use borrow.Author.Rules.{rules}
-use Prim.Native.Nat.{◌-◌}
-use Rattle.cache.specs.Areas.{catalogue}
-use Rattle.blocking.proofs.Watching.{Watching, watch_first, watch_past, watch_flag, watched_some, watched_all}
+use Rattle.blocking.proofs.Watching.{watch_first, watch_past, watch_flag, watched_some, watched_all}
 use Rattle.blocking.proofs.watch_parts.Goals as goal
 use Rattle.blocking.proofs.watch_parts.Goals.{then-chosen, else-chosen}
 

@@ -1,10 +1,7 @@
 -- `blocking::watch_parts` watches the matching parts of a range. The invariant: those before part p are watched.
-use native.Mathlib.Omega.{arith}
-use borrow.Author.Rules.{rules}
 use Prim.Native.Nat.{◌-◌}
-use mathlib.Core.Logic.{⊎_elim}
 use Rattle.cache.specs.Areas.{catalogue}
-use Rattle.blocking.proofs.Watching.{Watching, watch_first, watch_past, watch_flag, watched_some, watched_all}
+use Rattle.blocking.proofs.Watching.{Watching}
 use Rattle.blocking.proofs.watch_parts.Given as goal
 
 abbrev pub invariant-loop-p : goal.invariant-loop-p

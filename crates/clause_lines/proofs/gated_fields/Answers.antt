@@ -1,0 +1,15 @@
+-- `clause_lines::gated_fields` prints the fields of a gate's own requires clause.
+use mathlib.Core.Path.{◌∙◌}
+use borrow.Author.Rules.{rules}
+use Rattle.clause_lines.proofs.Clauses.{gated_known, gated_fields}
+use Rattle.clause_lines.proofs.Copying.{spans_kept}
+use Rattle.clause_lines.proofs.gated_fields.Goals as goal
+
+pub candidate_literals-requires-clause-all_known : goal.candidate_literals-requires-clause-all_known
+candidate_literals-requires-clause-all_known c = search (rules, gated_known)
+
+pub candidate_literals-requires-clause-spans : goal.candidate_literals-requires-clause-spans
+candidate_literals-requires-clause-spans c = search (rules, spans_kept)
+
+pub returns-clause-wrote : goal.returns-clause-wrote
+returns-clause-wrote c = search (rules, gated_fields)

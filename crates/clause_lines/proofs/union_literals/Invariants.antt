@@ -1,0 +1,16 @@
+-- `clause_lines::union_literals` prints the literals of a union, row by row; past the room it stops. The invariant: all is printed but the ranges from row i on, and the spans are kept.
+use borrow.Author.Rules.{rules}
+use Prim.Native.Nat.{◌-◌}
+use native.Mathlib.Omega.{arith}
+use Rattle.state.specs.Layout.{held}
+use Rattle.variable_map.specs.Mapping.{variables}
+use Rattle.cache.specs.Areas.{catalogue}
+use Rattle.clause_lines.specs.Spans.{Spans}
+use Rattle.clause_lines.proofs.Walks.{Walking, walking_start, walking_known, walking_step, walking_end, walking_over}
+use Rattle.clause_lines.proofs.union_literals.Given as goal
+
+abbrev pub invariant-loop-i : goal.invariant-loop-i
+invariant-loop-i l = Walking l.k l.marks l.unions l.t l.l l.n l.s (variables l.n.variables (held l.l l.s)) l.u l.at l.a l.i l.room l.initial.out l.out × Spans (catalogue l.k l.marks l.unions l.t) (variables l.n.variables (held l.l l.s)) l.a l.spans l.out
+
+abbrev pub decreases-loop-i : goal.decreases-loop-i
+decreases-loop-i l = l.k.members - l.i
