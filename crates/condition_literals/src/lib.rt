@@ -1,5 +1,7 @@
 // The literals of a disjunct that fired, kept behind those of the stored clauses, and what is decided of them and of a goal's candidates.
 // Past the limit a literal is only counted.
+#![tactic(auto)]
+
 ghost use Rattle.std.specs.Prelude.{◌≡◌, true, false, [], ◌∷◌, ◌++◌, map, ◌+◌, ◌<◌, ◌≤◌, length};
 ghost use Rattle.rules.specs.Lists.{all, list_if};
 ghost use Rattle.rules.specs.Literal.{pos};

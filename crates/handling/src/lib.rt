@@ -1,5 +1,7 @@
 // A requirement's task: its candidates get variables, are named for tracking and opened if ready; then its clauses are added.
 // Once it is full nothing more is done.
+#![tactic(auto)]
+
 ghost use Rattle.std.specs.Prelude.{◌≡◌, true, false, [], ◌<◌, length};
 ghost use Rattle.rules.specs.Lists.{distinct};
 ghost use Rattle.rules.specs.Catalogue.{goal_at};
