@@ -9,7 +9,7 @@ use lib.ListN.{length, get_or}
 use borrow.Author.Tests.{lt-ltb, eqb-false, ne_eqb}
 use Rattle.rules.specs.Catalogue as rules
 use Rattle.rules.specs.Catalogue.{Owner, root, no_constraint, constraint_at}
-use Rattle.rules.specs.Variables.{Origin, chosen, violation, part_origin}
+use Rattle.rules.specs.Variables.{chosen, violation, part_origin}
 use Rattle.rules.proofs.WellFormed.{OwnerGiven, WellFormed}
 use Rattle.tables.specs.declared.Counts.{Counts}
 use Rattle.tables.specs.declared.Constraint as code

@@ -22,7 +22,6 @@ use Rattle.tables.specs.Tables.{tables}
 use Rattle.cache.specs.Areas.{catalogue}
 use Rattle.cache.proofs.Laws.{several_held}
 use Rattle.state.specs.declared.Limits.{Limits}
-use Rattle.variable_map.specs.Mapping.{variables}
 use Rattle.encoder.specs.declared.Counters.{Counters}
 use Rattle.encoder.specs.Did.{on_opening, with_several, StateDid, ClausesDid, PlainDid}
 use Rattle.encoder.specs.Held.{GoodAlone, KnownUnlessFull}

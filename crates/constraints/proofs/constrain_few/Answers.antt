@@ -1,5 +1,4 @@
 -- `constraints::constrain_few` adds a clause for each non-matching part; where every part matches there is none.
-use borrow.Author.Rules.{rules}
 use Rattle.constraints.proofs.Serving.{none_constrained}
 use Rattle.constraints.proofs.constrain_few.Goals as goal
 

@@ -1,5 +1,4 @@
 -- `names::lock_others`: where a part is locked, the others are locked out.
-use borrow.Author.Rules.{rules}
 use Rattle.names.proofs.Locked.{others_known, locks_added, locks_none}
 use Rattle.names.proofs.lock_others.Goals as goal
 

@@ -1,7 +1,5 @@
 use borrow.Author.Rules.{rules}
-use Prim.Native.Nat.{◌-◌}
-use Rattle.cache.specs.Areas.{catalogue}
-use Rattle.names.proofs.Locked.{LockedFrom, locked_first, locked_found, locked_next, locked_end}
+use Rattle.names.proofs.Locked.{locked_first, locked_found, locked_next, locked_end}
 use Rattle.names.proofs.locked_part.Goals as goal
 
 pub loop-p-init : goal.loop-p-init

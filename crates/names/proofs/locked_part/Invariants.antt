@@ -1,8 +1,7 @@
 -- `names::locked_part` finds the locked part of a name. The invariant: it is the first of those from p on.
-use borrow.Author.Rules.{rules}
 use Prim.Native.Nat.{◌-◌}
 use Rattle.cache.specs.Areas.{catalogue}
-use Rattle.names.proofs.Locked.{LockedFrom, locked_first, locked_found, locked_next, locked_end}
+use Rattle.names.proofs.Locked.{LockedFrom}
 use Rattle.names.proofs.locked_part.Given as goal
 
 abbrev pub invariant-loop-p : goal.invariant-loop-p

@@ -1,5 +1,4 @@
 -- `names::name_locked`: where a part is locked, it and the others get their variables.
-use borrow.Author.Rules.{rules}
 use Rattle.encoder.proofs.Steps.{alone_after}
 use Rattle.names.proofs.Locked.{locked_named, locked_none}
 use Rattle.names.proofs.name_locked.Goals as goal

@@ -1,5 +1,4 @@
 -- `names::serve_several` lists a name with several allowed.
-use borrow.Author.Rules.{rules}
 use Rattle.names.proofs.Serving.{several_served_law, several_not}
 use Rattle.names.proofs.serve_several.Goals as goal
 

@@ -1,5 +1,4 @@
 -- `constraints::outside::add_left` adds a clause that was left.
-use borrow.Author.Rules.{rules}
 use Rattle.constraints.proofs.outside.add_left.Goals as goal
 
 pub add_if-requires-clause-indexed : goal.add_if-requires-clause-indexed

@@ -1,10 +1,5 @@
 use borrow.Author.Rules.{rules}
-use Prim.Native.Nat.{◌-◌}
-use Rattle.cache.specs.Areas.{catalogue}
-use Rattle.encoder.specs.Held.{run_of}
-use Rattle.parts.specs.declared.Adding.TheVariants.{AuxOut}
-use Rattle.parts.proofs.Clauses.{AddedSoFar, adding_first, adding_end}
-use Rattle.constraints.specs.Outside.{outside, with_clauses}
+use Rattle.parts.proofs.Clauses.{adding_first, adding_end}
 use Rattle.state.proofs.Sizes.{fits_same}
 use Rattle.encoder.proofs.Steps.{long_same}
 use Rattle.constraints.proofs.OutsideLaws.{outside_skips, appended, left_good, left_added}

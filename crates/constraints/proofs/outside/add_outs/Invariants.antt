@@ -1,14 +1,10 @@
 -- `constraints::outside::add_outs` adds the clause of each part outside the range. The invariant: those below p have theirs.
-use borrow.Author.Rules.{rules}
 use Prim.Native.Nat.{◌-◌}
 use Rattle.cache.specs.Areas.{catalogue}
 use Rattle.encoder.specs.Held.{run_of}
 use Rattle.parts.specs.declared.Adding.TheVariants.{AuxOut}
-use Rattle.parts.proofs.Clauses.{AddedSoFar, adding_first, adding_end}
+use Rattle.parts.proofs.Clauses.{AddedSoFar}
 use Rattle.constraints.specs.Outside.{outside, with_clauses}
-use Rattle.state.proofs.Sizes.{fits_same}
-use Rattle.encoder.proofs.Steps.{long_same}
-use Rattle.constraints.proofs.OutsideLaws.{outside_skips, appended, left_good, left_added}
 use Rattle.constraints.proofs.outside.add_outs.Given as goal
 
 abbrev pub invariant-loop-p : goal.invariant-loop-p

@@ -1,11 +1,9 @@
 use borrow.Author.Rules.{rules}
-use Prim.Native.Nat.{◌-◌}
 use native.Mathlib.Omega.{arith}
-use Rattle.cache.specs.Areas.{catalogue}
 use Rattle.state.proofs.Sizes.{fits_same}
 use Rattle.encoder.proofs.Steps.{alone_after}
 use Rattle.parts.proofs.Names.{part_fits, naming_end}
-use Rattle.constraints.proofs.OutsideLaws.{ToName, name_first_law, name_next}
+use Rattle.constraints.proofs.OutsideLaws.{name_first_law, name_next}
 use Rattle.constraints.proofs.outside.name_outside.Goals as goal
 
 pub next_unnamed-p-requires-clause-indexed : goal.next_unnamed-p-requires-clause-indexed

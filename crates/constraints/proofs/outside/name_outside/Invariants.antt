@@ -1,12 +1,7 @@
 -- `constraints::outside::name_outside` gives each part outside the range its variable. The invariant: those below p have theirs, and p has none.
-use borrow.Author.Rules.{rules}
 use Prim.Native.Nat.{◌-◌}
-use native.Mathlib.Omega.{arith}
 use Rattle.cache.specs.Areas.{catalogue}
-use Rattle.state.proofs.Sizes.{fits_same}
-use Rattle.encoder.proofs.Steps.{alone_after}
-use Rattle.parts.proofs.Names.{part_fits, naming_end}
-use Rattle.constraints.proofs.OutsideLaws.{ToName, name_first_law, name_next}
+use Rattle.constraints.proofs.OutsideLaws.{ToName}
 use Rattle.constraints.proofs.outside.name_outside.Given as goal
 
 abbrev pub invariant-loop-p : goal.invariant-loop-p

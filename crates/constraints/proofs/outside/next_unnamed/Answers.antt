@@ -1,10 +1,4 @@
 use borrow.Author.Rules.{rules}
-use Prim.Native.Nat.{◌-◌}
-use Rattle.cache.specs.Areas.{catalogue}
-use Rattle.index.specs.Chains.{Skips}
-use Rattle.state.specs.Layout.{held}
-use Rattle.variable_map.specs.Mapping.{variables}
-use Rattle.constraints.specs.Outside.{lacks}
 use Rattle.constraints.proofs.OutsideLaws.{find_start, find_next, find_here, find_none}
 use Rattle.constraints.proofs.outside.next_unnamed.Goals as goal
 

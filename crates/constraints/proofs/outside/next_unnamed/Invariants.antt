@@ -1,12 +1,10 @@
 -- `constraints::outside::next_unnamed` finds the next part outside the range that has no variable. The invariant: none was passed.
-use borrow.Author.Rules.{rules}
 use Prim.Native.Nat.{◌-◌}
 use Rattle.cache.specs.Areas.{catalogue}
 use Rattle.index.specs.Chains.{Skips}
 use Rattle.state.specs.Layout.{held}
 use Rattle.variable_map.specs.Mapping.{variables}
 use Rattle.constraints.specs.Outside.{lacks}
-use Rattle.constraints.proofs.OutsideLaws.{find_start, find_next, find_here, find_none}
 use Rattle.constraints.proofs.outside.next_unnamed.Given as goal
 
 abbrev pub invariant-loop-p : goal.invariant-loop-p
