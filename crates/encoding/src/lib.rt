@@ -1,5 +1,7 @@
 // A run: it begins, its line is served, and at its end the named parts join and new one-of-name variables are linked.
 // It is carried out, or full.
+#![tactic(auto)]
+
 ghost use Rattle.std.specs.Prelude.{◌<◌, length};
 ghost use Rattle.cache.specs.Areas.{catalogue};
 ghost use Rattle.state.specs.Layout.{held, Fits};

@@ -94,7 +94,7 @@ module _ (c : Catalogue) where
       let p : Stands s.opening (emit c r (served t) (set_opening o s)).opening = rw (emit_leaves c r (served t) (set_opening o s)).opening (serve_stands (decided_true s) t s.opening) in
       record { owners = p.owners; several = p.several; named = p.named; tracked = p.tracked }
 
-  condition_stands : (v : Reading) (q : ℕ) (s : State) → Stands s.opening (condition_served c v q s).opening
+  pub condition_stands : (v : Reading) (q : ℕ) (s : State) → Stands s.opening (condition_served c v q s).opening
   unfolding condition_served waits on_opening
   condition_stands v q s = rw (add_waitings_is _ s) (then (record { owners = whole; several = whole; named = whole; tracked = whole }) (queued_stands _ _ _))
     where

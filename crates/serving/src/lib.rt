@@ -1,4 +1,6 @@
 // The tasks of a run and the line in which they wait: first in, first out.
+#![tactic(auto)]
+
 ghost use Rattle.std.specs.Prelude.{◌≡◌, [], ◌<◌, ◌≤◌, length};
 ghost use Rattle.rules.specs.Catalogue.{goal_at};
 ghost use Rattle.rules.specs.Opening.{requirement};

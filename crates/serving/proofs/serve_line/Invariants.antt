@@ -1,0 +1,17 @@
+-- `serving::serve_line` serves the whole line. The invariant: `head` tasks were served, and the flags are of goals that these have settled.
+use borrow.Author.Rules.{rules}
+use Prim.Native.Nat.{◌+◌, ◌-◌}
+use native.Mathlib.Omega.{arith}
+use Rattle.cache.specs.Areas.{catalogue}
+use Rattle.state.specs.Layout.{held}
+use Rattle.encoder.specs.Held.{run_of}
+use Rattle.encoder.proofs.Did.{told_full, told_going}
+use Rattle.serving.specs.Flags.{Flagged}
+use Rattle.serving.proofs.Line.{Passed, passed_start, passed_given, passed_next, passed_stop, passed_end}
+use Rattle.serving.proofs.serve_line.Given as goal
+
+abbrev pub invariant-loop-head : goal.invariant-loop-head
+invariant-loop-head l = Passed (catalogue l.k l.marks l.unions l.t) l.l (run_of l.r) l.drawn l.initial.m l.initial.s l.initial.clauses l.initial.w l.s l.clauses l.w l.m l.head × Flagged (catalogue l.k l.marks l.unions l.t) l.l l.settled l.m (held l.l l.s)
+
+abbrev pub decreases-loop-head : goal.decreases-loop-head
+decreases-loop-head l = 3649 + l.l.waiting - l.head
