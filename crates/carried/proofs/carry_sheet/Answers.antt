@@ -12,10 +12,11 @@ pub loop-at-smaller : goal.loop-at-smaller
 loop-at-smaller c = omega (arith, left_less c.loop-at.invariant.0 _ c.requires.given c.carry_record.ensures.step_did _ _ _ c.in-Next.is c.loop-at-test.true)
 
 pub loop-at-preserved : goal.loop-at-preserved
-loop-at-preserved c =
-    (left_next c.loop-at.invariant.0 _ c.requires.given c.carry_record.ensures.step_did _ _ _ c.in-Next.is c.note.ensures (search rules) (search rules) (search rules) (search rules),
-    c.carry_record.ensures.flagged_next.flagged _ _ _ c.in-Next.is,
-    c.carry_record.ensures.listed_2)
+loop-at-preserved c = (
+  left_next c.loop-at.invariant.0 _ c.requires.given c.carry_record.ensures.step_did _ _ _ c.in-Next.is c.note.ensures (search rules) (search rules) (search rules) (search rules),
+  c.carry_record.ensures.flagged_next.flagged _ _ _ c.in-Next.is,
+  c.carry_record.ensures.listed_2,
+)
 
 pub returns : goal.returns
 returns c = left_end c.loop-at.invariant.0 c.loop-at-test.false
