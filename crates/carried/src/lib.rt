@@ -1,4 +1,6 @@
 // A sheet carried out, from the encoder's state at the start.
+#![tactic(auto)]
+
 ghost use Rattle.std.specs.Prelude.{◌≡◌, ◌+◌, ◌*◌, ◌<◌, ◌≤◌, length, get_or, set};
 ghost use Rattle.rules.specs.Records as rules;
 ghost use Rattle.rules.specs.State.{start};

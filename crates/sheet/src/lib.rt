@@ -1,4 +1,6 @@
 // A sheet's records are carried out: the commands of `commands`, and runs.
+#![tactic(auto)]
+
 ghost use Rattle.std.specs.Prelude.{◌<◌, length};
 ghost use Rattle.rules.specs.Records as rules;
 ghost use Rattle.cache.specs.Areas.{catalogue};

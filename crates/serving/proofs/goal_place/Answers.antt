@@ -1,6 +1,4 @@
 -- `serving::goal_place` gives the place of a requirement's goal among the flags.
-use native.Mathlib.Omega.{arith}
-use borrow.Author.Rules.{rules}
 use Rattle.serving.proofs.Flags.{goal_placed}
 use Rattle.serving.proofs.goal_place.Goals as goal
 

@@ -1,6 +1,4 @@
 -- `serving::serve_drawn` serves the requirement of a drawn entry for its one disjunct.
-use native.Mathlib.Omega.{arith}
-use borrow.Author.Rules.{rules}
 use Rattle.serving.proofs.Fired.{drawn_below, drawn_given, drawn_served}
 use Rattle.serving.proofs.serve_drawn.Goals as goal
 

@@ -1,6 +1,4 @@
 -- `serving::serve_fired` serves a requirement for the disjuncts that hold now.
-use native.Mathlib.Omega.{arith}
-use borrow.Author.Rules.{rules}
 use Rattle.firing.proofs.Callers.{fired_listed}
 use Rattle.handling.proofs.Owning.{without, with_one}
 use Rattle.serving.proofs.Fired.{none_given, held_without, held_given, fired_served}

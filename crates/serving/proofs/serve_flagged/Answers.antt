@@ -1,6 +1,4 @@
 -- `serving::serve_flagged` serves a requirement's task; its goal's candidates are not named again where the flag says that they are settled.
-use native.Mathlib.Omega.{arith}
-use borrow.Author.Rules.{rules}
 use Rattle.serving.proofs.Flags.{flag_settles, flagged_more}
 use Rattle.serving.proofs.serve_flagged.Goals as goal
 

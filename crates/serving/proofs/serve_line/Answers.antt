@@ -1,12 +1,7 @@
 use borrow.Author.Rules.{rules}
-use Prim.Native.Nat.{◌+◌, ◌-◌}
 use native.Mathlib.Omega.{arith}
-use Rattle.cache.specs.Areas.{catalogue}
-use Rattle.state.specs.Layout.{held}
-use Rattle.encoder.specs.Held.{run_of}
 use Rattle.encoder.proofs.Did.{told_full, told_going}
-use Rattle.serving.specs.Flags.{Flagged}
-use Rattle.serving.proofs.Line.{Passed, passed_start, passed_given, passed_next, passed_stop, passed_end}
+use Rattle.serving.proofs.Line.{passed_start, passed_given, passed_next, passed_stop, passed_end}
 use Rattle.serving.proofs.serve_line.Goals as goal
 
 pub loop-head-init : goal.loop-head-init

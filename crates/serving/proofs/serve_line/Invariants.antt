@@ -1,13 +1,10 @@
 -- `serving::serve_line` serves the whole line. The invariant: `head` tasks were served, and the flags are of goals that these have settled.
-use borrow.Author.Rules.{rules}
 use Prim.Native.Nat.{◌+◌, ◌-◌}
-use native.Mathlib.Omega.{arith}
 use Rattle.cache.specs.Areas.{catalogue}
 use Rattle.state.specs.Layout.{held}
 use Rattle.encoder.specs.Held.{run_of}
-use Rattle.encoder.proofs.Did.{told_full, told_going}
 use Rattle.serving.specs.Flags.{Flagged}
-use Rattle.serving.proofs.Line.{Passed, passed_start, passed_given, passed_next, passed_stop, passed_end}
+use Rattle.serving.proofs.Line.{Passed}
 use Rattle.serving.proofs.serve_line.Given as goal
 
 abbrev pub invariant-loop-head : goal.invariant-loop-head

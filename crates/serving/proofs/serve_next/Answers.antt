@@ -1,5 +1,4 @@
 -- `serving::serve_next` serves the task at the head of the line.
-use borrow.Author.Rules.{rules}
 use native.Mathlib.Omega.{arith}
 use Rattle.serving.specs.Line.{from}
 use Rattle.serving.proofs.Passing.{good_from, served_next}

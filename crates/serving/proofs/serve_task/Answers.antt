@@ -1,11 +1,6 @@
 -- `serving::serve_task` serves a task by its kind.
-use native.Mathlib.Omega.{arith}
-use mathlib.Core.Path.{refl}
-use borrow.Author.Rules.{rules}
-use mathlib.Core.List.{[]}
-use Rattle.encoder.proofs.Steps.{good_waiting, good_alone}
 use Rattle.serving.specs.Serving.{served_as}
-use Rattle.serving.proofs.Tasks.{long_most, long_entries, given_as, condition_below, requirement_below, constraint_below, drawn_first, as_kind}
+use Rattle.serving.proofs.Tasks.{given_as, condition_below, requirement_below, constraint_below, drawn_first, as_kind}
 use Rattle.naming.proofs.AlikeDid.{did_alike}
 use Rattle.serving.proofs.Stands.{serving_stands, condition_stands}
 use Rattle.serving.proofs.Flags.{flagged_stand}

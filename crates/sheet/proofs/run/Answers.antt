@@ -1,0 +1,39 @@
+-- `sheet::run` carries a run out, or refuses a level that is too low or a run that would end above a limit.
+use borrow.Author.Rules.{rules}
+use Rattle.encoder.proofs.Did.{told_full, told_going}
+use Rattle.sheet.proofs.Running.{run_low, run_full_law, run_done}
+use Rattle.sheet.proofs.Flags.{after_refused, after_carried}
+use Rattle.sheet.proofs.run.Goals as goal
+
+pub returns-then-too_low-clause-command_did : goal.returns-then-too_low-clause-command_did
+returns-then-too_low-clause-command_did c = run_low _ c.too_low.ensures c.if-too_low.true
+
+pub returns-then-too_low-clause-flagged_after : goal.returns-then-too_low-clause-flagged_after
+returns-then-too_low-clause-flagged_after c = after_refused
+
+pub returns-then-m-ne0-clause-command_did : goal.returns-then-m-ne0-clause-command_did
+returns-then-m-ne0-clause-command_did c = run_full_law _ c.too_low.ensures c.if-too_low.false c.run_once-m.ensures.run_did (told_full c.if-m-ne0.true)
+
+pub returns-then-m-ne0-clause-flagged_after : goal.returns-then-m-ne0-clause-flagged_after
+returns-then-m-ne0-clause-flagged_after c = after_refused
+
+pub returns-clause-command_did : goal.returns-clause-command_did
+returns-clause-command_did c = run_done _ c.too_low.ensures c.if-too_low.false c.run_once-m.ensures.run_did (told_going c.if-m-ne0.false)
+
+pub returns-clause-flagged_after : goal.returns-clause-flagged_after
+returns-clause-flagged_after c = after_carried c.run_once-m.ensures.flagged_2
+
+pub run_once-m-requires-clause-catalogued : goal.run_once-m-requires-clause-catalogued
+run_once-m-requires-clause-catalogued c = c.requires.catalogued
+
+pub run_once-m-requires-clause-fits : goal.run_once-m-requires-clause-fits
+run_once-m-requires-clause-fits c = c.requires.fits
+
+pub run_once-m-requires-clause-reaches : goal.run_once-m-requires-clause-reaches
+run_once-m-requires-clause-reaches c = c.requires.reaches
+
+pub run_once-m-requires-clause-long_enough : goal.run_once-m-requires-clause-long_enough
+run_once-m-requires-clause-long_enough c = c.requires.long_enough
+
+pub run_once-m-requires-clause-flagged : goal.run_once-m-requires-clause-flagged
+run_once-m-requires-clause-flagged c = c.requires.flagged
