@@ -1,5 +1,7 @@
 // A job whose length and areas are right: its catalogue is read, its sheet carried out, and its end made of the state that it comes to.
 // What is left of the definitions' walk is the same at each of the three.
+#![tactic(auto)]
+
 ghost use Rattle.std.specs.Prelude.{◌<◌, ◌≤◌, length};
 ghost use Rattle.rules.specs.Catalogue.{empty_catalogue};
 ghost use Rattle.rules.specs.Job.{reading};
