@@ -39,7 +39,6 @@ use Rattle.commands.specs.declared.Outcome.{Outcome}
 use Rattle.commands.specs.declared.Outcome.TheVariants as outcome
 use Rattle.sheet.specs.Sheet.{CommandDid}
 use Rattle.carried.specs.declared.Step.{Step}
-use Rattle.carried.specs.declared.Step.TheVariants as Step
 use Rattle.carried.specs.Carrying.{end_from, Settled, Has, Idles, SettledDid, ReadDid, Passed, StepDid}
 
 -- ---- a sheet record has three bytes or more

@@ -11,7 +11,7 @@ use Rattle.rules.specs.Catalogue.{Catalogue}
 use Rattle.rules.specs.Records.{Kind, kind_of, of_sheet, read}
 use Rattle.rules.specs.State.{State, start, decided_true}
 use Rattle.rules.specs.Limits.{Terms}
-use Rattle.rules.specs.Job.{reading, carrying, walk, run_step, starts_sheet, refused, ended}
+use Rattle.rules.specs.Job.{reading, carrying, walk, run_step, starts_sheet, ended}
 use Rattle.rules.proofs.KindTable.{not_one}
 use Rattle.rules.proofs.WalkLaws.{walk_record, walk_end}
 use Rattle.rules.proofs.Reached.{Given, Reached}
@@ -31,7 +31,6 @@ use Rattle.blocking.proofs.Blocking.{blocked_none}
 use Rattle.encoding.specs.Running.{Holds, Reaches}
 use Rattle.sheet.proofs.Held.{held_runs}
 use Rattle.carried.specs.declared.Step.{Step}
-use Rattle.carried.specs.declared.Step.TheVariants as Step
 use Rattle.carried.specs.declared.Sheet.TheVariants as Sheet
 use Rattle.carried.specs.declared.Place.{Place}
 use Rattle.carried.specs.Carrying.{end_from, Settled, Notes, StepDid, counted, Stands, WentOn, Came, SheetDid}

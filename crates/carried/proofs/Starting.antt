@@ -15,7 +15,7 @@ use Rattle.tables.specs.Tables as tables
 use Rattle.state.specs.declared.Limits.{Limits}
 use Rattle.state.specs.Changed.{Blank, Cleared}
 use Rattle.state.specs.Layout.{held, Fits}
-use Rattle.variable_map.specs.Mapping.{variables, Grown}
+use Rattle.variable_map.specs.Mapping.{Grown}
 use Rattle.decision_tracker.specs.Tracking.{decisions}
 use Rattle.decision_tracker.proofs.Laws.{kept_none, kept_kept}
 use Rattle.marked.specs.Marked.{listed, Marked}

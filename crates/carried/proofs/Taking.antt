@@ -26,7 +26,6 @@ use Rattle.goals.specs.Goals.{true_of}
 use Rattle.blocking.specs.Blocking.{Blocked}
 use Rattle.encoding.specs.Running.{Reaches}
 use Rattle.commands.specs.declared.Count.{Count}
-use Rattle.commands.specs.declared.Count.TheVariants as Count
 use Rattle.commands.specs.declared.Outcome.TheVariants as outcome
 use Rattle.commands.specs.Commands.{Adds, Decides}
 use Rattle.commands.proofs.Adding.{added_to}

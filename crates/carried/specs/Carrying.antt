@@ -34,9 +34,7 @@ use Rattle.commands.specs.Commands.{Idle, with_added}
 use Rattle.sheet.specs.Sheet.{Gives}
 use Rattle.carried.specs.declared.Place.{Place}
 use Rattle.carried.specs.declared.Step.{Step}
-use Rattle.carried.specs.declared.Step.TheVariants as Step
 use Rattle.carried.specs.declared.Sheet.{Sheet}
-use Rattle.carried.specs.declared.Sheet.TheVariants as Sheet
 
 -- the areas hold the state at the start, whatever the catalogue and the waiting area
 pub record Started (l : Limits) (n : Counters) (st : ℕ → List ℕ) (cl : List ℕ) : Type 0 where

@@ -1,5 +1,4 @@
 -- `carried::carry_read` gives the step of a command that was carried out or refused.
-use borrow.Author.Rules.{rules}
 use Rattle.carried.proofs.Records.{read_carried_by, read_refused_by}
 use Rattle.carried.proofs.Flags.{next_refused, next_carried}
 use Rattle.carried.proofs.carry_read.Goals as goal

@@ -2,7 +2,7 @@ use borrow.Author.Rules.{rules}
 use native.Mathlib.Omega.{arith}
 use Rattle.blocking.proofs.Listing.{listed_none}
 use Rattle.serving.proofs.Flags.{flagged_none}
-use Rattle.carried.proofs.Sheets.{left_start, left_next, left_less, left_refused, left_end}
+use Rattle.carried.proofs.Sheets.{left_start, left_next, left_less, left_end}
 use Rattle.carried.proofs.carry_sheet.Goals as goal
 
 pub loop-at-init : goal.loop-at-init

@@ -1,18 +1,13 @@
 -- `carried::carry_sheet`: what is left of the job ends as the whole sheet does, at each turn and at the end. The measure is what is left of the job, and whether a record of any kind is next.
-use mathlib.Core.Path.{◌∙◌}
-use borrow.Author.Rules.{rules}
 use Prim.Native.Nat.{ℕ, ◌+◌, ◌-◌, ◌*◌}
-use native.Mathlib.Omega.{arith}
 use lib.IntN.{ℤ, pos, negsuc}
 use lib.ListN.{length}
 use Rattle.tables.specs.Tables.{tables}
 use Rattle.cache.specs.Areas.{catalogue}
 use Rattle.state.specs.Layout.{held}
 use Rattle.blocking.specs.Blocking.{Listed}
-use Rattle.blocking.proofs.Listing.{listed_none}
 use Rattle.serving.specs.Flags.{Flagged}
-use Rattle.serving.proofs.Flags.{flagged_none}
-use Rattle.carried.proofs.Sheets.{Left, left_start, left_fits, left_reaches, left_long, left_room, left_few, left_stands, left_taken, left_next, left_less, left_refused, left_end}
+use Rattle.carried.proofs.Sheets.{Left}
 use Rattle.carried.proofs.carry_sheet.Given as goal
 
 -- the turns that `first` counts

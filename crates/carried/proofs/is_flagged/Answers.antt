@@ -1,5 +1,4 @@
 -- `carried::is_flagged` asks flags: of the condition, and of ranges that its disjuncts share.
-use native.Mathlib.Omega.{arith}
 use borrow.Author.Rules.{rules}
 use Rattle.carried.proofs.Blocking.{flagged_in, blocked_in, shared_in, flagged_out}
 use Rattle.carried.proofs.is_flagged.Goals as goal

@@ -1,5 +1,4 @@
 -- `carried::is_idle` tells a draw that changes nothing, and gives the flags of what is blocked and of watched parts after the command.
-use native.Mathlib.Omega.{arith}
 use borrow.Author.Rules.{rules}
 use Rattle.carried.proofs.Blocking.{idles_add, idles_draw, idles_run, idles_decide, idles_undo}
 use Rattle.carried.proofs.is_idle.Goals as goal

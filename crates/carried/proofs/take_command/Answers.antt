@@ -1,5 +1,4 @@
 -- `carried::take_command` carries a command out that changes the numbers of added owners and of decisions alone, or nothing; it leaves any other.
-use native.Mathlib.Omega.{arith}
 use borrow.Author.Rules.{rules}
 use Rattle.sheet.proofs.Held.{reaches_rising}
 use Rattle.carried.proofs.Blocking.{sees}

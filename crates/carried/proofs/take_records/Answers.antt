@@ -1,9 +1,5 @@
-use mathlib.Core.Path.{◌∙◌}
 use borrow.Author.Rules.{rules}
-use Prim.Native.Nat.{◌-◌}
-use lib.ListN.{length}
-use Rattle.cache.specs.Areas.{catalogue}
-use Rattle.carried.proofs.Taking.{Taking, taking_start, taking_fits, taking_reaches, taking_room, taking_last, taking_next, taking_less, taking_end}
+use Rattle.carried.proofs.Taking.{taking_start, taking_fits, taking_reaches, taking_room, taking_last, taking_next, taking_less, taking_end}
 use Rattle.carried.proofs.take_records.Goals as goal
 
 pub loop-at-init : goal.loop-at-init

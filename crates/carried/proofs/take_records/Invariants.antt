@@ -1,10 +1,8 @@
 -- `carried::take_records`: the records up to a place were carried out, at each turn and at the end. The measure is what is left of the job.
-use mathlib.Core.Path.{◌∙◌}
-use borrow.Author.Rules.{rules}
 use Prim.Native.Nat.{◌-◌}
 use lib.ListN.{length}
 use Rattle.cache.specs.Areas.{catalogue}
-use Rattle.carried.proofs.Taking.{Taking, taking_start, taking_fits, taking_reaches, taking_room, taking_last, taking_next, taking_less, taking_end}
+use Rattle.carried.proofs.Taking.{Taking}
 use Rattle.carried.proofs.take_records.Given as goal
 
 abbrev pub invariant-loop-at : goal.invariant-loop-at

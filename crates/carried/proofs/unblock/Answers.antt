@@ -1,5 +1,4 @@
 -- `carried::unblock` releases what a decision may make hold, where it makes a watched part true, and else keeps what is blocked.
-use native.Mathlib.Omega.{arith}
 use borrow.Author.Rules.{rules}
 use Rattle.carried.proofs.Blocking.{watched_inside, unblocks_part, unblocks_none}
 use Rattle.carried.proofs.unblock.Goals as goal

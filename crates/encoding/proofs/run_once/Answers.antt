@@ -1,7 +1,6 @@
 -- `encoding::run_once` begins a run, serves its line, joins the named parts and links the new one-of-name variables.
 use borrow.Author.Rules.{rules}
 use mathlib.Core.Path.{refl, ◌∙◌}
-use native.Mathlib.Omega.{arith}
 use Rattle.state.proofs.Sizes.{length_line, fits_same}
 use Rattle.encoder.proofs.Steps.{good_waiting}
 use Rattle.encoder.proofs.Did.{told_full, told_going}

@@ -1,5 +1,4 @@
 -- `sheet::run` carries a run out, or refuses a level that is too low or a run that would end above a limit.
-use borrow.Author.Rules.{rules}
 use Rattle.encoder.proofs.Did.{told_full, told_going}
 use Rattle.sheet.proofs.Running.{run_low, run_full_law, run_done}
 use Rattle.sheet.proofs.Flags.{after_refused, after_carried}
