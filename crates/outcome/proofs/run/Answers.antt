@@ -7,10 +7,10 @@ pub run_sheet-requires-clause-job_len_bound : goal.run_sheet-requires-clause-job
 run_sheet-requires-clause-job_len_bound c = c.requires.in_bounds.3
 
 pub run_sheet-requires-clause-catalogued : goal.run_sheet-requires-clause-catalogued
-run_sheet-requires-clause-catalogued c = (whole_asks c.read_whole.ensures (search rules) tt).0
+run_sheet-requires-clause-catalogued c = (whole_asks {at = c.in-Sheet.at} {A = Unit {0}} c.read_whole.ensures (search rules) tt).0
 
 pub run_sheet-requires-clause-given : goal.run_sheet-requires-clause-given
-run_sheet-requires-clause-given c = (whole_asks {at = c.in-Sheet.at} c.read_whole.ensures (search rules) tt).1.1.0
+run_sheet-requires-clause-given c = (whole_asks {at = c.in-Sheet.at} {A = Unit {0}} c.read_whole.ensures (search rules) tt).1.1.0
 
 pub returns-in-Sheet : goal.returns-in-Sheet
 returns-in-Sheet c = from_sheet c.read_whole.ensures.read (search rules) c.run_sheet.ensures
