@@ -1,5 +1,7 @@
 // The kit service's exported functions over lent memory: `check` judges a job's catalogue, `run` carries the whole job out and gives its listing.
 // Both clear the six work areas on every way out.
+#![tactic(auto)]
+
 ghost use Rattle.std.specs.Prelude.{length};
 ghost use Rattle.terms.specs.Terms.{limits_of, lent_of, terms_of, four_limits};
 ghost use Rattle.terms.specs.Answers.{Gives};
