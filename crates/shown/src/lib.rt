@@ -1,4 +1,6 @@
 // What `kitlist` prints of a job: its listing, or the line of its refusal.
+#![tactic(auto)]
+
 ghost use Rattle.std.specs.Prelude.{◌≡◌, ◌≤◌, length};
 ghost use Rattle.rules.specs.Job.{refused, shown, kitlist};
 ghost use Rattle.shown.specs.Shown.{Holds};
