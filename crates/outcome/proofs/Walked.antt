@@ -26,14 +26,12 @@ use Rattle.index.specs.Chains.{Chains, Keys}
 use Rattle.index.specs.Members.{Threaded, Built}
 use Rattle.index.proofs.Owners.{keys_given}
 use Rattle.catalogue.specs.declared.Read.{Read}
-use Rattle.catalogue.specs.declared.Read.TheVariants as Read
 use Rattle.catalogue.specs.Walking.{place_of, progress_of, UpToSheet, ReadUp}
 use Rattle.state.specs.declared.Limits.{Limits}
 use Rattle.encoder.specs.declared.Counters.{Counters}
 use Rattle.encoder.specs.Held.{LongEnough}
 use Rattle.goals.specs.Goals.{Catalogued}
 use Rattle.carried.specs.declared.Sheet.{Sheet}
-use Rattle.carried.specs.declared.Sheet.TheVariants as Sheet
 use Rattle.carried.specs.Carrying.{end_from, Came, SheetDid}
 use Rattle.beginning.specs.Beginning.{Reaches}
 use Rattle.ending.specs.declared.Outcome.{Outcome}

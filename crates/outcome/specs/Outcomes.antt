@@ -5,7 +5,6 @@ use Rattle.rules.specs.Job.{Progress}
 use Rattle.words.specs.Words.{words}
 use Rattle.unions.specs.Unions.{rows}
 use Rattle.catalogue.specs.declared.Read.{Read}
-use Rattle.catalogue.specs.declared.Read.TheVariants as Read
 use Rattle.catalogue.specs.Walking.{ReadUp}
 use Rattle.index.specs.Chains.{Chains}
 use Rattle.index.specs.Members.{Threaded}

@@ -1,5 +1,4 @@
 -- `kit::kit_run` answers and writes as the definitions say, and each of the six work areas is zero afterwards.
-use borrow.Author.Rules.{rules}
 use Rattle.checking.proofs.Areas.{still_zeroed}
 use Rattle.kit.proofs.Running.{ran}
 use Rattle.kit.proofs.kit_run.Goals as goal

@@ -1,5 +1,4 @@
 -- `kit::run_within`: 7, then 3 for the length, then the records.
-use borrow.Author.Rules.{rules}
 use Rattle.kit.proofs.Running.{enough, run_unfit, run_overlong, run_carried}
 use Rattle.kit.proofs.run_within.Goals as goal
 

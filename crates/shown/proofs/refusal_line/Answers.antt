@@ -1,5 +1,4 @@
 -- `refusal_line`: its four pieces are the line of the definitions, and it fits.
-use borrow.Author.Rules.{rules}
 use Rattle.shown.proofs.Laws.{refusal_is}
 use Rattle.shown.proofs.refusal_line.Goals as goal
 

@@ -1,5 +1,4 @@
 -- `shown_in`: what was run with the limits and areas of `kitlist`, told as its listing or as its refusal.
-use borrow.Author.Rules.{rules}
 use Rattle.shown.proofs.Laws.{line_fits, zeros_as_needed, listing_shown, refusal_shown}
 use Rattle.shown.proofs.shown_in.Goals as goal
 
