@@ -17,8 +17,9 @@ use Rattle.rules.specs.Candidates.{candidates}
 use Rattle.rules.specs.Items.{goal_of}
 use Rattle.rules.specs.Variables.{Origin, part_variable}
 use Rattle.rules.specs.Listing.{ascii, decimal, line}
-use Rattle.text.specs.Text.{Wrote}
-use Rattle.text.proofs.Written.{nothing}
+use Rattle.text.specs.declared.Writer.{Writer}
+use Rattle.text.specs.Writing.{Writes}
+use Rattle.text.proofs.Writing.{nothing}
 use Rattle.requirement.specs.declared.Requirement.{Requirement}
 use Rattle.requirement.specs.Requirements as requirement
 use Rattle.tables.specs.declared.Counts.{Counts}
@@ -114,8 +115,8 @@ module _ (c : Catalogue) (vs : List Origin) (w : List ℕ) (r : Row) where
 
 -- ---- its line
 
-module _ (k : Counts) (m u t : List ℕ) (l : Limits) (n : Counters) (b cl : List ℕ) (i : ℕ) (x : Stored) (y : Bool) (room : ℕ)
-    (f : Ready k m u t l n b room) (g : GoodRows (catalogue k m u t) l n (held l b) cl) (h : i < n.clauses) (e : row_of x ≡ get_or (rows n.clauses cl) i no_row)
+module _ (k : Counts) (m u t : List ℕ) (l : Limits) (n : Counters) (b cl : List ℕ) (i : ℕ) (x : Stored) (y : Bool)
+    (f : Ready k m u t l n b) (g : GoodRows (catalogue k m u t) l n (held l b) cl) (h : i < n.clauses) (e : row_of x ≡ get_or (rows n.clauses cl) i no_row)
     (d : y ≡ asserts_in (catalogue k m u t) (row_of x)) where
   here : asserted (get_or (clauses_of (catalogue k m u t) n (held l b) cl) i install) ≡ cond y (x.first ∷ []) []
   here =
@@ -125,11 +126,11 @@ module _ (k : Counts) (m u t : List ℕ) (l : Limits) (n : Counters) (b cl : Lis
       (asserted_is (catalogue k m u t) (variables n.variables (held l b)) (held l b 19) (row_of x) (λ q. omega (arith, s.stored q, g.literals))
       ∙ unfold row_of in refl)
 
-  pub assertion_yes : {at r : ℕ} {o o1 : List ℕ} → y ≡ true → Wrote at r (line ((110 ∷ []) ∷ decimal x.first ∷ decimal i ∷ [])) room o o1
-      → Wrote at r (assertion_text (clauses_of (catalogue k m u t) n (held l b) cl) i) room o o1
+  pub assertion_yes : {w w1 : Writer} → y ≡ true → Writes w w1 (line ((110 ∷ []) ∷ decimal x.first ∷ decimal i ∷ []))
+      → Writes w w1 (assertion_text (clauses_of (catalogue k m u t) n (held l b) cl) i)
   unfolding assertion_text concat_map ascii
-  assertion_yes q w = rw (here, q, concat_map, append-nil) w
+  assertion_yes q f = rw (here, q, concat_map, append-nil) f
 
-  pub assertion_no : (at : ℕ) (o : List ℕ) → y ≡ false → Wrote at at (assertion_text (clauses_of (catalogue k m u t) n (held l b) cl) i) room o o
+  pub assertion_no : (w : Writer) → y ≡ false → Writes w w (assertion_text (clauses_of (catalogue k m u t) n (held l b) cl) i)
   unfolding assertion_text concat_map
-  assertion_no at o q = rw (here, q, concat_map) (nothing room at o)
+  assertion_no w q = rw (here, q, concat_map) (nothing w)

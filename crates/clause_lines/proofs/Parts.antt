@@ -17,8 +17,10 @@ use Rattle.rules.proofs.Bools.{by_cases}
 use Rattle.rules.proofs.Each.{each_out, each_left, each_right}
 use Rattle.rules.proofs.Membership.{filter_in}
 use Rattle.rules.proofs.ListLaws.{concat_map_append, up_to_member}
-use Rattle.text.specs.Text.{Wrote, fields, literal_of}
-use Rattle.text.proofs.Written.{then, nothing, fields_one}
+use Rattle.text.specs.Text.{fields, literal_of}
+use Rattle.text.specs.declared.Writer.{Writer}
+use Rattle.text.specs.Writing.{Writes}
+use Rattle.text.proofs.Writing.{then, nothing, fields_one}
 use Rattle.tables.specs.declared.Counts.{Counts}
 use Rattle.cache.specs.declared.Choice.{Choice}
 use Rattle.cache.specs.declared.Choice.TheVariants.{Favoured, Others}
@@ -33,7 +35,7 @@ use Rattle.variable_map.specs.declared.Origin.{Origin}
 use Rattle.variable_map.specs.Mapping.{origin_of, in_tables, AllKnown}
 use Rattle.encoder.specs.Did.{Looked}
 use Rattle.line_fields.specs.Listed.{texts, part_text, chosen_text}
-use Rattle.line_fields.proofs.Printing.{Printing, printing_start, printing_step, printing_end}
+use Rattle.line_fields.proofs.Printing.{printing_start, printing_step, printing_end}
 
 -- ---- the literals of parts
 
@@ -74,37 +76,37 @@ module _ (k : Counts) (m u t : List ℕ) (vs : List variables.Origin) (r : ℕ) 
       each_out a.known (filter_in (chosen (catalogue k m u t) r w) (up_to 0 (length (catalogue k m u t).parts))
       (up_to_member (length (catalogue k m u t).parts) p (omega (arith, parts_held k m u t))) e)
 
-  pub chosen_yes : {room at s : ℕ} {o o1 : List ℕ} (p : ℕ) (b : Bool) (x : Origin) (v : ℕ) → AllKnown vs (choice (catalogue k m u t) r w) → p < k.parts → b ≡ chosen (catalogue k m u t) r w p → b ≡ true
-      → origin_of x ≡ part_origin p → Looked vs (origin_of x) v → Wrote at s (32 ∷ signed (literal_of v true)) room o o1 → Wrote at s (chosen_text (catalogue k m u t) vs r w p) room o o1
+  pub chosen_yes : {a b : Writer} (p : ℕ) (y : Bool) (x : Origin) (v : ℕ) → AllKnown vs (choice (catalogue k m u t) r w) → p < k.parts → y ≡ chosen (catalogue k m u t) r w p → y ≡ true
+      → origin_of x ≡ part_origin p → Looked vs (origin_of x) v → Writes a b (32 ∷ signed (literal_of v true)) → Writes a b (chosen_text (catalogue k m u t) vs r w p)
   unfolding chosen_text list_if part_text
-  chosen_yes p b x v a h e d f g i =
+  chosen_yes p y x v a h e d f g i =
       let q : chosen (catalogue k m u t) r w p ≡ true = sym e ∙ d in
       let z : v ≡ part_variable vs p = (rw f at g.is) (part_known p a h q) in
       rw (q, list_if, ← z) (fields_one i)
 
-  pub chosen_no : (room at : ℕ) (o : List ℕ) (p : ℕ) (b : Bool) → b ≡ chosen (catalogue k m u t) r w p → b ≡ false → Wrote at at (chosen_text (catalogue k m u t) vs r w p) room o o
+  pub chosen_no : (a : Writer) (p : ℕ) (y : Bool) → y ≡ chosen (catalogue k m u t) r w p → y ≡ false → Writes a a (chosen_text (catalogue k m u t) vs r w p)
   unfolding chosen_text list_if
-  chosen_no room at o p b e d = rw (← e, d, list_if, parts_none vs) (nothing room at o)
+  chosen_no a p y e d = rw (← e, d, list_if, parts_none vs) (nothing a)
 
-  chosen_on : {room at a p x : ℕ} {o o1 : List ℕ} → Skips k.parts (chosen (catalogue k m u t) r w) p x
-      → Printing (chosen_text (catalogue k m u t) vs r w) k.parts at a p room o o1 → Printing (chosen_text (catalogue k m u t) vs r w) k.parts at a x room o o1
-  chosen_on {room} {at} {a} {o = o} {o1 = o1} s y =
-      walk (λ q. Printing (chosen_text (catalogue k m u t) vs r w) k.parts at a q room o o1)
-      (λ i h e z. printing_step z h refl (chosen_no room a o1 i (chosen (catalogue k m u t) r w i) refl e)) s y
+  -- the first p turns
+  abbrev turns : ℕ → List ℕ
+  turns p = texts (chosen_text (catalogue k m u t) vs r w) p
 
-  pub chosen_first : {room at x : ℕ} {o : List ℕ} → Skips k.parts (chosen (catalogue k m u t) r w) 0 x → Printing (chosen_text (catalogue k m u t) vs r w) k.parts at at x room o o
-  chosen_first s = chosen_on s printing_start
+  chosen_on : {a b : Writer} {p x : ℕ} → Skips k.parts (chosen (catalogue k m u t) r w) p x → Writes a b (turns p) → Writes a b (turns x)
+  chosen_on {a} {b} s y =
+      walk (λ q. Writes a b (turns q)) (λ i h e z. printing_step _ z (chosen_no b i (chosen (catalogue k m u t) r w i) refl e)) s y
 
-  pub chosen_next : {room at a b p x : ℕ} {o o1 o2 : List ℕ} → Printing (chosen_text (catalogue k m u t) vs r w) k.parts at a p room o o1 → p < k.parts → length o2 ≡ length o1
-      → Wrote a b (chosen_text (catalogue k m u t) vs r w p) room o1 o2 → Skips k.parts (chosen (catalogue k m u t) r w) (p + 1) x
-      → Printing (chosen_text (catalogue k m u t) vs r w) k.parts at b x room o o2
-  chosen_next y h i g s = chosen_on s (printing_step y h i g)
+  pub chosen_first : {a : Writer} {x : ℕ} → Skips k.parts (chosen (catalogue k m u t) r w) 0 x → Writes a a (turns x)
+  chosen_first s = chosen_on s (printing_start _)
 
-  pub chosen_end : {room at a p : ℕ} {o o1 : List ℕ} → Printing (chosen_text (catalogue k m u t) vs r w) k.parts at a p room o o1 → k.parts ≤ p
-      → Wrote at a (part_text vs (choice (catalogue k m u t) r w)) room o o1
+  pub chosen_next : {a b d : Writer} (p : ℕ) {x : ℕ} → Writes a b (turns p) → Writes b d (chosen_text (catalogue k m u t) vs r w p)
+      → Skips k.parts (chosen (catalogue k m u t) r w) (p + 1) x → Writes a d (turns x)
+  chosen_next p y g s = chosen_on s (printing_step _ y g)
+
+  pub chosen_end : {a b : Writer} {p : ℕ} → Writes a b (turns p) → p ≤ k.parts → k.parts ≤ p → Writes a b (part_text vs (choice (catalogue k m u t) r w))
   unfolding choice texts chosen_text
-  chosen_end f h =
-      rw (← filtered vs (chosen (catalogue k m u t) r w) (up_to 0 (length (catalogue k m u t).parts)), parts_held k m u t) (printing_end f h)
+  chosen_end f g h =
+      rw (← filtered vs (chosen (catalogue k m u t) r w) (up_to 0 (length (catalogue k m u t).parts)), parts_held k m u t) (printing_end _ f h g)
 
 -- ---- the two choices of a range, one behind the other
 
@@ -115,6 +117,5 @@ module _ (c : Catalogue) (vs : List variables.Origin) (r : ℕ) where
   pub known_others : AllKnown vs (sorted c r) → AllKnown vs (choice c r Others)
   known_others a = record { known = each_right (choice c r Favoured) (rw (← sorted_is c r) at a.known) }
 
-  pub sorted_text : {room at a b : ℕ} {o o1 o2 : List ℕ} → Wrote at a (part_text vs (choice c r Favoured)) room o o1 → Wrote a b (part_text vs (choice c r Others)) room o1 o2
-      → Wrote at b (part_text vs (sorted c r)) room o o2
+  pub sorted_text : {a b d : Writer} → Writes a b (part_text vs (choice c r Favoured)) → Writes b d (part_text vs (choice c r Others)) → Writes a d (part_text vs (sorted c r))
   sorted_text v w = rw (← sorted_is c r, parts_append vs (choice c r Favoured) (choice c r Others)) (then v w)

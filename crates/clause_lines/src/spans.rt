@@ -1,83 +1,73 @@
 // The literals of a goal are formatted once; where they stand in the listing already, they are copied from there.
-ghost use Rattle.std.specs.Prelude.{◌≡◌, ◌+◌, ◌-◌, ◌≤◌, min};
-ghost use Rattle.text.specs.Text.{Addressable};
-ghost use Rattle.clause_lines.specs.Spans.{Behind, Again, Kept, copied};
+ghost use Rattle.std.specs.Prelude.{◌≡◌, ◌≤◌};
+ghost use Rattle.clause_lines.specs.Spans.{span_of, Nowhere, Behind, Again, Kept};
 
-// How many of n bytes at place `at` lie within an area.
-fn within(length: usize, at: usize, n: usize) -> usize
-    ensures { result ≡ min n (length - at) }
-{
-    if length <= at {
-        return 0;
-    }
-    let left = length - at;
-    if left < n {
-        return left;
-    }
-    n
+use requirement::Requirement;
+use text::Writer;
+
+// Where the literals of a goal stand.
+#[derive(Clone, Copy)]
+pub struct Span {
+    pub begin: u32,
+    pub length: u32,
 }
 
-// The n bytes from place `begin` on, once more at place `at`; while measuring there are none.
-fn copy(out: &mut [u8], begin: usize, n: usize, at: usize)
-    requires { begin + n ≤ at }
-    ensures { out.new ≡ copied out.old begin n at }
-{
-    let most = within(out.len(), at, n);
-    let mut i = 0;
-    while i < most {
-        let b = out[begin + i];
-        out[at + i] = b;
-        i += 1;
-    }
+// Where those of each range and of each union stand, if anywhere.
+#[derive(Drop)]
+pub struct Spans {
+    pub ranges: [Option<Span>; 512],
+    pub unions: [Option<Span>; 128],
 }
 
-// A number of the spans, as a place.
-fn wide(x: u32) -> usize
-    ensures { result ≡ x }
-{
-    x as usize
-}
+impl Spans {
+    pub fn new() -> Spans
+        ensures { Nowhere result }
+    {
+        Spans {
+            ranges: [None; 512],
+            unions: [None; 128],
+        }
+    }
 
-// The literals of goal g once more at place `at`, if they stand in the listing already and fit there too: one more than the place behind them; else 0.
-pub fn again(out: &mut [u8], spans: &[u32; 1280], room: usize, at: usize, g: usize) -> usize
-    requires { Addressable room × Behind at spans.now }
-    ensures { Again spans.now room at g result out.old out.new }
-{
-    if 639 < g {
-        return 0;
+    fn span(&self, goal: Requirement) -> Option<Span>
+        ensures { result ≡ span_of self.now goal }
+    {
+        match goal {
+            Requirement::Single(range) => self.ranges.get(range as usize).copied().flatten(),
+            Requirement::Union(union) => self.unions.get(union as usize).copied().flatten(),
+        }
     }
-    if room < at {
-        return 0;
-    }
-    let more = wide(spans[2 * g + 1]);
-    if more == 0 {
-        return 0;
-    }
-    let n = more - 1;
-    if room - at < n {
-        return 0;
-    }
-    let begin = wide(spans[2 * g]);
-    copy(out, begin, n, at);
-    at + n + 1
-}
 
-// The literals of goal g stand from place `at` to place `end`: that is kept, if they fitted.
-pub fn keep(spans: &mut [u32; 1280], room: usize, at: usize, end: usize, g: usize)
-    requires { at ≤ end }
-    ensures { Kept spans.old room at end g spans.new }
-{
-    if room < end {
-        return;
+    // The literals of a goal once more, if they stand in the listing already and fit there too.
+    pub fn again(&self, writer: &mut Writer, goal: Requirement) -> bool
+        requires { Behind self.now writer.old }
+        ensures { Again self.now goal writer.old writer.new result }
+    {
+        match self.span(goal) {
+            Some(span) => writer.repeat(span.begin as usize, span.length as usize),
+            None => false,
+        }
     }
-    if 639 < g {
-        return;
+
+    // The literals of a goal stand from place `begin` to the writer's: that is kept, if they fitted.
+    pub fn keep(&mut self, goal: Requirement, begin: usize, writer: &Writer)
+        requires { begin ≤ writer.now.at }
+        ensures { Kept self.old self.new goal begin writer.now }
+    {
+        if writer.room < writer.at {
+            return;
+        }
+        let Ok(length) = u32::try_from(writer.at - begin) else {
+            return;
+        };
+        let Ok(begin) = u32::try_from(begin) else {
+            return;
+        };
+        let span = Some(Span { begin, length });
+        match goal {
+            Requirement::Single(range) if range < 512 => self.ranges[range as usize] = span,
+            Requirement::Union(union) if union < 128 => self.unions[union as usize] = span,
+            _ => {}
+        }
     }
-    // beyond the places that the spans can hold
-    if 4294967294 < end {
-        return;
-    }
-    let i = 2 * g;
-    spans[i] = at as u32;
-    spans[i + 1] = (end - at + 1) as u32;
 }

@@ -4,11 +4,16 @@ use mathlib.Core.Bool.{Bool, true, false, cond}
 use mathlib.Core.List.{List, [], ◌∷◌}
 use Prim.Native.Nat.{ℕ, zero, suc, ◌-◌}
 use native.Mathlib.Omega.{arith}
+use mir.Val.{bool_byte}
 use borrow.Author.Tests.{eq-eqb, ne_eqb}
-use Rattle.rules.specs.Items.{goal_of}
 use Rattle.rules.specs.Listing.{ascii, decimal, signed, owner_field, goal_fields, origin_fields, clause_field}
-use Rattle.text.specs.Text.{Wrote, fields, literal_of}
-use Rattle.text.proofs.Written.{fields_one, fields_first, fields_then}
+use Rattle.text.specs.Text.{fields, literal_of}
+use Rattle.text.specs.declared.Writer.{Writer}
+use Rattle.text.specs.Writing.{Writes}
+use Rattle.text.proofs.Writing.{fields_one, fields_first, fields_then}
+use Rattle.requirement.specs.declared.Requirement.{Requirement}
+use Rattle.requirement.specs.declared.Requirement.TheVariants.{Single, Union}
+use Rattle.requirement.specs.Requirements.{goal_of}
 use Rattle.variable_map.specs.declared.Origin.{Origin}
 use Rattle.variable_map.specs.Mapping.{origin_of, origin_by}
 use Rattle.decision_tracker.specs.declared.Decision.{Decision}
@@ -17,110 +22,109 @@ use Rattle.line_fields.specs.Listed.{owner_but, decision_fields}
 
 -- ---- one field
 
-module _ {room at r : ℕ} {o o1 : List ℕ} where
-  pub owner_root : (root x : ℕ) → x ≡ root → Wrote at r (32 ∷ 114 ∷ 111 ∷ 111 ∷ 116 ∷ []) room o o1 → Wrote at r (fields (owner_field (owner_but root x) ∷ [])) room o o1
+module _ {w w1 : Writer} where
+  pub owner_root : (root x : ℕ) → x ≡ root → Writes w w1 (32 ∷ 114 ∷ 111 ∷ 111 ∷ 116 ∷ []) → Writes w w1 (fields (owner_field (owner_but root x) ∷ []))
   unfolding owner_but owner_field ascii
-  owner_root root x e w = rw (eq-eqb x root e) (fields_one w)
+  owner_root root x e y = rw (eq-eqb x root e) (fields_one y)
 
-  pub owner_part : (root x : ℕ) → (x ≡ root → ⊥) → Wrote at r (32 ∷ decimal x) room o o1 → Wrote at r (fields (owner_field (owner_but root x) ∷ [])) room o o1
+  pub owner_part : (root x : ℕ) → (x ≡ root → ⊥) → Writes w w1 (32 ∷ decimal x) → Writes w w1 (fields (owner_field (owner_but root x) ∷ []))
   unfolding owner_but owner_field
-  owner_part root x e w = rw (ne_eqb x root e) (fields_one w)
+  owner_part root x e y = rw (ne_eqb x root e) (fields_one y)
 
-  pub clause_none : (x : ℕ) → x ≡ 0 → Wrote at r (32 ∷ 45 ∷ []) room o o1 → Wrote at r (fields (clause_field (clause_by x) ∷ [])) room o o1
+  pub clause_none : (x : ℕ) → x ≡ 0 → Writes w w1 (32 ∷ 45 ∷ []) → Writes w w1 (fields (clause_field (clause_by x) ∷ []))
   unfolding clause_by clause_field ascii
-  clause_none x e w = rw e (fields_one w)
+  clause_none x e y = rw e (fields_one y)
 
-  pub clause_some : (x : ℕ) → (x ≡ 0 → ⊥) → Wrote at r (32 ∷ decimal (x - 1)) room o o1 → Wrote at r (fields (clause_field (clause_by x) ∷ [])) room o o1
+  pub clause_some : (x : ℕ) → (x ≡ 0 → ⊥) → Writes w w1 (32 ∷ decimal (x - 1)) → Writes w w1 (fields (clause_field (clause_by x) ∷ []))
   unfolding clause_by clause_field
-  clause_some zero e w = absurd (e refl)
-  clause_some (suc x) e w = let d : suc x - 1 ≡ x = omega arith in fields_one (rw d at w)
+  clause_some zero e y = absurd (e refl)
+  clause_some (suc x) e y = let d : suc x - 1 ≡ x = omega arith in fields_one (rw d at y)
 
-  pub value_true : {b : Bool} → b ≡ true → Wrote at r (32 ∷ decimal 1) room o o1 → Wrote at r (fields (decimal (cond b 1 0) ∷ [])) room o o1
-  value_true e w = rw e (fields_one w)
-
-  pub value_false : {b : Bool} → b ≡ false → Wrote at r (32 ∷ decimal 0) room o o1 → Wrote at r (fields (decimal (cond b 1 0) ∷ [])) room o o1
-  value_false e w = rw e (fields_one w)
+value_is : (b : Bool) → bool_byte b ≡ cond b 1 0
+value_is true = refl
+value_is false = refl
 
 -- ---- two, three and four
 
-module _ {room at r s : ℕ} {o o1 o2 : List ℕ} where
-  pub two_fields : {f g : List ℕ} → Wrote at r (32 ∷ f) room o o1 → Wrote r s (32 ∷ g) room o1 o2 → Wrote at s (fields (f ∷ g ∷ [])) room o o2
-  two_fields v w = fields_first _ v (fields_one w)
+module _ {w w1 w2 : Writer} where
+  pub two_fields : {f g : List ℕ} → Writes w w1 (32 ∷ f) → Writes w1 w2 (32 ∷ g) → Writes w w2 (fields (f ∷ g ∷ []))
+  two_fields v y = fields_first _ v (fields_one y)
 
-  pub goal_range : (form number : ℕ) → form ≡ 0 → Wrote at r (32 ∷ 114 ∷ 97 ∷ 110 ∷ 103 ∷ 101 ∷ []) room o o1 → Wrote r s (32 ∷ decimal number) room o1 o2
-      → Wrote at s (fields (goal_fields (goal_of form number))) room o o2
-  unfolding goal_of goal_fields ascii
-  goal_range form number e v w = rw e (two_fields v w)
-
-  pub goal_union : (form number : ℕ) → (form ≡ 0 → ⊥) → Wrote at r (32 ∷ 117 ∷ 110 ∷ 105 ∷ 111 ∷ 110 ∷ []) room o o1 → Wrote r s (32 ∷ decimal number) room o1 o2
-      → Wrote at s (fields (goal_fields (goal_of form number))) room o o2
-  unfolding goal_of goal_fields ascii
-  goal_union form number e v w = rw (ne_eqb form 0 e) (two_fields v w)
-
-  pub gate_fields : (form number : ℕ) → Wrote at r (32 ∷ 103 ∷ 97 ∷ 116 ∷ 101 ∷ []) room o o1 → Wrote r s (fields (goal_fields (goal_of form number))) room o1 o2
-      → Wrote at s (fields (ascii "gate" ∷ goal_fields (goal_of form number))) room o o2
+  pub gate_fields : (goal : Requirement) → Writes w w1 (32 ∷ 103 ∷ 97 ∷ 116 ∷ 101 ∷ []) → Writes w1 w2 (fields (goal_fields (goal_of goal)))
+      → Writes w w2 (fields (ascii "gate" ∷ goal_fields (goal_of goal)))
   unfolding ascii
-  gate_fields form number v w = fields_first _ v w
+  gate_fields goal v y = fields_first _ v y
 
-  pub requires_head : (x : ℕ) → Wrote at r (32 ∷ 114 ∷ 101 ∷ 113 ∷ 117 ∷ 105 ∷ 114 ∷ 101 ∷ 115 ∷ []) room o o1 → Wrote r s (32 ∷ signed (literal_of x false)) room o1 o2
-      → Wrote at s (fields (ascii "requires" ∷ signed (literal_of x false) ∷ [])) room o o2
+  pub requires_head : (x : ℕ) → Writes w w1 (32 ∷ 114 ∷ 101 ∷ 113 ∷ 117 ∷ 105 ∷ 114 ∷ 101 ∷ 115 ∷ []) → Writes w1 w2 (32 ∷ signed (literal_of x false))
+      → Writes w w2 (fields (ascii "requires" ∷ signed (literal_of x false) ∷ []))
   unfolding ascii
-  requires_head x v w = two_fields v w
+  requires_head x v y = two_fields v y
 
-  pub conditional_head : (x : ℕ) (fs : List (List ℕ)) → Wrote at r (fields (ascii "requires" ∷ signed (literal_of x false) ∷ [])) room o o1 → Wrote r s (fields fs) room o1 o2
-      → Wrote at s (fields (ascii "requires" ∷ signed (literal_of x false) ∷ fs)) room o o2
-  conditional_head x fs v w = fields_then (ascii "requires" ∷ signed (literal_of x false) ∷ []) fs v w
+  pub conditional_head : (x : ℕ) (fs : List (List ℕ)) → Writes w w1 (fields (ascii "requires" ∷ signed (literal_of x false) ∷ [])) → Writes w1 w2 (fields fs)
+      → Writes w w2 (fields (ascii "requires" ∷ signed (literal_of x false) ∷ fs))
+  conditional_head x fs v y = fields_then (ascii "requires" ∷ signed (literal_of x false) ∷ []) fs v y
 
-  module _ {t : ℕ} {o3 : List ℕ} where
-    pub three_fields : {f g h : List ℕ} → Wrote at r (32 ∷ f) room o o1 → Wrote r s (32 ∷ g) room o1 o2 → Wrote s t (32 ∷ h) room o2 o3
-        → Wrote at t (fields (f ∷ g ∷ h ∷ [])) room o o3
-    three_fields u v w = fields_first _ u (fields_first _ v (fields_one w))
+  module _ {w3 : Writer} where
+    pub three_fields : {f g h : List ℕ} → Writes w w1 (32 ∷ f) → Writes w1 w2 (32 ∷ g) → Writes w2 w3 (32 ∷ h)
+        → Writes w w3 (fields (f ∷ g ∷ h ∷ []))
+    three_fields u v y = fields_first _ u (fields_first _ v (fields_one y))
 
-    pub excluded_fields : (reason x : ℕ) → Wrote at r (32 ∷ 101 ∷ 120 ∷ 99 ∷ 108 ∷ 117 ∷ 100 ∷ 101 ∷ 100 ∷ []) room o o1 → Wrote r s (32 ∷ decimal reason) room o1 o2
-        → Wrote s t (32 ∷ signed (literal_of x false)) room o2 o3 → Wrote at t (fields (ascii "excluded" ∷ decimal reason ∷ signed (literal_of x false) ∷ [])) room o o3
+    pub excluded_fields : (reason x : ℕ) → Writes w w1 (32 ∷ 101 ∷ 120 ∷ 99 ∷ 108 ∷ 117 ∷ 100 ∷ 101 ∷ 100 ∷ []) → Writes w1 w2 (32 ∷ decimal reason)
+        → Writes w2 w3 (32 ∷ signed (literal_of x false)) → Writes w w3 (fields (ascii "excluded" ∷ decimal reason ∷ signed (literal_of x false) ∷ []))
     unfolding ascii
-    excluded_fields reason x u v w = three_fields u v w
+    excluded_fields reason x u v y = three_fields u v y
 
-    pub decision_fields_law : {q : ℕ} {o4 : List ℕ} (d : Decision) → Wrote at r (32 ∷ decimal d.variable) room o o1 → Wrote r s (fields (decimal (cond d.value 1 0) ∷ [])) room o1 o2
-        → Wrote s t (32 ∷ decimal d.level) room o2 o3 → Wrote t q (fields (clause_field (clause_by d.clause) ∷ [])) room o3 o4
-        → Wrote at q (fields (decision_fields (decision_of d))) room o o4
+    pub decision_fields_law : {w4 : Writer} (d : Decision) (n : ℕ) → n ≡ bool_byte d.value → Writes w w1 (32 ∷ decimal d.variable) → Writes w1 w2 (32 ∷ decimal n)
+        → Writes w2 w3 (32 ∷ decimal d.level) → Writes w3 w4 (fields (clause_field (clause_by d.clause) ∷ []))
+        → Writes w w4 (fields (decision_fields (decision_of d)))
     unfolding decision_fields decision_of decision_by
-    decision_fields_law d u v w x = fields_first _ u (fields_then (_ ∷ []) _ v (fields_first _ w x))
+    decision_fields_law d n e u v y x = fields_first _ u (fields_first _ (rw (e, value_is) at v) (fields_first _ y x))
+
+-- ---- a goal
+
+module _ {w w1 : Writer} {goal : Requirement} (number : ℕ) where
+  pub goal_range : goal ≡ Single number → Writes w w1 (fields ((114 ∷ 97 ∷ 110 ∷ 103 ∷ 101 ∷ []) ∷ decimal number ∷ [])) → Writes w w1 (fields (goal_fields (goal_of goal)))
+  unfolding goal_of goal_fields ascii
+  goal_range e y = rw e y
+
+  pub goal_union : goal ≡ Union number → Writes w w1 (fields ((117 ∷ 110 ∷ 105 ∷ 111 ∷ 110 ∷ []) ∷ decimal number ∷ [])) → Writes w w1 (fields (goal_fields (goal_of goal)))
+  unfolding goal_of goal_fields ascii
+  goal_union e y = rw e y
 
 -- ---- an origin, by its kind
 
-module _ {room at r : ℕ} {o o1 : List ℕ} (x : Origin) where
-  pub origin_root : x.kind ≡ 0 → Wrote at r (32 ∷ 114 ∷ 111 ∷ 111 ∷ 116 ∷ []) room o o1 → Wrote at r (fields (origin_fields (origin_of x))) room o o1
+module _ {w w1 : Writer} (x : Origin) where
+  pub origin_root : x.kind ≡ 0 → Writes w w1 (32 ∷ 114 ∷ 111 ∷ 111 ∷ 116 ∷ []) → Writes w w1 (fields (origin_fields (origin_of x)))
   unfolding origin_of origin_by origin_fields ascii
-  origin_root e w = rw e (fields_one w)
+  origin_root e y = rw e (fields_one y)
 
-  pub origin_part : x.kind ≡ 1 → Wrote at r (fields ((112 ∷ 97 ∷ 114 ∷ 116 ∷ []) ∷ decimal x.number ∷ [])) room o o1
-      → Wrote at r (fields (origin_fields (origin_of x))) room o o1
+  pub origin_part : x.kind ≡ 1 → Writes w w1 (fields ((112 ∷ 97 ∷ 114 ∷ 116 ∷ []) ∷ decimal x.number ∷ []))
+      → Writes w w1 (fields (origin_fields (origin_of x)))
   unfolding origin_of origin_by origin_fields ascii
-  origin_part e w = rw e w
+  origin_part e y = rw e y
 
-  pub origin_forbid : x.kind ≡ 2 → Wrote at r (fields ((102 ∷ 111 ∷ 114 ∷ 98 ∷ 105 ∷ 100 ∷ []) ∷ decimal x.number ∷ [])) room o o1
-      → Wrote at r (fields (origin_fields (origin_of x))) room o o1
+  pub origin_forbid : x.kind ≡ 2 → Writes w w1 (fields ((102 ∷ 111 ∷ 114 ∷ 98 ∷ 105 ∷ 100 ∷ []) ∷ decimal x.number ∷ []))
+      → Writes w w1 (fields (origin_fields (origin_of x)))
   unfolding origin_of origin_by origin_fields ascii
-  origin_forbid e w = rw e w
+  origin_forbid e y = rw e y
 
-  pub origin_one : x.kind ≡ 3 → Wrote at r (fields ((111 ∷ 110 ∷ 101 ∷ []) ∷ decimal x.number ∷ [])) room o o1
-      → Wrote at r (fields (origin_fields (origin_of x))) room o o1
+  pub origin_one : x.kind ≡ 3 → Writes w w1 (fields ((111 ∷ 110 ∷ 101 ∷ []) ∷ decimal x.number ∷ []))
+      → Writes w w1 (fields (origin_fields (origin_of x)))
   unfolding origin_of origin_by origin_fields ascii
-  origin_one e w = rw e w
+  origin_one e y = rw e y
 
-  pub origin_violation : x.kind ≡ 4 → Wrote at r (fields ((118 ∷ 105 ∷ 111 ∷ 108 ∷ 97 ∷ 116 ∷ 105 ∷ 111 ∷ 110 ∷ []) ∷ decimal x.number ∷ [])) room o o1
-      → Wrote at r (fields (origin_fields (origin_of x))) room o o1
+  pub origin_violation : x.kind ≡ 4 → Writes w w1 (fields ((118 ∷ 105 ∷ 111 ∷ 108 ∷ 97 ∷ 116 ∷ 105 ∷ 111 ∷ 110 ∷ []) ∷ decimal x.number ∷ []))
+      → Writes w w1 (fields (origin_fields (origin_of x)))
   unfolding origin_of origin_by origin_fields ascii
-  origin_violation e w = rw e w
+  origin_violation e y = rw e y
 
-  pub origin_range : x.kind ≡ 5 → Wrote at r (fields (ascii "gate" ∷ goal_fields (goal_of 0 x.number))) room o o1
-      → Wrote at r (fields (origin_fields (origin_of x))) room o o1
+  pub origin_range : x.kind ≡ 5 → Writes w w1 (fields (ascii "gate" ∷ goal_fields (goal_of (Single x.number))))
+      → Writes w w1 (fields (origin_fields (origin_of x)))
   unfolding origin_of origin_by origin_fields goal_of
-  origin_range e w = rw e w
+  origin_range e y = rw e y
 
   pub origin_union : (x.kind ≡ 0 → ⊥) → (x.kind ≡ 1 → ⊥) → (x.kind ≡ 2 → ⊥) → (x.kind ≡ 3 → ⊥) → (x.kind ≡ 4 → ⊥) → (x.kind ≡ 5 → ⊥)
-      → Wrote at r (fields (ascii "gate" ∷ goal_fields (goal_of 1 x.number))) room o o1 → Wrote at r (fields (origin_fields (origin_of x))) room o o1
+      → Writes w w1 (fields (ascii "gate" ∷ goal_fields (goal_of (Union x.number)))) → Writes w w1 (fields (origin_fields (origin_of x)))
   unfolding origin_of origin_by origin_fields goal_of
-  origin_union e f g h i j w =
-      rw (ne_eqb x.kind 0 e, ne_eqb x.kind 1 f, ne_eqb x.kind 2 g, ne_eqb x.kind 3 h, ne_eqb x.kind 4 i, ne_eqb x.kind 5 j) w
+  origin_union e f g h i j y =
+      rw (ne_eqb x.kind 0 e, ne_eqb x.kind 1 f, ne_eqb x.kind 2 g, ne_eqb x.kind 3 h, ne_eqb x.kind 4 i, ne_eqb x.kind 5 j) y

@@ -1,56 +1,54 @@
 -- A loop that prints: in its turn i what `t i` says. And the lists of the definitions, as such turns.
 use mathlib.Core.Path.{◌≡◌, refl, ◌∙◌}
 use mathlib.Core.Bool.{Bool, true}
-use mathlib.Core.List.{List, [], ◌∷◌, ◌++◌, map}
-use Prim.Native.Nat.{ℕ, suc, ◌+◌, ◌-◌, ◌<◌, ◌≤◌}
+use mathlib.Core.List.{List, [], ◌∷◌, ◌++◌, map, append_assoc, append-nil}
+use Prim.Native.Nat.{ℕ, zero, suc, ◌+◌, ◌<◌, ◌≤◌}
 use native.Mathlib.Nat.{add-zero}
 use native.Mathlib.Numerals.{add-one}
+use native.Mathlib.Decide.{ℕ_discrete}
 use native.Mathlib.Omega.{arith}
 use lib.Dec.{ltb}
 use lib.ListN.{length, get_or}
 use Rattle.rules.specs.Lists.{concat_map, up_to}
-use Rattle.text.specs.Text.{Wrote, WroteBut}
-use Rattle.text.proofs.Written.{but_all, but_less, but_none, but_over, over_is}
+use Rattle.rules.proofs.ListLaws.{concat_map_append, up_to_last}
+use Rattle.text.specs.declared.Writer.{Writer}
+use Rattle.text.specs.Writing.{Writes}
+use Rattle.text.proofs.Writing.{nothing, then, stopped}
 use Rattle.line_fields.specs.Listed.{texts}
 
 -- ---- the loop
 
--- what the turns from i on print
-pub left : (ℕ → List ℕ) → ℕ → ℕ → List ℕ
-left t n i = concat_map t (up_to i (n - i))
+module _ (t : ℕ → List ℕ) where
+  texts_none : texts t 0 ≡ []
+  unfolding texts concat_map up_to
+  texts_none = refl
 
-left_start : (t : ℕ → List ℕ) (n : ℕ) → left t n 0 ≡ texts t n
-unfolding left texts
-left_start t n = let e : n - 0 ≡ n = omega arith in rw e
+  texts_more : (i : ℕ) → texts t (i + 1) ≡ texts t i ++ t i
+  unfolding texts concat_map
+  texts_more i = rw (up_to_last i, concat_map_append, append-nil)
 
-left_step : (t : ℕ → List ℕ) (n i : ℕ) → i < n → left t n i ≡ t i ++ left t n (i + 1)
-unfolding left concat_map up_to
-left_step t n i h = let e : n - i ≡ suc (n - (i + 1)) = omega arith in rw (e, add-one i)
+  -- what the turns from i on print
+  texts_behind : (i n : ℕ) → i ≤ n → (rest : List ℕ) × (texts t n ≡ texts t i ++ rest)
+  texts_behind i zero h = let e : i ≡ 0 = omega arith in ([], rw (e, append-nil))
+  texts_behind i (suc n) h = elim (ℕ_discrete i (suc n)) [ yes e ↦ ([], rw (e, append-nil)) | no d ↦ one_more i n (texts_behind i n (omega arith)) ]
+    where
+      one_more : (i n : ℕ) → (rest : List ℕ) × (texts t n ≡ texts t i ++ rest) → (rest : List ℕ) × (texts t (suc n) ≡ texts t i ++ rest)
+      one_more i n (rest, e) = (rest ++ t n, rw (← add-one n, texts_more n, e, append_assoc))
 
-left_end : (t : ℕ → List ℕ) (n i : ℕ) → n ≤ i → left t n i ≡ []
-unfolding left concat_map up_to
-left_end t n i h = let e : n - i ≡ 0 = omega arith in rw e
+-- before turn i: those before it are printed
+module _ (t : ℕ → List ℕ) {w : Writer} where
+  pub printing_start : Writes w w (texts t 0)
+  printing_start = rw (texts_none t) (nothing w)
 
--- before turn i of n
-pub record Printing (t : ℕ → List ℕ) (n at a i room : ℕ) (o o1 : List ℕ) : Type 0 where
-  pub most : i ≤ n
-  pub same : length o1 ≡ length o
-  pub so_far : WroteBut at a (left t n i) (texts t n) room o o1
+  module _ {w1 : Writer} {i : ℕ} (f : Writes w w1 (texts t i)) where
+    pub printing_step : {w2 : Writer} → Writes w1 w2 (t i) → Writes w w2 (texts t (i + 1))
+    printing_step g = rw (texts_more t) (then f g)
 
-module _ {t : ℕ → List ℕ} {n at room : ℕ} {o : List ℕ} where
-  pub printing_start : Printing t n at at 0 room o o
-  printing_start = record { most = omega arith; same = refl; so_far = rw (left_start t n) but_all }
+    pub printing_end : {n : ℕ} → n ≤ i → i ≤ n → Writes w w1 (texts t n)
+    printing_end {n} g h = let e : i ≡ n = omega arith in rw e at f
 
-  module _ {a i : ℕ} {o1 : List ℕ} (f : Printing t n at a i room o o1) where
-    pub printing_step : {r : ℕ} {o2 : List ℕ} → i < n → length o2 ≡ length o1 → Wrote a r (t i) room o1 o2 → Printing t n at r (i + 1) room o o2
-    printing_step h e g =
-        record { most = omega arith; same = e ∙ f.same; so_far = but_less (left t n i) (t i) (left t n (i + 1)) f.so_far (left_step t n i h) g }
-
-    pub printing_end : n ≤ i → Wrote at a (texts t n) room o o1
-    printing_end h = but_none (rw (left_end t n i h) at f.so_far)
-
-    pub printing_over : {b : Bool} → b ≡ ltb room a → b ≡ true → Wrote at a (texts t n) room o o1
-    printing_over e d = but_over f.so_far (over_is room a e d)
+    pub printing_over : {b : Bool} (n : ℕ) → i ≤ n → b ≡ ltb w1.room w1.at → b ≡ true → Writes w w1 (texts t n)
+    printing_over n h e d = let g = texts_behind t i n h in rw g.1 (stopped g.0 f e d)
 
 -- ---- a list's elements, with their places
 

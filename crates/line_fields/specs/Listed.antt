@@ -11,7 +11,7 @@ use Rattle.rules.specs.Variables.{Origin, chosen, part_variable}
 use Rattle.rules.specs.Listing.{ascii, decimal, signed, line, owner_field, goal_fields, origin_fields, clause_field, decision_line, clause_fields, waiting_lines, listing}
 use Rattle.rules.proofs.Each.{Each}
 use Rattle.rules.proofs.WellFormed.{WellFormed}
-use Rattle.text.specs.Text.{Addressable, Wrote, fields}
+use Rattle.text.specs.Text.{Wrote, fields}
 use Rattle.tables.specs.declared.Counts.{Counts}
 use Rattle.cache.specs.declared.Choice.{Choice}
 use Rattle.cache.specs.Areas.{catalogue}
@@ -117,13 +117,12 @@ second_half c conditions l n st cl wt = clause_notes c n st cl ++ state_notes c 
 
 -- ---- what the functions ask for and give
 
--- the areas of a catalogue and of a state, and room for bytes
-pub record Ready (k : Counts) (m u t : List ℕ) (l : Limits) (n : Counters) (b : List ℕ) (room : ℕ) : Type 0 where
+-- the areas of a catalogue and of a state
+pub record Ready (k : Counts) (m u t : List ℕ) (l : Limits) (n : Counters) (b : List ℕ) : Type 0 where
   pub kept : Indexed k m u t
   pub formed : WellFormed (catalogue k m u t)
   pub fits : Fits l (length b)
   pub mapped : Mapped l n.variables (held l b)
-  pub addressable : Addressable room
 
 -- the stored rows can be printed
 pub record GoodRows (c : Catalogue) (l : Limits) (n : Counters) (st : ℕ → List ℕ) (cl : List ℕ) : Type 0 where

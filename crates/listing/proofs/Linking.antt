@@ -16,8 +16,9 @@ use Rattle.rules.specs.Items.{condition_of}
 use Rattle.rules.proofs.Each.{each_at}
 use Rattle.rules.proofs.Valid as valid
 use Rattle.rules.proofs.WellFormed.{WellFormed, ConditionGiven}
-use Rattle.text.specs.Text.{Wrote}
-use Rattle.text.proofs.Written.{nothing}
+use Rattle.text.specs.declared.Writer.{Writer}
+use Rattle.text.specs.Writing.{Writes}
+use Rattle.text.proofs.Writing.{nothing}
 use Rattle.requirement.specs.declared.ConditionalRequirement.{ConditionalRequirement}
 use Rattle.requirement.specs.Requirements.{requirement_is}
 use Rattle.tables.specs.declared.Counts.{Counts}
@@ -31,8 +32,8 @@ use Rattle.entries.specs.declared.Entry as entries
 use Rattle.entries.specs.Entries.{no_entry, entry_of, waiting_in, Long}
 use Rattle.encoder.proofs.Frames.{waiting_counted}
 use Rattle.goals.specs.Goals.{AllGiven}
-use Rattle.line_fields.specs.Listed.{entry_text, condition_text}
-use Rattle.line_fields.proofs.Printing.{Printing, printing_start, printing_step, printing_end}
+use Rattle.line_fields.specs.Listed.{texts, entry_text, condition_text}
+use Rattle.line_fields.proofs.Printing.{printing_start, printing_step, printing_end}
 use Rattle.listing.specs.Chains.{is_under, Next, Linked, Key}
 use Rattle.listing.proofs.Waiting.{condition_named, no_line}
 
@@ -131,31 +132,33 @@ module _ {c : Catalogue} {es : List (ℕ × ℕ)} {n most i : ℕ} {hs ls : List
 -- ---- a walk along the chain of condition k
 
 -- before entry i, which is of the condition unless it is the end
-pub record Walking (c : Catalogue) (es : List (ℕ × ℕ)) (n most : ℕ) (hs ls : List ℕ) (k at a i room : ℕ) (o o1 : List ℕ) : Type 0 where
+pub record Walking (c : Catalogue) (es : List (ℕ × ℕ)) (n most : ℕ) (hs ls : List ℕ) (k i : ℕ) (w w1 : Writer) : Type 0 where
   pub linked : Linked c es n most 0 hs ls
   pub low : k < most
   pub few : n ≤ 2048
-  pub printing : Printing (entry_text c es k) n at a i room o o1
+  pub within : i ≤ n
+  pub printed : Writes w w1 (texts (entry_text c es k) i)
   pub here : i < n → is_under c es k i ≡ true
 
-module _ {c : Catalogue} {es : List (ℕ × ℕ)} {n most : ℕ} {hs ls : List ℕ} {k at room : ℕ} {o : List ℕ} where
+module _ {c : Catalogue} {es : List (ℕ × ℕ)} {n most : ℕ} {hs ls : List ℕ} {k : ℕ} {w : Writer} where
   -- nothing is printed for the entries between
-  printing_on : {a i r : ℕ} {o1 : List ℕ} → Linked c es n most 0 hs ls → k < most → n ≤ 2048 → Next n (is_under c es k) i r → Printing (entry_text c es k) n at a i room o o1
-      → Walking c es n most hs ls k at a r room o o1
-  printing_on {a} {i} {r} {o1} l h m x y =
+  printed_on : {i r : ℕ} {w1 : Writer} → Linked c es n most 0 hs ls → k < most → n ≤ 2048 → Next n (is_under c es k) i r → Writes w w1 (texts (entry_text c es k) i)
+      → Walking c es n most hs ls k r w w1
+  printed_on {i} {r} {w1} l h m x y =
       record {
         linked = l;
         low = h;
         few = m;
-        printing = walk (λ j. Printing (entry_text c es k) n at a j room o o1) (λ j b e z. printing_step z b refl (rw (no_line c es k j e) (nothing room a o1))) x.skips y;
+        within = x.skips.inside;
+        printed = walk (λ j. Writes w w1 (texts (entry_text c es k) j)) (λ j b e z. printing_step _ z (rw (no_line c es k j e) (nothing w1))) x.skips y;
         here = x.here;
       }
 
   pub walking_start : {i x : ℕ} {p : Limits} → Linked c es n most 0 hs ls → k < most → Long p x → n ≤ p.waiting → i ≡ get_or hs k 0
-      → Walking c es n most hs ls k at at i room o o
-  walking_start l h g a e = rw e (printing_on l h (omega (arith, g.waiting, a)) (l.heads k h) printing_start)
+      → Walking c es n most hs ls k i w w
+  walking_start l h g a e = rw e (printed_on l h (omega (arith, g.waiting, a)) (l.heads k h) (printing_start _))
 
-  module _ {a i : ℕ} {o1 : List ℕ} (f : Walking c es n most hs ls k at a i room o o1) where
+  module _ {i : ℕ} {w1 : Writer} (f : Walking c es n most hs ls k i w w1) where
     following : i < n → Next n (is_under c es k) (i + 1) (get_or ls i 0)
     following h = f.linked.links k i f.low (omega arith) h (f.here h)
 
@@ -165,10 +168,9 @@ module _ {c : Catalogue} {es : List (ℕ × ℕ)} {n most : ℕ} {hs ls : List �
     pub walking_less : {j : ℕ} → i < n → j ≡ get_or ls i 0 → n - j < n - i
     walking_less h e = (let x = (following h).skips.onward in omega (arith, x, e))
 
-    pub walking_step : {r j : ℕ} {o2 : List ℕ} → i < n → length o2 ≡ length o1 → Wrote a r (entry_text c es k i) room o1 o2 → j ≡ get_or ls i 0
-        → Walking c es n most hs ls k at r j room o o2
-    walking_step h e g q = rw q (printing_on f.linked f.low f.few (following h) (printing_step f.printing h e g))
+    pub walking_step : {j : ℕ} {w2 : Writer} → i < n → Writes w1 w2 (entry_text c es k i) → j ≡ get_or ls i 0 → Walking c es n most hs ls k j w w2
+    walking_step h g q = rw q (printed_on f.linked f.low f.few (following h) (printing_step _ f.printed g))
 
-    pub walking_end : n ≤ i → Wrote at a (condition_text c es n k) room o o1
+    pub walking_end : n ≤ i → Writes w w1 (condition_text c es n k)
     unfolding condition_text
-    walking_end h = printing_end f.printing h
+    walking_end h = printing_end _ f.printed h f.within

@@ -14,11 +14,12 @@ use Rattle.rules.specs.Items as items
 use Rattle.rules.specs.Listing.{ascii, decimal, line, owner_field, goal_fields, waiting_line, waiting_lines}
 use Rattle.rules.proofs.Each.{Each, each_at}
 use Rattle.rules.proofs.Valid.{Entry}
-use Rattle.text.specs.Text.{Wrote, fields}
-use Rattle.text.proofs.Written.{fields_first, fields_then, line_is, nothing}
+use Rattle.text.specs.Text.{fields}
+use Rattle.text.specs.declared.Writer.{Writer}
+use Rattle.text.specs.Writing.{Writes}
+use Rattle.text.proofs.Writing.{fields_first, fields_then, line_is, nothing}
 use Rattle.requirement.specs.declared.ConditionalRequirement.{ConditionalRequirement}
-use Rattle.requirement.specs.Requirements.{goal_of, requirement_is, form_of, number_of}
-use Rattle.requirement.proofs.Laws.{goal_from_parts}
+use Rattle.requirement.specs.Requirements.{goal_of, requirement_is}
 use Rattle.tables.specs.declared.Counts.{Counts}
 use Rattle.tables.specs.Tables.{tables}
 use Rattle.cache.specs.Areas.{catalogue}
@@ -33,19 +34,16 @@ use Rattle.listing.specs.Chains.{is_under}
 
 -- ---- an entry's fields and its line
 
-module _ {room at a b d : ℕ} {o o1 o2 o3 : List ℕ} where
-  pub entry_fields_law : (q : ConditionalRequirement) (rs : List ℕ) (form number : ℕ) → form ≡ form_of (goal_of q.requirement) → number ≡ number_of (goal_of q.requirement)
-      → Wrote at a (fields (owner_field (owner_but 65535 q.owner) ∷ [])) room o o1 → Wrote a b (fields (goal_fields (items.goal_of form number))) room o1 o2
-      → Wrote b d (fields (map decimal rs)) room o2 o3 → Wrote at d (fields (entry_fields (requirement_is q) rs)) room o o3
+module _ {w w1 w2 w3 : Writer} where
+  pub entry_fields_law : (q : ConditionalRequirement) (rs : List ℕ) → Writes w w1 (fields (owner_field (owner_but 65535 q.owner) ∷ []))
+      → Writes w1 w2 (fields (goal_fields (goal_of q.requirement))) → Writes w2 w3 (fields (map decimal rs)) → Writes w w3 (fields (entry_fields (requirement_is q) rs))
   unfolding entry_fields requirement_is owner_but items.owner_of
-  entry_fields_law q rs form number e f u v w =
-      let g : items.goal_of form number ≡ goal_of q.requirement = rw (e, f) (goal_from_parts (goal_of q.requirement)) in
-      fields_then (_ ∷ []) _ u (fields_then (goal_fields (goal_of q.requirement)) _ (rw g at v) w)
+  entry_fields_law q rs u v x = fields_then (_ ∷ []) _ u (fields_then (goal_fields (goal_of q.requirement)) _ v x)
 
-  pub entry_line : {s : ℕ} {o4 : List ℕ} (q : Requirement) (rs : List ℕ) (c : ℕ) → Wrote at a (119 ∷ []) room o o1 → Wrote a b (32 ∷ decimal c) room o1 o2
-      → Wrote b d (fields (entry_fields q rs)) room o2 o3 → Wrote d s (10 ∷ []) room o3 o4 → Wrote at s (line (ascii "w" ∷ decimal c ∷ entry_fields q rs)) room o o4
+  pub entry_line : {w4 : Writer} (q : Requirement) (rs : List ℕ) (c : ℕ) → Writes w w1 (119 ∷ []) → Writes w1 w2 (32 ∷ decimal c)
+      → Writes w2 w3 (fields (entry_fields q rs)) → Writes w3 w4 (10 ∷ []) → Writes w w4 (line (ascii "w" ∷ decimal c ∷ entry_fields q rs))
   unfolding ascii
-  entry_line q rs c t u v w = line_is _ t (fields_first _ u v) w
+  entry_line q rs c t u v x = line_is _ t (fields_first _ u v) x
 
 -- ---- the line of one entry under a condition
 
@@ -78,11 +76,11 @@ module _ (k : Counts) (m u t : List ℕ) (x : entries.Entry) (q : ConditionalReq
   unfolding requirement_is
   condition_named = ap (λ (r : Requirement). r.condition) named
 
-  pub under : {room at r : ℕ} {o o1 : List ℕ} (c : ℕ) → condition_at (catalogue k m u t) x.requirement ≡ some c
-      → Wrote at r (line (ascii "w" ∷ decimal c ∷ entry_fields (requirement_is q) (get_or (disjuncts (tables k t).conditions c) x.disjunct []))) room o o1
-      → Wrote at r (waiting_lines (catalogue k m u t) (entry_of x ∷ []) c) room o o1
+  pub under : {w w1 : Writer} (c : ℕ) → condition_at (catalogue k m u t) x.requirement ≡ some c
+      → Writes w w1 (line (ascii "w" ∷ decimal c ∷ entry_fields (requirement_is q) (get_or (disjuncts (tables k t).conditions c) x.disjunct [])))
+      → Writes w w1 (waiting_lines (catalogue k m u t) (entry_of x ∷ []) c)
   unfolding entry_of
-  under c z w = rw (one_entry (catalogue k m u t) c x.requirement x.disjunct z, named, conditions_same k m u t) w
+  under c z f = rw (one_entry (catalogue k m u t) c x.requirement x.disjunct z, named, conditions_same k m u t) f
 
 -- the disjunct is one of the condition's, since the entry is given
 pub entry_disjunct : (k : Counts) (m u t : List ℕ) (x : entries.Entry) (c : ℕ) → condition_at (catalogue k m u t) x.requirement ≡ some c
@@ -98,16 +96,16 @@ under_is : (k : ℕ) (o : Option ℕ) → is_condition k o ≡ true → o ≡ so
 under_is k none e = absurd (false≢true e)
 under_is k (some j) e = ap some (eqb-true j k e)
 
-module _ (c : Catalogue) (l : Limits) (n : ℕ) (w : List ℕ) (i : ℕ) (x : entries.Entry) (e : entry_of x ≡ get_or (waiting_in l n w) i no_entry) where
-  pub entry_given : AllGiven c (waiting_in l n w) → i < n → AllGiven c (entry_of x ∷ [])
-  entry_given a h = record { given = Each.cons {x = entry_of x} (rw e (each_at a.given i no_entry (rw (waiting_counted l n w) h))) Each.nil }
+module _ (c : Catalogue) (l : Limits) (n : ℕ) (wt : List ℕ) (i : ℕ) (x : entries.Entry) (e : entry_of x ≡ get_or (waiting_in l n wt) i no_entry) where
+  pub entry_given : AllGiven c (waiting_in l n wt) → i < n → AllGiven c (entry_of x ∷ [])
+  entry_given a h = record { given = Each.cons {x = entry_of x} (rw e (each_at a.given i no_entry (rw (waiting_counted l n wt) h))) Each.nil }
 
-  pub entry_under : (k : ℕ) → is_under c (waiting_in l n w) k i ≡ true → condition_at c x.requirement ≡ some k
+  pub entry_under : (k : ℕ) → is_under c (waiting_in l n wt) k i ≡ true → condition_at c x.requirement ≡ some k
   unfolding is_under entry_of
   entry_under k h = under_is k _ (rw (← e) at h)
 
-  pub waiting_line_law : {room at r : ℕ} {o o1 : List ℕ} (k : ℕ) → Wrote at r (waiting_lines c (entry_of x ∷ []) k) room o o1
-      → Wrote at r (entry_text c (waiting_in l n w) k i) room o o1
+  pub waiting_line_law : {w w1 : Writer} (k : ℕ) → Writes w w1 (waiting_lines c (entry_of x ∷ []) k)
+      → Writes w w1 (entry_text c (waiting_in l n wt) k i)
   unfolding entry_text
   waiting_line_law k v = rw (← e) v
 
@@ -124,7 +122,6 @@ no_lines c es [] = refl
 no_lines c es (k ∷ ks) = no_lines c es ks
 
 -- where none waits nothing is printed
-pub none_waiting : (c : Catalogue) (es : List (ℕ × ℕ)) (n conditions : ℕ) {at room : ℕ} {o : List ℕ} → n ≡ 0
-    → Wrote at at (texts (condition_text c es n) conditions) room o o
+pub none_waiting : (c : Catalogue) (es : List (ℕ × ℕ)) (n conditions : ℕ) {w : Writer} → n ≡ 0 → Writes w w (texts (condition_text c es n) conditions)
 unfolding texts
-none_waiting c es n conditions {at} {room} {o} e = rw (e, no_lines c es (up_to 0 conditions)) (nothing room at o)
+none_waiting c es n conditions {w} e = rw (e, no_lines c es (up_to 0 conditions)) (nothing w)

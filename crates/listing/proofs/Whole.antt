@@ -13,8 +13,9 @@ use Rattle.rules.specs.Listing.{ascii, decimal, line, numbered, owner_field, ori
 use Rattle.rules.proofs.Bools.{by_cases}
 use Rattle.rules.proofs.ListLaws.{concat_map_append}
 use Rattle.rules.proofs.WellFormed.{WellFormed}
-use Rattle.text.specs.Text.{Addressable, Wrote}
-use Rattle.text.proofs.Written.{then}
+use Rattle.text.specs.declared.Writer.{Writer}
+use Rattle.text.specs.Writing.{Writes}
+use Rattle.text.proofs.Writing.{wrote, then}
 use Rattle.tables.specs.declared.Counts.{Counts}
 use Rattle.cache.specs.Areas.{catalogue}
 use Rattle.cache.proofs.Laws.{conditions_held}
@@ -120,27 +121,27 @@ module _ (c : Catalogue) (l : Limits) (n : Counters) (st : ℕ → List ℕ) (cl
 
 -- ---- the halves
 
-module _ {at a b d r room : ℕ} {o o1 o2 o3 o4 : List ℕ} where
-  pub first_half_law : (c : Catalogue) (n : Counters) (st : ℕ → List ℕ) (cl : List ℕ) → Wrote at a (texts (variable_text (variables n.variables st)) n.variables) room o o1
-      → Wrote a b (texts (clause_text c (clauses_of c n st cl)) n.clauses) room o1 o2 → Wrote b d (texts (owner_text (listed n.owners 1 st)) n.owners) room o2 o3
-      → Wrote d r (texts (name_text (listed n.names 3 st)) n.names) room o3 o4 → Wrote at r (first_half c n st cl) room o o4
+module _ {w w1 w2 w3 w4 : Writer} where
+  pub first_half_law : (c : Catalogue) (n : Counters) (st : ℕ → List ℕ) (cl : List ℕ) → Writes w w1 (texts (variable_text (variables n.variables st)) n.variables)
+      → Writes w1 w2 (texts (clause_text c (clauses_of c n st cl)) n.clauses) → Writes w2 w3 (texts (owner_text (listed n.owners 1 st)) n.owners)
+      → Writes w3 w4 (texts (name_text (listed n.names 3 st)) n.names) → Writes w w4 (first_half c n st cl)
   unfolding first_half
-  first_half_law c n st cl u v w x = then (then (then u v) w) x
+  first_half_law c n st cl u v x y = then (then (then u v) x) y
 
-module _ {at a r room : ℕ} {o o1 o2 : List ℕ} (c : Catalogue) (n : Counters) (st : ℕ → List ℕ) where
-  pub clause_notes_law : (cl : List ℕ) → Wrote at a (texts (conflict_text (rows n.clauses cl)) n.clauses) room o o1
-      → Wrote a r (texts (assertion_text (clauses_of c n st cl)) n.clauses) room o1 o2 → Wrote at r (clause_notes c n st cl) room o o2
+module _ {w w1 w2 : Writer} (c : Catalogue) (n : Counters) (st : ℕ → List ℕ) where
+  pub clause_notes_law : (cl : List ℕ) → Writes w w1 (texts (conflict_text (rows n.clauses cl)) n.clauses)
+      → Writes w1 w2 (texts (assertion_text (clauses_of c n st cl)) n.clauses) → Writes w w2 (clause_notes c n st cl)
   unfolding clause_notes
   clause_notes_law cl u v = then u v
 
   module _ (conditions : ℕ) (l : Limits) (wt : List ℕ) where
-    pub state_notes_law : Wrote at a (texts (decision_text (decisions n.decisions st)) n.decisions) room o o1
-        → Wrote a r (texts (condition_text c (waiting_in l n.waiting wt) n.waiting) conditions) room o1 o2 → Wrote at r (state_notes c conditions l n st wt) room o o2
+    pub state_notes_law : Writes w w1 (texts (decision_text (decisions n.decisions st)) n.decisions)
+        → Writes w1 w2 (texts (condition_text c (waiting_in l n.waiting wt) n.waiting) conditions) → Writes w w2 (state_notes c conditions l n st wt)
     unfolding state_notes
     state_notes_law u v = then u v
 
-    pub second_half_law : (cl : List ℕ) → Wrote at a (clause_notes c n st cl) room o o1 → Wrote a r (state_notes c conditions l n st wt) room o1 o2
-        → Wrote at r (second_half c conditions l n st cl wt) room o o2
+    pub second_half_law : (cl : List ℕ) → Writes w w1 (clause_notes c n st cl) → Writes w1 w2 (state_notes c conditions l n st wt)
+        → Writes w w2 (second_half c conditions l n st cl wt)
     unfolding second_half
     second_half_law cl u v = then u v
 
@@ -153,8 +154,8 @@ pub waiting_long : {l : Limits} {x y : ℕ} → LongEnough l x y → Long l y
 waiting_long e = record { waiting = e.waiting; long = e.entries }
 
 module _ (k : Counts) (m u t : List ℕ) (l : Limits) (n : Counters) (b cl wt : List ℕ) where
-  pub made_ready : {room : ℕ} → Indexed k m u t → WellFormed (catalogue k m u t) → Fits l (length b) → Addressable room → Good (catalogue k m u t) l n (held l b) cl wt → Ready k m u t l n b room
-  made_ready f e g h i = record { kept = f; formed = e; fits = g; mapped = i.state.mapped; addressable = h }
+  pub made_ready : Indexed k m u t → WellFormed (catalogue k m u t) → Fits l (length b) → Good (catalogue k m u t) l n (held l b) cl wt → Ready k m u t l n b
+  made_ready f e g h = record { kept = f; formed = e; fits = g; mapped = h.state.mapped }
 
   pub good_rows : LongEnough l (length cl) (length wt) → Good (catalogue k m u t) l n (held l b) cl wt → GoodRows (catalogue k m u t) l n (held l b) cl
   good_rows e g =
@@ -201,7 +202,8 @@ module _ (k : Counts) (m u t : List ℕ) (l : Limits) (n : Counters) (b cl wt : 
         (concat_map decision_line (decisions n.decisions (held l b)))
         (concat_map (waiting_lines (catalogue k m u t) (waiting_in l n.waiting wt)) (up_to 0 k.conditions)))
 
-    pub whole : {r a room : ℕ} {o o1 o2 : List ℕ} → Wrote 0 a (first_half (catalogue k m u t) n (held l b) cl) room o o1
-        → Wrote a r (second_half (catalogue k m u t) k.conditions l n (held l b) cl wt) room o1 o2
-        → Lists (catalogue k m u t) l n (held l b) cl wt room r o o2
-    whole x y = record { is = λ v. rw (← halves_are v) (then x y) }
+    -- by a writer that begins at the start of an area
+    pub whole : {w w1 w2 : Writer} (room : ℕ) {o o' : List ℕ} → w.at ≡ 0 → w.room ≡ room → w.out.now ≡ o → w2.out.now ≡ o'
+        → Writes w w1 (first_half (catalogue k m u t) n (held l b) cl) → Writes w1 w2 (second_half (catalogue k m u t) k.conditions l n (held l b) cl wt)
+        → Lists (catalogue k m u t) l n (held l b) cl wt room w2.at o o'
+    whole room e d f h x y = record { is = λ v. rw (← halves_are v) (rw (e, d, f, h) at (wrote (then x y))) }

@@ -11,6 +11,13 @@ use encoder::Counters;
 use state::Limits;
 use tables::Counts;
 
+// For each condition its first entry, and for each entry the next one of the same condition. The number of entries ends a chain.
+#[derive(Drop)]
+pub struct Chains {
+    pub heads: [u16; 256],
+    pub links: [u16; 2048],
+}
+
 // The condition of entry i.
 fn key(
     marks: &[u8],
@@ -34,77 +41,85 @@ fn key(
     q.condition as usize
 }
 
-// Entry i goes before those that the head of condition c leads to.
-fn link(heads: &mut [u16; 256], links: &mut [u16; 2048], c: usize, i: usize)
-    requires { (c < 256) × (i < 2048) }
-    ensures { (links.new ≡ set links.old i (get_or heads.old c 0)) × (heads.new ≡ set heads.old c i) }
-{
-    links[i] = heads[c];
-    heads[c] = i as u16;
-}
-
-// Entry i, those behind it being linked.
-fn link_entry(
-    marks: &[u8],
-    unions: &[u8],
-    t: &[u8],
-    k: Counts,
-    w: &[u8],
-    l: Limits,
-    n: Counters,
-    heads: &mut [u16; 256],
-    links: &mut [u16; 2048],
-    i: usize,
-)
-    requires indexed { Indexed k marks.now unions.now t.now }
-    requires well_formed { WellFormed (catalogue k marks.now unions.now t.now) }
-    requires long { Long l (length w.now) × (n.waiting ≤ l.waiting) }
-    requires all_given { AllGiven (catalogue k marks.now unions.now t.now) (waiting_in l n.waiting w.now) }
-    requires linked { Linked (catalogue k marks.now unions.now t.now) (waiting_in l n.waiting w.now) n.waiting k.conditions (i + 1) heads.old links.old × (i < n.waiting) }
-    ensures { Linked (catalogue k marks.now unions.now t.now) (waiting_in l n.waiting w.now) n.waiting k.conditions i heads.new links.new }
-{
-    let c = key(marks, unions, t, k, w, l, n, i);
-    link(heads, links, c, i);
-}
-
-// All of them, no condition having an entry yet.
-pub fn link_entries(
-    marks: &[u8],
-    unions: &[u8],
-    t: &[u8],
-    k: Counts,
-    w: &[u8],
-    l: Limits,
-    n: Counters,
-    heads: &mut [u16; 256],
-    links: &mut [u16; 2048],
-)
-    requires indexed { Indexed k marks.now unions.now t.now }
-    requires well_formed { WellFormed (catalogue k marks.now unions.now t.now) }
-    requires long { Long l (length w.now) × (n.waiting ≤ l.waiting) }
-    requires all_given { AllGiven (catalogue k marks.now unions.now t.now) (waiting_in l n.waiting w.now) }
-    requires heads_value { (heads.old ≡ replicate 256 n.waiting) × (links.old ≡ replicate 2048 0) }
-    ensures { Linked (catalogue k marks.now unions.now t.now) (waiting_in l n.waiting w.now) n.waiting k.conditions 0 heads.new links.new }
-{
-    let mut i = n.waiting;
-    while 0 < i {
-        i -= 1;
-        link_entry(marks, unions, t, k, w, l, n, heads, links, i);
+impl Chains {
+    // No condition has an entry yet.
+    pub fn new(entries: u16) -> Chains
+        ensures { (result.heads ≡ replicate 256 entries) × (result.links ≡ replicate 2048 0) }
+    {
+        Chains {
+            heads: [entries; 256],
+            links: [0; 2048],
+        }
     }
-}
 
-// The first entry of condition c, or how many entries there are.
-pub fn first(heads: &[u16; 256], c: usize) -> u16
-    requires { c < 256 }
-    ensures { result ≡ get_or heads.now c 0 }
-{
-    heads[c]
-}
+    // Entry i goes before those that the head of condition c leads to.
+    fn link(&mut self, c: usize, i: usize)
+        requires { (c < 256) × (i < 2048) }
+        ensures { (self.new.links ≡ set self.old.links i (get_or self.old.heads c 0)) × (self.new.heads ≡ set self.old.heads c i) }
+    {
+        self.links[i] = self.heads[c];
+        self.heads[c] = i as u16;
+    }
 
-// The next one behind entry i.
-pub fn next(links: &[u16; 2048], i: usize) -> u16
-    requires { i < 2048 }
-    ensures { result ≡ get_or links.now i 0 }
-{
-    links[i]
+    // Entry i, those behind it being linked.
+    fn link_entry(
+        &mut self,
+        marks: &[u8],
+        unions: &[u8],
+        t: &[u8],
+        k: Counts,
+        w: &[u8],
+        l: Limits,
+        n: Counters,
+        i: usize,
+    )
+        requires indexed { Indexed k marks.now unions.now t.now }
+        requires well_formed { WellFormed (catalogue k marks.now unions.now t.now) }
+        requires long { Long l (length w.now) × (n.waiting ≤ l.waiting) }
+        requires all_given { AllGiven (catalogue k marks.now unions.now t.now) (waiting_in l n.waiting w.now) }
+        requires linked { Linked (catalogue k marks.now unions.now t.now) (waiting_in l n.waiting w.now) n.waiting k.conditions (i + 1) self.old.heads self.old.links × (i < n.waiting) }
+        ensures { Linked (catalogue k marks.now unions.now t.now) (waiting_in l n.waiting w.now) n.waiting k.conditions i self.new.heads self.new.links }
+    {
+        let c = key(marks, unions, t, k, w, l, n, i);
+        self.link(c, i);
+    }
+
+    // All of them, no condition having an entry yet.
+    pub fn link_entries(
+        &mut self,
+        marks: &[u8],
+        unions: &[u8],
+        t: &[u8],
+        k: Counts,
+        w: &[u8],
+        l: Limits,
+        n: Counters,
+    )
+        requires indexed { Indexed k marks.now unions.now t.now }
+        requires well_formed { WellFormed (catalogue k marks.now unions.now t.now) }
+        requires long { Long l (length w.now) × (n.waiting ≤ l.waiting) }
+        requires all_given { AllGiven (catalogue k marks.now unions.now t.now) (waiting_in l n.waiting w.now) }
+        requires heads_value { (self.old.heads ≡ replicate 256 n.waiting) × (self.old.links ≡ replicate 2048 0) }
+        ensures { Linked (catalogue k marks.now unions.now t.now) (waiting_in l n.waiting w.now) n.waiting k.conditions 0 self.new.heads self.new.links }
+    {
+        for i in (0..n.waiting).rev() {
+            self.link_entry(marks, unions, t, k, w, l, n, i);
+        }
+    }
+
+    // The first entry of condition c, or how many entries there are.
+    pub fn first(&self, c: usize) -> usize
+        requires { c < 256 }
+        ensures { result ≡ get_or self.now.heads c 0 }
+    {
+        self.heads[c] as usize
+    }
+
+    // The next one behind entry i.
+    pub fn next(&self, i: usize) -> usize
+        requires { i < 2048 }
+        ensures { result ≡ get_or self.now.links i 0 }
+    {
+        self.links[i] as usize
+    }
 }

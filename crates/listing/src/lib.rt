@@ -1,5 +1,5 @@
 // The listing of a state: its lines of waiting entries, and the whole.
-// The same functions measure and write (`text`).
+// The same functions measure and write (`text::Writer`).
 #![tactic(auto)]
 
 mod chains;
@@ -10,7 +10,8 @@ ghost use Rattle.rules.specs.Catalogue.{condition_at};
 ghost use Rattle.rules.specs.Conditions.{disjuncts};
 ghost use Rattle.rules.specs.Listing.{ascii, decimal, line, waiting_lines};
 ghost use Rattle.rules.proofs.WellFormed.{WellFormed};
-ghost use Rattle.text.specs.Text.{Addressable, Wrote, fields};
+ghost use Rattle.text.specs.Text.{Addressable, fields};
+ghost use Rattle.text.specs.Writing.{Writes};
 ghost use Rattle.requirement.specs.Requirements.{requirement_is};
 ghost use Rattle.tables.specs.Tables.{tables, Laid};
 ghost use Rattle.conditions.specs.Sizes.{Sized};
@@ -23,105 +24,89 @@ ghost use Rattle.goals.specs.Goals.{AllGiven};
 ghost use Rattle.line_fields.specs.Listed.{entry_fields, texts, entry_text, condition_text, first_half, clause_notes, state_notes, second_half, Ready, GoodRows, Lists};
 ghost use Rattle.listing.specs.Chains.{is_under, Linked};
 
+use chains::Chains;
 use encoder::Counters;
 use entries::Entry;
 use requirement::ConditionalRequirement;
 use state::Limits;
 use tables::Counts;
+use text::Writer;
 
 // ---- waiting entries
 
-fn range_fields(
-    t: &[u8],
-    k: Counts,
-    out: &mut [u8],
-    room: usize,
-    at: usize,
-    c: usize,
-    i: usize,
-) -> usize
+fn range_fields(writer: &mut Writer, t: &[u8], k: Counts, c: usize, i: usize)
     requires laid { Laid k (length t.now) }
     requires sized { Sized (tables k t.now) }
-    requires addressable { Addressable room }
     requires c_lt_conditions { c < k.conditions }
     requires i_in_bounds { i < length (disjuncts (tables k t.now).conditions c) }
-    ensures { Wrote at result (fields (map decimal (get_or (disjuncts (tables k t.now).conditions c) i []))) room out.old out.new }
+    ensures { Writes writer.old writer.new (fields (map decimal (get_or (disjuncts (tables k t.now).conditions c) i []))) }
 {
     let d = conditions::disjunct_of(t, k, c, i);
-    line_fields::disjunct_fields(out, room, at, d)
+    line_fields::disjunct_fields(writer, d);
 }
 
 // Owner, goal and ranges of a requirement under disjunct i of condition c.
 fn entry_fields(
+    writer: &mut Writer,
     t: &[u8],
     k: Counts,
-    out: &mut [u8],
-    room: usize,
-    at: usize,
     q: ConditionalRequirement,
     c: usize,
     i: usize,
-) -> usize
+)
     requires laid { Laid k (length t.now) }
     requires sized { Sized (tables k t.now) }
-    requires addressable { Addressable room }
     requires c_lt_conditions { c < k.conditions }
     requires i_in_bounds { i < length (disjuncts (tables k t.now).conditions c) }
-    ensures { Wrote at result (fields (entry_fields (requirement_is q) (get_or (disjuncts (tables k t.now).conditions c) i []))) room out.old out.new }
+    ensures { Writes writer.old writer.new (fields (entry_fields (requirement_is q) (get_or (disjuncts (tables k t.now).conditions c) i []))) }
 {
-    let a = line_fields::field_owner(out, room, at, q.owner, 65535);
-    let goal = q.requirement;
-    let b = line_fields::goal_fields(out, room, a, goal.form(), goal.number());
-    range_fields(t, k, out, room, b, c, i)
+    line_fields::field_owner(writer, q.owner, 65535);
+    line_fields::goal_fields(writer, q.requirement);
+    range_fields(writer, t, k, c, i);
 }
 
 fn entry_line(
+    writer: &mut Writer,
     t: &[u8],
     k: Counts,
-    out: &mut [u8],
-    room: usize,
-    at: usize,
     q: ConditionalRequirement,
     c: usize,
     i: usize,
-) -> usize
+)
     requires laid { Laid k (length t.now) }
     requires sized { Sized (tables k t.now) }
-    requires addressable { Addressable room }
     requires c_lt_conditions { c < k.conditions }
     requires i_in_bounds { i < length (disjuncts (tables k t.now).conditions c) }
-    ensures { Wrote at result (line (ascii "w" ∷ decimal c ∷ entry_fields (requirement_is q) (get_or (disjuncts (tables k t.now).conditions c) i []))) room out.old out.new }
+    ensures { Writes writer.old writer.new (line (ascii "w" ∷ decimal c ∷ entry_fields (requirement_is q) (get_or (disjuncts (tables k t.now).conditions c) i []))) }
 {
-    let a = text::put(out, room, at, b'w');
-    let b = text::field_number(out, room, a, c);
-    let d = entry_fields(t, k, out, room, b, q, c, i);
-    text::line_feed(out, room, d)
+    writer.put(b'w');
+    writer.field_number(c);
+    entry_fields(writer, t, k, q, c, i);
+    writer.line_feed();
 }
 
 // The line of an entry of condition c.
 fn entry_under(
+    writer: &mut Writer,
     marks: &[u8],
     unions: &[u8],
     t: &[u8],
     k: Counts,
-    out: &mut [u8],
-    room: usize,
-    at: usize,
     e: Entry,
     c: usize,
-) -> usize
+)
     requires indexed { Indexed k marks.now unions.now t.now }
-    requires addressable { Addressable room }
     requires all_given { AllGiven (catalogue k marks.now unions.now t.now) (entry_of e ∷ []) }
     requires c_lt_conditions { (c < k.conditions) × (condition_at (catalogue k marks.now unions.now t.now) e.requirement ≡ some c) }
-    ensures { Wrote at result (waiting_lines (catalogue k marks.now unions.now t.now) (entry_of e ∷ []) c) room out.old out.new }
+    ensures { Writes writer.old writer.new (waiting_lines (catalogue k marks.now unions.now t.now) (entry_of e ∷ []) c) }
 {
     let q = tables::requirement_at(t, k, e.requirement as usize);
-    entry_line(t, k, out, room, at, q, c, e.disjunct as usize)
+    entry_line(writer, t, k, q, c, e.disjunct as usize);
 }
 
 // The line of entry i, which is of condition c.
 fn waiting_line(
+    writer: &mut Writer,
     marks: &[u8],
     unions: &[u8],
     t: &[u8],
@@ -129,25 +114,22 @@ fn waiting_line(
     w: &[u8],
     l: Limits,
     n: Counters,
-    out: &mut [u8],
-    room: usize,
-    at: usize,
     c: usize,
     i: usize,
-) -> usize
+)
     requires indexed { Indexed k marks.now unions.now t.now }
-    requires addressable { Addressable room }
     requires long { Long l (length w.now) × (n.waiting ≤ l.waiting) }
     requires all_given { AllGiven (catalogue k marks.now unions.now t.now) (waiting_in l n.waiting w.now) }
     requires c_lt_conditions { (c < k.conditions) × (i < n.waiting) × (is_under (catalogue k marks.now unions.now t.now) (waiting_in l n.waiting w.now) c i ≡ true) }
-    ensures { Wrote at result (entry_text (catalogue k marks.now unions.now t.now) (waiting_in l n.waiting w.now) c i) room out.old out.new }
+    ensures { Writes writer.old writer.new (entry_text (catalogue k marks.now unions.now t.now) (waiting_in l n.waiting w.now) c i) }
 {
     let e = entries::waiting_at(w, l, n.waiting, i);
-    entry_under(marks, unions, t, k, out, room, at, e, c)
+    entry_under(writer, marks, unions, t, k, e, c);
 }
 
 // The lines of condition c, along its chain.
 fn waiting_of(
+    writer: &mut Writer,
     marks: &[u8],
     unions: &[u8],
     t: &[u8],
@@ -155,31 +137,25 @@ fn waiting_of(
     w: &[u8],
     l: Limits,
     n: Counters,
-    heads: &[u16; 256],
-    links: &[u16; 2048],
-    out: &mut [u8],
-    room: usize,
-    at: usize,
+    chains: &Chains,
     c: usize,
-) -> usize
+)
     requires indexed { Indexed k marks.now unions.now t.now }
-    requires addressable { Addressable room }
     requires long { Long l (length w.now) × (n.waiting ≤ l.waiting) }
     requires all_given { AllGiven (catalogue k marks.now unions.now t.now) (waiting_in l n.waiting w.now) }
-    requires linked { Linked (catalogue k marks.now unions.now t.now) (waiting_in l n.waiting w.now) n.waiting k.conditions 0 heads.now links.now × (c < k.conditions) }
-    ensures { Wrote at result (condition_text (catalogue k marks.now unions.now t.now) (waiting_in l n.waiting w.now) n.waiting c) room out.old out.new }
+    requires linked { Linked (catalogue k marks.now unions.now t.now) (waiting_in l n.waiting w.now) n.waiting k.conditions 0 chains.now.heads chains.now.links × (c < k.conditions) }
+    ensures { Writes writer.old writer.new (condition_text (catalogue k marks.now unions.now t.now) (waiting_in l n.waiting w.now) n.waiting c) }
 {
-    let mut a = at;
-    let mut i = chains::first(heads, c) as usize;
+    let mut i = chains.first(c);
     while i < n.waiting {
-        a = waiting_line(marks, unions, t, k, w, l, n, out, room, a, c, i);
-        i = chains::next(links, i) as usize;
+        waiting_line(writer, marks, unions, t, k, w, l, n, c, i);
+        i = chains.next(i);
     }
-    a
 }
 
 // Those of all conditions, by rising condition.
 fn chained_lines(
+    writer: &mut Writer,
     marks: &[u8],
     unions: &[u8],
     t: &[u8],
@@ -187,30 +163,22 @@ fn chained_lines(
     w: &[u8],
     l: Limits,
     n: Counters,
-    heads: &[u16; 256],
-    links: &[u16; 2048],
-    out: &mut [u8],
-    room: usize,
-    at: usize,
-) -> usize
+    chains: &Chains,
+)
     requires indexed { Indexed k marks.now unions.now t.now }
-    requires addressable { Addressable room }
     requires long { Long l (length w.now) × (n.waiting ≤ l.waiting) }
     requires all_given { AllGiven (catalogue k marks.now unions.now t.now) (waiting_in l n.waiting w.now) }
-    requires linked { Linked (catalogue k marks.now unions.now t.now) (waiting_in l n.waiting w.now) n.waiting k.conditions 0 heads.now links.now }
-    ensures { Wrote at result (texts (condition_text (catalogue k marks.now unions.now t.now) (waiting_in l n.waiting w.now) n.waiting) k.conditions) room out.old out.new }
+    requires linked { Linked (catalogue k marks.now unions.now t.now) (waiting_in l n.waiting w.now) n.waiting k.conditions 0 chains.now.heads chains.now.links }
+    ensures { Writes writer.old writer.new (texts (condition_text (catalogue k marks.now unions.now t.now) (waiting_in l n.waiting w.now) n.waiting) k.conditions) }
 {
-    let mut a = at;
-    let mut i = 0;
-    while i < k.conditions {
-        a = waiting_of(marks, unions, t, k, w, l, n, heads, links, out, room, a, i);
-        i += 1;
+    for i in 0..k.conditions {
+        waiting_of(writer, marks, unions, t, k, w, l, n, chains, i);
     }
-    a
 }
 
 // The same, after making the chains; nothing where no entry waits.
 fn waiting_lines(
+    writer: &mut Writer,
     marks: &[u8],
     unions: &[u8],
     t: &[u8],
@@ -218,30 +186,26 @@ fn waiting_lines(
     w: &[u8],
     l: Limits,
     n: Counters,
-    out: &mut [u8],
-    room: usize,
-    at: usize,
-) -> usize
+)
     requires indexed { Indexed k marks.now unions.now t.now }
     requires well_formed { WellFormed (catalogue k marks.now unions.now t.now) }
-    requires addressable { Addressable room }
     requires long { Long l (length w.now) × (n.waiting ≤ l.waiting) }
     requires all_given { AllGiven (catalogue k marks.now unions.now t.now) (waiting_in l n.waiting w.now) }
-    ensures { Wrote at result (texts (condition_text (catalogue k marks.now unions.now t.now) (waiting_in l n.waiting w.now) n.waiting) k.conditions) room out.old out.new }
+    ensures { Writes writer.old writer.new (texts (condition_text (catalogue k marks.now unions.now t.now) (waiting_in l n.waiting w.now) n.waiting) k.conditions) }
 {
     if n.waiting == 0 {
-        return at;
+        return;
     }
-    let mut heads = [n.waiting as u16; 256];
-    let mut links = [0; 2048];
-    chains::link_entries(marks, unions, t, k, w, l, n, &mut heads, &mut links);
-    chained_lines(marks, unions, t, k, w, l, n, &heads, &links, out, room, at)
+    let mut chains = Chains::new(n.waiting as u16);
+    chains.link_entries(marks, unions, t, k, w, l, n);
+    chained_lines(writer, marks, unions, t, k, w, l, n, &chains);
 }
 
 // ---- the whole
 
 // Variables, clauses, owners and names.
 fn first_half(
+    writer: &mut Writer,
     marks: &[u8],
     unions: &[u8],
     t: &[u8],
@@ -250,21 +214,20 @@ fn first_half(
     clauses: &[u8],
     l: Limits,
     n: Counters,
-    out: &mut [u8],
-    room: usize,
-) -> usize
-    requires ready { Ready k marks.now unions.now t.now l n s.now room }
+)
+    requires ready { Ready k marks.now unions.now t.now l n s.now }
     requires good_rows { GoodRows (catalogue k marks.now unions.now t.now) l n (held l s.now) clauses.now }
-    ensures { Wrote 0 result (first_half (catalogue k marks.now unions.now t.now) n (held l s.now) clauses.now) room out.old out.new }
+    ensures { Writes writer.old writer.new (first_half (catalogue k marks.now unions.now t.now) n (held l s.now) clauses.now) }
 {
-    let a = state_lines::variable_lines(s, l, n, out, room, 0);
-    let b = clause_lines::clause_lines(marks, unions, t, k, s, clauses, l, n, out, room, a);
-    let c = state_lines::owner_lines(s, l, n, out, room, b);
-    state_lines::name_lines(s, l, n, out, room, c)
+    state_lines::variable_lines(writer, s, l, n);
+    clause_lines::clause_lines(writer, marks, unions, t, k, s, l, n, clauses);
+    state_lines::owner_lines(writer, s, l, n);
+    state_lines::name_lines(writer, s, l, n);
 }
 
 // Conflicts and asserted variables.
 fn clause_notes(
+    writer: &mut Writer,
     marks: &[u8],
     unions: &[u8],
     t: &[u8],
@@ -273,20 +236,18 @@ fn clause_notes(
     clauses: &[u8],
     l: Limits,
     n: Counters,
-    out: &mut [u8],
-    room: usize,
-    at: usize,
-) -> usize
-    requires ready { Ready k marks.now unions.now t.now l n s.now room }
+)
+    requires ready { Ready k marks.now unions.now t.now l n s.now }
     requires good_rows { GoodRows (catalogue k marks.now unions.now t.now) l n (held l s.now) clauses.now }
-    ensures { Wrote at result (clause_notes (catalogue k marks.now unions.now t.now) n (held l s.now) clauses.now) room out.old out.new }
+    ensures { Writes writer.old writer.new (clause_notes (catalogue k marks.now unions.now t.now) n (held l s.now) clauses.now) }
 {
-    let a = state_lines::conflict_lines(clauses, n, out, room, at);
-    clause_lines::assertion_lines(marks, unions, t, k, s, clauses, l, n, out, room, a)
+    state_lines::conflict_lines(writer, clauses, n);
+    clause_lines::assertion_lines(writer, marks, unions, t, k, s, l, n, clauses);
 }
 
 // Decisions and waiting entries.
 fn state_notes(
+    writer: &mut Writer,
     marks: &[u8],
     unions: &[u8],
     t: &[u8],
@@ -295,21 +256,19 @@ fn state_notes(
     w: &[u8],
     l: Limits,
     n: Counters,
-    out: &mut [u8],
-    room: usize,
-    at: usize,
-) -> usize
-    requires ready { Ready k marks.now unions.now t.now l n s.now room }
+)
+    requires ready { Ready k marks.now unions.now t.now l n s.now }
     requires decisions_le_variables { n.decisions ≤ l.variables }
     requires long { Long l (length w.now) × (n.waiting ≤ l.waiting) }
     requires all_given { AllGiven (catalogue k marks.now unions.now t.now) (waiting_in l n.waiting w.now) }
-    ensures { Wrote at result (state_notes (catalogue k marks.now unions.now t.now) k.conditions l n (held l s.now) w.now) room out.old out.new }
+    ensures { Writes writer.old writer.new (state_notes (catalogue k marks.now unions.now t.now) k.conditions l n (held l s.now) w.now) }
 {
-    let a = state_lines::decision_lines(s, l, n, out, room, at);
-    waiting_lines(marks, unions, t, k, w, l, n, out, room, a)
+    state_lines::decision_lines(writer, s, l, n);
+    waiting_lines(writer, marks, unions, t, k, w, l, n);
 }
 
 fn second_half(
+    writer: &mut Writer,
     marks: &[u8],
     unions: &[u8],
     t: &[u8],
@@ -319,19 +278,16 @@ fn second_half(
     w: &[u8],
     l: Limits,
     n: Counters,
-    out: &mut [u8],
-    room: usize,
-    at: usize,
-) -> usize
-    requires ready { Ready k marks.now unions.now t.now l n s.now room }
+)
+    requires ready { Ready k marks.now unions.now t.now l n s.now }
     requires good_rows { GoodRows (catalogue k marks.now unions.now t.now) l n (held l s.now) clauses.now }
     requires decisions_le_variables { n.decisions ≤ l.variables }
     requires long { Long l (length w.now) × (n.waiting ≤ l.waiting) }
     requires all_given { AllGiven (catalogue k marks.now unions.now t.now) (waiting_in l n.waiting w.now) }
-    ensures { Wrote at result (second_half (catalogue k marks.now unions.now t.now) k.conditions l n (held l s.now) clauses.now w.now) room out.old out.new }
+    ensures { Writes writer.old writer.new (second_half (catalogue k marks.now unions.now t.now) k.conditions l n (held l s.now) clauses.now w.now) }
 {
-    let a = clause_notes(marks, unions, t, k, s, clauses, l, n, out, room, at);
-    state_notes(marks, unions, t, k, s, w, l, n, out, room, a)
+    clause_notes(writer, marks, unions, t, k, s, clauses, l, n);
+    state_notes(writer, marks, unions, t, k, s, w, l, n);
 }
 
 // Writes the listing into `out`, as far as `room` goes; its length, or one more than `room` if it is longer than that.
@@ -357,6 +313,8 @@ pub fn write(
     requires all_given { AllGiven (catalogue k marks.now unions.now t.now) (waiting_in l n.waiting w.now) }
     ensures { Lists (catalogue k marks.now unions.now t.now) l n (held l s.now) clauses.now w.now room result out.old out.new }
 {
-    let a = first_half(marks, unions, t, k, s, clauses, l, n, out, room);
-    second_half(marks, unions, t, k, s, clauses, w, l, n, out, room, a)
+    let mut writer = Writer::new(out, room);
+    first_half(&mut writer, marks, unions, t, k, s, clauses, l, n);
+    second_half(&mut writer, marks, unions, t, k, s, clauses, w, l, n);
+    writer.at
 }

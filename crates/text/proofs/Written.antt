@@ -1,18 +1,13 @@
--- Laws for those who write: one piece behind another, in a loop, stopped; the pieces of a line; the two passes.
+-- What was written into an area: one piece behind another, stopped; the two passes.
 use mathlib.Core.Path.{◌≡◌, refl, ap, sym, ◌∙◌}
-use mathlib.Core.Bool.{Bool, true}
-use mathlib.Core.List.{List, [], ◌∷◌, ◌++◌, append_assoc, append-nil}
+use mathlib.Core.List.{List, [], ◌∷◌, ◌++◌, append-nil}
 use Prim.Native.Nat.{ℕ, zero, suc, ◌+◌, ◌-◌, ◌<◌, ◌≤◌}
 use native.Mathlib.Omega.{arith}
 use native.Mathlib.Nat.{add-zero}
 use native.Mathlib.Decide.{dec_lt}
-use lib.Dec.{ltb}
-use borrow.Author.Tests.{ltb-true}
 use lib.ListN.{length, get_or, set, take, drop, length-append, length-set}
 use lib.Seq.{sets, sets-eq, length-sets, set_out, get_or-set_same, get_or-set_other, take_all, length-take-le, take-nil}
-use Rattle.rules.specs.Lists.{concat_map}
-use Rattle.rules.specs.Listing.{line}
-use Rattle.text.specs.Text.{Wrote, wrote, WroteBut, wrote_but, fields}
+use Rattle.text.specs.Text.{Wrote, wrote}
 
 -- ---- parts of lists
 
@@ -95,9 +90,6 @@ module _ {room at r : ℕ} {o bs o' : List ℕ} where
   pub there : (i : ℕ) → Wrote at r bs room o o' → r ≤ room → i < length bs → at + i < length o → get_or o' (at + i) 0 ≡ get_or bs i 0
   there i f h g j = rw (is f, take_all (room - at) bs (omega (arith, fitted f h))) (sets_at o at bs i g j)
 
-pub whole : {room at : ℕ} {bs o : List ℕ} → at + length bs ≤ room → Wrote at (at + length bs) bs room o (sets o at bs)
-whole {room} {at} {bs} {o} h = wrote (rw (take_all (suc room - at) bs (omega arith))) (rw (take_all (room - at) bs (omega arith)))
-
 module _ {room at r : ℕ} {o o1 us : List ℕ} where
   pub then : {s : ℕ} {o2 vs : List ℕ} → Wrote at r us room o o1 → Wrote r s vs room o1 o2 → Wrote at s (us ++ vs) room o o2
   then {s} {o2} {vs} f g = wrote (next_then room at r s us vs (next f) (next g)) (is g ∙ rw (is f) (is_then room at r us vs o (next f)))
@@ -111,52 +103,6 @@ module _ {room at r : ℕ} {o o1 us : List ℕ} where
 
 pub nothing : (room at : ℕ) (o : List ℕ) → Wrote at at [] room o o
 nothing room at o = wrote (rw take-nil (omega arith)) (rw take-nil)
-
--- ---- in a loop: begun, one piece more, ended, stopped
-
-pub but_all : {at room : ℕ} {bs o : List ℕ} → WroteBut at at bs bs room o o
-but_all {at} {room} {bs} {o} = wrote_but [] refl (nothing room at o)
-
-module _ {at r room : ℕ} {bs o o1 : List ℕ} where
-  pub but_less : {s : ℕ} {o2 : List ℕ} (left us rest : List ℕ) → WroteBut at r left bs room o o1 → left ≡ us ++ rest → Wrote r s us room o1 o2 → WroteBut at s rest bs room o o2
-  but_less left us rest (wrote_but done e f) d g = wrote_but (done ++ us) (e ∙ rw (d, append_assoc)) (then f g)
-
-  pub but_none : WroteBut at r [] bs room o o1 → Wrote at r bs room o o1
-  but_none (wrote_but done e f) = rw (e, append-nil) f
-
-  pub but_over : {left : List ℕ} → WroteBut at r left bs room o o1 → room < r → Wrote at r bs room o o1
-  but_over {left} (wrote_but done e f) h = rw e (stopped left f h)
-
-pub over_is : {b : Bool} (room r : ℕ) → b ≡ ltb room r → b ≡ true → room < r
-over_is room r e t = ltb-true room r (sym e ∙ t)
-
--- ---- fields and lines
-
-pub line_of : (f : List ℕ) (fs : List (List ℕ)) → line (f ∷ fs) ≡ f ++ (fields fs ++ (10 ∷ []))
-unfolding line fields concat_map
-line_of f [] = refl
-line_of f (g ∷ fs) = ap (λ (l : List ℕ). f ++ (32 ∷ l)) (line_of g fs ∙ sym (append_assoc g (fields fs) (10 ∷ [])))
-
-pub fields_append : (fs gs : List (List ℕ)) → fields (fs ++ gs) ≡ fields fs ++ fields gs
-unfolding fields concat_map
-fields_append [] gs = refl
-fields_append (f ∷ fs) gs = ap (λ (l : List ℕ). 32 ∷ l) (ap (λ (l : List ℕ). f ++ l) (fields_append fs gs) ∙ sym (append_assoc f (fields fs) (fields gs)))
-
-pub fields_one : {room at r : ℕ} {o o1 f : List ℕ} → Wrote at r (32 ∷ f) room o o1 → Wrote at r (fields (f ∷ [])) room o o1
-unfolding fields concat_map
-fields_one w = rw append-nil w
-
-module _ {room at r : ℕ} {o o1 : List ℕ} where
-  module _ {s : ℕ} {o2 f : List ℕ} (fs : List (List ℕ)) where
-    pub fields_first : Wrote at r (32 ∷ f) room o o1 → Wrote r s (fields fs) room o1 o2 → Wrote at s (fields (f ∷ fs)) room o o2
-    unfolding fields concat_map
-    fields_first v w = then v w
-
-    pub line_is : {t : ℕ} {o3 : List ℕ} → Wrote at r f room o o1 → Wrote r s (fields fs) room o1 o2 → Wrote s t (10 ∷ []) room o2 o3 → Wrote at t (line (f ∷ fs)) room o o3
-    line_is u v w = rw (line_of f fs) (then u (then v w))
-
-  pub fields_then : {s : ℕ} {o2 : List ℕ} (fs gs : List (List ℕ)) → Wrote at r (fields fs) room o o1 → Wrote r s (fields gs) room o1 o2 → Wrote at s (fields (fs ++ gs)) room o o2
-  fields_then fs gs v w = rw (fields_append fs gs) (then v w)
 
 -- ---- two passes
 

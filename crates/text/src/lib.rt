@@ -1,183 +1,193 @@
-// The listing's bytes, written into a lent area: fields, numbers, words. The same functions serve the pass that only measures.
-// `room` is the length of the listing's area, `at` the place of the next byte; a function gives the place behind what it wrote.
-// Once the bytes no longer fit, the place is room + 1, nothing more is written, and the place stays.
+// The listing's bytes, written into a lent area: fields, numbers, words. The same writer serves the pass that only measures.
 #![tactic(auto)]
 
-ghost use Rattle.std.specs.Prelude.{◌≡◌, ◌∷◌, [], ◌-◌, ◌<◌, ◌≤◌, ltb, length};
-ghost use Rattle.std.proofs.lemmas.List.Edits.{sets};
+ghost use Rattle.std.specs.Prelude.{◌≡◌, ◌∷◌, [], ◌++◌, ◌+◌, ◌<◌, ◌≤◌, ltb, length};
 ghost use Rattle.rules.specs.Listing.{decimal, signed};
-ghost use Rattle.text.specs.Text.{Addressable, Wrote, literal_of};
+ghost use Rattle.text.specs.Text.{Addressable, literal_of, copied};
 
-// One byte.
-pub fn put(out: &mut [u8], room: usize, at: usize, b: u8) -> usize
-    requires { Addressable room }
-    ensures { Wrote at result (b ∷ []) room out.old out.new }
-{
-    if room < at {
-        return at;
-    }
-    if at < room {
-        if at < out.len() {
-            out[at] = b;
-            return at + 1;
-        }
-        return at + 1;
-    }
-    // the first byte that does not fit
-    at + 1
-}
-
-// The bytes of a word.
-pub fn word(out: &mut [u8], room: usize, at: usize, bytes: &[u8]) -> usize
-    requires { Addressable room }
-    ensures { Wrote at result bytes.now room out.old out.new }
-{
-    let mut a = at;
-    let mut i = 0;
-    while i < bytes.len() {
-        let b = bytes[i];
-        a = put(out, room, a, b);
-        i += 1;
-    }
-    a
-}
-
-// How many bytes there still is room for.
-fn free(room: usize, at: usize) -> usize
-    ensures { result ≡ room - at }
-{
-    if room < at {
-        return 0;
-    }
-    room - at
+// `room` is the length of the listing's area, which `out` is or an empty area in its place; `at` is the place of the next byte.
+// Once the bytes no longer fit, the place is room + 1, nothing more is written, and the place stays.
+#[derive(Drop)]
+pub struct Writer<'a> {
+    pub out: &'a mut [u8],
+    pub room: usize,
+    pub at: usize,
+    ghost addressable: { Addressable room },
 }
 
 // How many digits a number has.
 fn width(n: usize) -> usize
-    requires { n < 100000 }
-    ensures { (result ≡ length (decimal n)) × (result ≤ 5) }
+    ensures { result ≡ length (decimal n) }
 {
-    if n < 10 {
-        return 1;
-    }
-    if n < 100 {
-        return 2;
-    }
-    if n < 1000 {
-        return 3;
-    }
-    if n < 10000 {
-        return 4;
-    }
-    5
+    n.max(1).ilog10() as usize + 1
 }
 
-// The digits of a number up to place `end`, the last one first.
-fn digits(out: &mut [u8], end: usize, n: usize)
-    requires { (end ≤ length out.old) × (length (decimal n) ≤ end) }
-    ensures { out.new ≡ sets out.old (end - length (decimal n)) (decimal n) }
+// The digits of a number, the last one first.
+fn digits(out: &mut [u8], n: usize)
+    requires { length out.old ≡ length (decimal n) }
+    ensures { out.new ≡ decimal n }
 {
-    let mut i = end - 1;
-    let mut m = n;
-    while 9 < m {
-        out[i] = (48 + m % 10) as u8;
-        m = m / 10;
-        i -= 1;
-    }
-    out[i] = (48 + m) as u8;
-}
-
-// A number in decimal, one byte after another.
-fn bytes_of(out: &mut [u8], room: usize, at: usize, n: usize) -> usize
-    requires { Addressable room }
-    ensures { Wrote at result (decimal n) room out.old out.new }
-{
-    if n < 10 {
-        put(out, room, at, (48 + n) as u8)
-    } else {
-        let a = bytes_of(out, room, at, n / 10);
-        put(out, room, a, (48 + n % 10) as u8)
+    let mut left = n;
+    for i in (0..out.len()).rev() {
+        out[i] = (48 + left % 10) as u8;
+        left /= 10;
     }
 }
 
-// A number in decimal. Where five bytes fit a short one needs no test for each of its digits; while measuring none is made.
-pub fn decimal(out: &mut [u8], room: usize, at: usize, n: usize) -> usize
-    requires { Addressable room }
-    ensures { Wrote at result (decimal n) room out.old out.new }
+// The n bytes from place `begin` on, once more at place `at`, as far as the area reaches.
+fn copy(out: &mut [u8], begin: usize, n: usize, at: usize)
+    requires { begin + n ≤ at }
+    ensures { out.new ≡ copied out.old begin n at }
 {
-    let left = free(room, at);
-    if left < 5 {
-        return bytes_of(out, room, at, n);
+    if at < out.len() {
+        let (written, free) = out.split_at_mut(at);
+        let most = n.min(free.len());
+        free[..most].copy_from_slice(&written[begin..begin + most]);
     }
-    if 99999 < n {
-        return bytes_of(out, room, at, n);
+}
+
+impl<'a> Writer<'a> {
+    ghost use Rattle.text.specs.Writing.{Writes, Repeats};
+
+    pub fn new(out: &'a mut [u8], room: usize) -> Writer<'a>
+        requires { Addressable room }
+        ensures area { result.out.now ≡ out.old }
+        ensures same_reference { result.out.ghost_name ≡ out.entry.ghost_name }
+        ensures room { result.room ≡ room }
+        ensures start { result.at ≡ 0 }
+    {
+        Writer { out, room, at: 0 }
     }
-    let end = at + width(n);
-    if out.len() == 0 {
-        return end;
+
+    // The bytes up to here do not fit.
+    pub fn is_over(&self) -> bool
+        ensures { result ≡ ltb self.now.room self.now.at }
+    {
+        self.room < self.at
     }
-    if out.len() < end {
-        return bytes_of(out, room, at, n);
+
+    // One byte.
+    pub fn put(&mut self, byte: u8)
+        ensures { Writes self.old self.new (byte ∷ []) }
+    {
+        if self.is_over() {
+            return;
+        }
+        if self.at < self.room && self.at < self.out.len() {
+            self.out[self.at] = byte;
+        }
+        self.at += 1;
     }
-    digits(out, end, n);
-    end
-}
 
-pub fn space(out: &mut [u8], room: usize, at: usize) -> usize
-    requires { Addressable room }
-    ensures { Wrote at result (32 ∷ []) room out.old out.new }
-{
-    put(out, room, at, b' ')
-}
-
-pub fn line_feed(out: &mut [u8], room: usize, at: usize) -> usize
-    requires { Addressable room }
-    ensures { Wrote at result (10 ∷ []) room out.old out.new }
-{
-    put(out, room, at, b'\n')
-}
-
-// A space and a number.
-pub fn field_number(out: &mut [u8], room: usize, at: usize, n: usize) -> usize
-    requires { Addressable room }
-    ensures { Wrote at result (32 ∷ decimal n) room out.old out.new }
-{
-    let a = space(out, room, at);
-    decimal(out, room, a, n)
-}
-
-// A space and a word.
-pub fn field_word(out: &mut [u8], room: usize, at: usize, bytes: &[u8]) -> usize
-    requires { Addressable room }
-    ensures { Wrote at result (32 ∷ bytes.now) room out.old out.new }
-{
-    let a = space(out, room, at);
-    word(out, room, a, bytes)
-}
-
-// A space, a sign and a variable.
-pub fn field_literal(
-    out: &mut [u8],
-    room: usize,
-    at: usize,
-    variable: usize,
-    positive: bool,
-) -> usize
-    requires { Addressable room }
-    ensures { Wrote at result (32 ∷ signed (literal_of variable positive)) room out.old out.new }
-{
-    let a = space(out, room, at);
-    if positive {
-        let b = put(out, room, a, b'+');
-        return decimal(out, room, b, variable);
+    // The bytes of a word. Where they fit they need no test each; while measuring they are only counted.
+    pub fn word(&mut self, bytes: &[u8])
+        ensures { Writes self.old self.new bytes.now }
+    {
+        let end = self.at.saturating_add(bytes.len());
+        let length = self.out.len();
+        if end <= self.room.min(length) {
+            self.out[self.at..end].copy_from_slice(bytes);
+            self.at = end;
+        } else if end <= self.room && length == 0 {
+            self.at = end;
+        } else {
+            self.byte_by_byte(bytes);
+        }
     }
-    let b = put(out, room, a, b'-');
-    decimal(out, room, b, variable)
-}
 
-// The bytes up to here do not fit.
-pub fn over(room: usize, at: usize) -> bool
-    ensures { result ≡ ltb room at }
-{
-    room < at
+    fn byte_by_byte(&mut self, bytes: &[u8])
+        ensures { Writes self.old self.new bytes.now }
+    {
+        for byte in bytes {
+            self.put(*byte);
+        }
+    }
+
+    // A number in decimal.
+    pub fn decimal(&mut self, n: usize)
+        ensures { Writes self.old self.new (decimal n) }
+    {
+        self.number_behind(b"", n);
+    }
+
+    pub fn space(&mut self)
+        ensures { Writes self.old self.new (32 ∷ []) }
+    {
+        self.put(b' ');
+    }
+
+    pub fn line_feed(&mut self)
+        ensures { Writes self.old self.new (10 ∷ []) }
+    {
+        self.put(b'\n');
+    }
+
+    // A space and a number.
+    pub fn field_number(&mut self, n: usize)
+        ensures { Writes self.old self.new (32 ∷ decimal n) }
+    {
+        self.number_behind(b" ", n);
+    }
+
+    // A space and a word.
+    pub fn field_word(&mut self, bytes: &[u8])
+        ensures { Writes self.old self.new (32 ∷ bytes.now) }
+    {
+        self.space();
+        self.word(bytes);
+    }
+
+    // A space, a sign and a variable.
+    pub fn field_literal(&mut self, variable: usize, positive: bool)
+        ensures { Writes self.old self.new (32 ∷ signed (literal_of variable positive)) }
+    {
+        let lead = if positive { b" +" } else { b" -" };
+        self.number_behind(lead, variable);
+    }
+
+    // The n bytes from place `begin` on, once more, if they fit; while measuring there are none, and they are only counted.
+    pub fn repeat(&mut self, begin: usize, n: usize) -> bool
+        requires { begin + n ≤ self.old.at }
+        ensures { Repeats self.old self.new begin n result }
+    {
+        let end = self.at.saturating_add(n);
+        if self.room < end {
+            return false;
+        }
+        copy(self.out, begin, n, self.at);
+        self.at = end;
+        true
+    }
+
+    // A few bytes and a number. Where they fit they need no test each; while measuring they are only counted.
+    // Inlined, so that their number is known.
+    #[inline(always)]
+    fn number_behind(&mut self, lead: &[u8], n: usize)
+        ensures { Writes self.old self.new (lead.now ++ decimal n) }
+    {
+        let number = self.at.saturating_add(lead.len());
+        let end = number.saturating_add(width(n));
+        let length = self.out.len();
+        if end <= self.room.min(length) {
+            self.out[self.at..number].copy_from_slice(lead);
+            digits(&mut self.out[number..end], n);
+            self.at = end;
+        } else if end <= self.room && length == 0 {
+            self.at = end;
+        } else {
+            self.byte_by_byte(lead);
+            self.digit_by_digit(n);
+        }
+    }
+
+    fn digit_by_digit(&mut self, n: usize)
+        ensures { Writes self.old self.new (decimal n) }
+    {
+        if n < 10 {
+            self.put((48 + n) as u8);
+        } else {
+            self.digit_by_digit(n / 10);
+            self.put((48 + n % 10) as u8);
+        }
+    }
 }

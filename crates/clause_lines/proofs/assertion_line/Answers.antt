@@ -6,5 +6,5 @@ use Rattle.clause_lines.proofs.assertion_line.Goals as goal
 pub returns-then-asserts : goal.returns-then-asserts
 returns-then-asserts c = search (rules, assertion_yes)
 
-pub returns : goal.returns
-returns c = search (rules, assertion_no)
+pub returns-else-asserts : goal.returns-else-asserts
+returns-else-asserts c = search (rules, assertion_no)

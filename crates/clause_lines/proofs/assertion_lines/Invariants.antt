@@ -1,13 +1,9 @@
 -- `clause_lines::assertion_lines` prints a line for each asserted variable.
-use Prim.Native.Nat.{◌-◌}
+use Rattle.text.specs.Writing.{Writes}
 use Rattle.state.specs.Layout.{held}
 use Rattle.cache.specs.Areas.{catalogue}
-use Rattle.line_fields.specs.Listed.{assertion_text, clauses_of}
-use Rattle.line_fields.proofs.Printing.{Printing}
+use Rattle.line_fields.specs.Listed.{texts, assertion_text, clauses_of}
 use Rattle.clause_lines.proofs.assertion_lines.Given as goal
 
 abbrev pub invariant-loop-i : goal.invariant-loop-i
-invariant-loop-i l = Printing (assertion_text (clauses_of (catalogue l.k l.marks l.unions l.t) l.n (held l.l l.s) l.clauses)) l.n.clauses l.at l.a l.i l.room l.initial.out l.out
-
-abbrev pub decreases-loop-i : goal.decreases-loop-i
-decreases-loop-i l = l.n.clauses - l.i
+invariant-loop-i l = Writes l.initial.writer l.writer (texts (assertion_text (clauses_of (catalogue l.k l.marks l.unions l.t) l.n (held l.l l.s) l.clauses)) l.i)

@@ -9,5 +9,5 @@ variable_of-x-requires-clause-o_value c = search (rules, in_tables_law)
 pub returns-then-chosen : goal.returns-then-chosen
 returns-then-chosen c = search (rules, chosen_yes)
 
-pub returns : goal.returns
-returns c = search (rules, chosen_no)
+pub returns-else-chosen : goal.returns-else-chosen
+returns-else-chosen c = search (rules, chosen_no)

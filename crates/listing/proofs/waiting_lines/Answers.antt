@@ -6,9 +6,6 @@ use Rattle.listing.proofs.waiting_lines.Goals as goal
 pub returns-then-n-eq0 : goal.returns-then-n-eq0
 returns-then-n-eq0 c = search (rules, none_waiting)
 
-pub chained_lines-requires-clause-addressable : goal.chained_lines-requires-clause-addressable
-chained_lines-requires-clause-addressable c = c.requires.addressable
-
 pub chained_lines-requires-clause-long : goal.chained_lines-requires-clause-long
 chained_lines-requires-clause-long c = c.requires.long
 

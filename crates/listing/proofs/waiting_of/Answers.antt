@@ -5,8 +5,8 @@ use Rattle.listing.proofs.waiting_of.Goals as goal
 pub loop-i-init : goal.loop-i-init
 loop-i-init c = search (rules, walking_start)
 
-pub waiting_line-a-requires-clause-c_lt_conditions : goal.waiting_line-a-requires-clause-c_lt_conditions
-waiting_line-a-requires-clause-c_lt_conditions c = (search rules, search rules, search (rules, walking_here))
+pub waiting_line-requires-clause-c_lt_conditions : goal.waiting_line-requires-clause-c_lt_conditions
+waiting_line-requires-clause-c_lt_conditions c = (search rules, search rules, search (rules, walking_here))
 
 pub loop-i-smaller : goal.loop-i-smaller
 loop-i-smaller c = search (rules, walking_less)

@@ -6,7 +6,7 @@ use Rattle.listing.proofs.Linking.{Walking}
 use Rattle.listing.proofs.waiting_of.Given as goal
 
 abbrev pub invariant-loop-i : goal.invariant-loop-i
-invariant-loop-i l = Walking (catalogue l.k l.marks l.unions l.t) (waiting_in l.l l.n.waiting l.w) l.n.waiting l.k.conditions l.heads l.links l.c l.at l.a l.i l.room l.initial.out l.out
+invariant-loop-i l = Walking (catalogue l.k l.marks l.unions l.t) (waiting_in l.l l.n.waiting l.w) l.n.waiting l.k.conditions l.chains.heads l.chains.links l.c l.i l.initial.writer l.writer
 
 abbrev pub decreases-loop-i : goal.decreases-loop-i
 decreases-loop-i l = l.n.waiting - l.i

@@ -1,9 +1,6 @@
--- `text::digits` meets its contract. The invariant: the digits behind place i are written, and m has the others.
+-- `text::digits` meets its contract. The invariant: the digits from place i on are written, and `left` has the others.
 use Rattle.text.proofs.Laws.{Digits}
 use Rattle.text.proofs.digits.Given as goal
 
-abbrev pub invariant-loop-m : goal.invariant-loop-m
-invariant-loop-m l = Digits l.n l.end l.initial.out l.out l.i l.m
-
-abbrev pub decreases-loop-m : goal.decreases-loop-m
-decreases-loop-m l = l.m
+abbrev pub invariant-loop-i : goal.invariant-loop-i
+invariant-loop-i l = Digits l.n l.out l.i l.left
