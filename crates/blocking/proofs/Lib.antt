@@ -1,11 +1,11 @@
 pub mod Barring
 pub mod Classes
 pub mod Watching
-pub mod Blocking
+pub mod Blocked
 pub mod Releasing
 pub mod Verdicts
 pub mod Asking
-pub mod Listing
+pub mod Lists
 pub mod Sharing
 pub mod Bars
 pub mod Judging

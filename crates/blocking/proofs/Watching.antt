@@ -4,9 +4,8 @@ use mathlib.Core.Bool.{Bool, true, false, ◌||◌, true≢false, false≢true}
 use mathlib.Core.List.{List}
 use Prim.Native.Nat.{ℕ, ◌+◌, ◌%◌, ◌<◌, ◌≤◌}
 use native.Mathlib.Omega.{arith}
-use native.Mathlib.Decide.{dec_lt}
 use lib.Dec.{eqb}
-use lib.ListN.{length, get_or, set, length-set, get_or-eq_default}
+use lib.ListN.{length, get_or, set, length-set}
 use lib.Seq.{get_or-set_same, get_or-set_other}
 use borrow.Author.Tests.{eqb-true, eqb-false, eq-eqb}
 use Rattle.rules.specs.Lists.{any, up_to}
@@ -26,7 +25,7 @@ use Rattle.cache.proofs.Lists.{member_in, matching_is}
 use Rattle.index.specs.Chains.{Skips}
 use Rattle.index.proofs.Walking.{walk}
 use Rattle.entries.specs.Deferred.{is_held, is_free}
-use Rattle.entries.proofs.Places.{is_held_law}
+use Rattle.entries.proofs.Places.{is_free_law, is_held_law}
 use Rattle.blocking.specs.Blocking.{watched_for, all_watched, Unmet, PartsWatched}
 
 -- ---- one flag more or less
@@ -40,10 +39,10 @@ module _ (flags : List ℕ) (p : ℕ) where
   unfolding is_held is_free
   held_gone h = rw (get_or-set_same flags p 0 0 h)
 
-  -- a flag that is set is there
-  pub held_inside : is_held flags p ≡ true → p < length flags
-  unfolding is_held is_free
-  held_inside e = elim (dec_lt p (length flags)) [ yes h ↦ h | no h ↦ absurd (false≢true (rw (get_or-eq_default flags 0 {n = p} (omega arith)) at e)) ]
+  -- where 0 stands or nothing, none is set
+  pub held_none : get_or flags p 0 ≡ 0 → is_held flags p ≡ false
+  unfolding is_held
+  held_none h = rw (is_free_law flags p h) refl
 
 -- ---- one part is watched for range r
 
@@ -67,8 +66,7 @@ for_here w r p v h b i = rw (get_or-set_same w p v 0 h) (b.is (i % 16))
 
 -- the loop at part p
 pub record Watching (c : Catalogue) (r p : ℕ) (watched watched' : List ℕ) : Type 0 where
-  pub room : length watched ≡ 1024
-  pub long : length watched' ≡ length watched
+  pub room : length watched' ≡ 1024
   pub still : (i q : ℕ) → watched_for watched i q ≡ true → watched_for watched' i q ≡ true
   pub passed : (q : ℕ) → q < p → chosen c r Matching q ≡ true → watched_for watched' r q ≡ true
   pub unmet : (f : ℕ → Bool) → any f (matching c r) ≡ false → Unmet f watched → Unmet f watched'
@@ -99,7 +97,6 @@ module _ (k : Counts) (m u t : List ℕ) (r : ℕ) where
     watch_next i e z =
         record {
           room = z.room;
-          long = z.long;
           still = z.still;
           passed = λ q l d. by_cases (eqb q i) (λ j. absurd (true≢false (sym d ∙ rw (eqb-true q i j) e))) (λ j. z.passed q (omega (arith, eqb-false q i j)) d);
           unmet = z.unmet;
@@ -110,7 +107,7 @@ module _ (k : Counts) (m u t : List ℕ) (r : ℕ) where
 
     pub watch_first : {x : ℕ} → length w ≡ 1024 → Skips k.parts (chosen C r Matching) 0 x → Watching C r x w w
     watch_first h s =
-        watch_on s (record { room = h; long = refl; still = λ i q e. e; passed = λ q l d. let no : ⊥ = omega arith in absurd no; unmet = λ f e o. o })
+        watch_on s (record { room = h; still = λ i q e. e; passed = λ q l d. let no : ⊥ = omega arith in absurd no; unmet = λ f e o. o })
 
     module _ {p x : ℕ} {w' : List ℕ} (y : Watching C r p w w') (b : Bool) (h : p < k.parts) (e : b ≡ chosen C r Matching p)
         (s : Skips k.parts (chosen C r Matching) (p + 1) x) where
@@ -120,8 +117,7 @@ module _ (k : Counts) (m u t : List ℕ) (r : ℕ) where
       pub watch_flag : {v : ℕ} {w'' : List ℕ} → k.parts ≤ 1024 → b ≡ true → WithBit (r % 16) (get_or w' p 0) v → w'' ≡ set w' p v → Watching C r x w w''
       watch_flag {v} most d n a =
           rw a (watch_on s (record {
-            room = y.room;
-            long = length-set w' p v ∙ y.long;
+            room = length-set w' p v ∙ y.room;
             still = λ i q j. by_cases (eqb q p) (λ o. let z = eqb-true q p o in rw z (still i (y.still i p (rw z at j)))) (λ o. other i q o (y.still i q j));
             passed = λ q l c. by_cases (eqb q p) (λ o. rw (eqb-true q p o) here) (λ o. other r q o (y.passed q (omega (arith, eqb-false q p o)) c));
             unmet = λ f o u. record {
@@ -131,7 +127,7 @@ module _ (k : Counts) (m u t : List ℕ) (r : ℕ) where
           }))
         where
           now_for : (i : ℕ) → watched_for (set w' p v) i p ≡ (eqb (i % 16) (r % 16) || watched_for w' i p)
-          now_for = for_here w' r p v (omega (arith, y.long, y.room)) n
+          now_for = for_here w' r p v (omega (arith, y.room)) n
 
           here : watched_for (set w' p v) r p ≡ true
           here = now_for r ∙ rw (eq-eqb (r % 16) (r % 16) refl)
@@ -143,17 +139,19 @@ module _ (k : Counts) (m u t : List ℕ) (r : ℕ) where
           other i q j o = for_other w' i p v q (eqb-false q p j) ∙ o
 
     module _ {p : ℕ} {w' : List ℕ} (y : Watching C r p w w') where
-      watched_parts : (left : ℕ) → (1 ≤ left → all_watched C w' r ≡ true) → PartsWatched C r left w w'
-      watched_parts left a = record { long = y.long; still = y.still; all = a; unmet = y.unmet }
-
       -- not all of them
-      pub watched_some : PartsWatched C r 0 w w'
-      watched_some = watched_parts 0 (λ h. let no : ⊥ = omega arith in absurd no)
+      pub watched_some : PartsWatched C r false w w'
+      watched_some = record { still = y.still; all = λ e. absurd (false≢true e); unmet = y.unmet }
 
       -- all
-      pub watched_all : (left : ℕ) → k.parts ≤ p → PartsWatched C r left w w'
+      pub watched_all : k.parts ≤ p → PartsWatched C r true w w'
       unfolding all_watched
-      watched_all left h = watched_parts left (λ _. all_in (watched_for w' r) (matching C r) (λ q m. let d = match_is q m in y.passed q (omega (arith, d.0)) d.1))
+      watched_all h =
+          record {
+            still = y.still;
+            all = λ _. all_in (watched_for w' r) (matching C r) (λ q m. let d = match_is q m in y.passed q (omega (arith, d.0)) d.1);
+            unmet = y.unmet;
+          }
 
 -- where more is watched
 pub all_more : (c : Catalogue) (w w' : List ℕ) → ((i p : ℕ) → watched_for w i p ≡ true → watched_for w' i p ≡ true) → (r : ℕ) → all_watched c w r ≡ true → all_watched c w' r ≡ true

@@ -1,5 +1,5 @@
 -- Whether a disjunct of a condition holds, and conditions that are blocked: as long as no watched part is decided true, none of their disjuncts holds.
-use Rattle.std.specs.Prelude.{◌≡◌, Bool, true, false, not, cond, ◌&&◌, ◌||◌, List, [], ℕ, ◌+◌, ◌*◌, ◌%◌, ◌<◌, ◌≤◌, eqb, length, get_or}
+use Rattle.std.specs.Prelude.{◌≡◌, Bool, true, false, not, ◌||◌, List, [], Option, Some, None, ℕ, ◌%◌, ◌<◌, ◌≤◌, eqb, length, get_or}
 use Rattle.rules.specs.AtMostOne.{bit}
 use Rattle.rules.specs.Lists.{any, all}
 use Rattle.rules.specs.Called.{◌∈◌}
@@ -8,6 +8,8 @@ use Rattle.rules.specs.Candidates.{matching}
 use Rattle.rules.specs.Conditions.{Disjunct, disjuncts}
 use Rattle.rules.specs.Opening.{holds_now}
 use Rattle.tables.specs.declared.Counts.{Counts}
+use Rattle.conditions.specs.declared.Disjunct as code
+use Rattle.conditions.specs.Sizes.{Carries}
 use Rattle.marks.specs.Marks.{is_marked}
 use Rattle.cache.specs.Areas.{catalogue}
 use Rattle.state.specs.declared.Limits.{Limits}
@@ -16,6 +18,12 @@ use Rattle.variable_map.specs.Mapping.{Mapped}
 use Rattle.decision_tracker.specs.Tracking.{Kept}
 use Rattle.entries.specs.Deferred.{is_held}
 use Rattle.goals.specs.Goals.{Catalogued}
+use Rattle.blocking.specs.declared.Shared.{Shared}
+use Rattle.blocking.specs.declared.Listing.{Listing}
+use Rattle.blocking.specs.declared.Verdict.{Verdict}
+use Rattle.blocking.specs.declared.Known.{Known}
+use Rattle.blocking.specs.declared.Barrier.{Barrier}
+use Rattle.blocking.specs.declared.Blocking.{Blocking}
 
 -- each disjunct of condition x has a range that passes
 pub record Barred (cs : List Condition) (f : ℕ → Bool) (x : ℕ) : Type 0 where
@@ -35,30 +43,39 @@ all_watched c watched r = all (watched_for watched r) (matching c r)
 pub record Unmet (true? : ℕ → Bool) (watched : List ℕ) : Type 0 where
   pub none : (p : ℕ) → is_held watched p ≡ true → true? p ≡ false
 
--- matching parts of range r are watched besides: all of them, unless nothing is left
-pub record PartsWatched (c : Catalogue) (r left : ℕ) (watched watched' : List ℕ) : Type 0 where
-  pub long : length watched' ≡ length watched
+-- matching parts of range r are watched besides: if b is true all of them
+pub record PartsWatched (c : Catalogue) (r : ℕ) (b : Bool) (watched watched' : List ℕ) : Type 0 where
   pub still : (i p : ℕ) → watched_for watched i p ≡ true → watched_for watched' i p ≡ true
-  pub all : 1 ≤ left → all_watched c watched' r ≡ true
+  pub all : b ≡ true → all_watched c watched' r ≡ true
   pub unmet : (f : ℕ → Bool) → any f (matching c r) ≡ false → Unmet f watched → Unmet f watched'
 
--- ---- what is blocked: condition x at x, range r at 256 + r
+-- ---- what is blocked
 
--- what stands at x is blocked
-unfoldable pub is_blocked : List ℕ → ℕ → Bool
-is_blocked blocked x = eqb (get_or blocked x 0) 1
+-- condition x is
+unfoldable pub is_blocked : Blocking → ℕ → Bool
+is_blocked s x = get_or s.conditions x false
 
-unfoldable pub range_blocked : List ℕ → ℕ → Bool
-range_blocked blocked r = is_blocked blocked (256 + r)
+-- range r is
+abbrev pub blocks_range : Barrier → Bool
+blocks_range Barrier.Open = false
+blocks_range Barrier.Blocked = true
+blocks_range Barrier.TooWide = false
+
+unfoldable pub range_blocked : Blocking → ℕ → Bool
+range_blocked s r = blocks_range (get_or s.ranges r Barrier.Open)
+
+-- nothing is blocked or watched
+pub record NothingBlocked (s : Blocking) : Type 0 where
+  pub conditions : (x : ℕ) → is_blocked s x ≡ false
+  pub ranges : (r : ℕ) → range_blocked s r ≡ false
+  pub watched : (p : ℕ) → is_held s.watched p ≡ false
 
 -- each disjunct of a blocked condition has a range whose matching parts are watched, so are those of a blocked range, and no watched part is decided true
-pub record Blocked (c : Catalogue) (true? : ℕ → Bool) (blocked watched : List ℕ) : Type 0 where
-  pub room : length blocked ≡ 768
-  pub long : length watched ≡ 1024
-  pub given : (x : ℕ) → x < 256 → is_blocked blocked x ≡ true → x < length c.conditions
-  pub barred : (x : ℕ) → x < 256 → is_blocked blocked x ≡ true → Barred c.conditions (all_watched c watched) x
-  pub ranges : (r : ℕ) → range_blocked blocked r ≡ true → (r < length c.ranges) × (all_watched c watched r ≡ true)
-  pub unmet : Unmet true? watched
+pub record Blocked (c : Catalogue) (true? : ℕ → Bool) (s : Blocking) : Type 0 where
+  pub given : (x : ℕ) → is_blocked s x ≡ true → x < length c.conditions
+  pub barred : (x : ℕ) → is_blocked s x ≡ true → Barred c.conditions (all_watched c s.watched) x
+  pub ranges : (r : ℕ) → range_blocked s r ≡ true → (r < length c.ranges) × (all_watched c s.watched r ≡ true)
+  pub unmet : Unmet true? s.watched
 
 -- the catalogue and the state are held, with n variables and d decisions
 pub record Sees (k : Counts) (m u t : List ℕ) (l : Limits) (n d : ℕ) (s : List ℕ) : Type 0 where
@@ -68,171 +85,195 @@ pub record Sees (k : Counts) (m u t : List ℕ) (l : Limits) (n d : ℕ) (s : Li
   pub kept : Kept l d (held l s)
 
 -- if b is true no disjunct of condition x holds; what is blocked stays so
-pub record Blocks (c : Catalogue) (true? : ℕ → Bool) (x : ℕ) (b : Bool) (blocked watched blocked' watched' : List ℕ) : Type 0 where
-  pub none : b ≡ true → Blocked c true? blocked watched → (d : Disjunct) → d ∈ disjuncts c.conditions x → holds_now c true? d ≡ false
-  pub keeps : Blocked c true? blocked watched → Blocked c true? blocked' watched'
+pub record Blocks (c : Catalogue) (true? : ℕ → Bool) (x : ℕ) (b : Bool) (s s' : Blocking) : Type 0 where
+  pub none : b ≡ true → Blocked c true? s → (d : Disjunct) → d ∈ disjuncts c.conditions x → holds_now c true? d ≡ false
+  pub keeps : Blocked c true? s → Blocked c true? s'
 
 -- ---- blocked ranges
 
 -- range r is blocked if b is true, and what was blocked still is: rightly if the range does not hold
-pub record RangeBars (c : Catalogue) (r : ℕ) (b : Bool) (blocked watched blocked' watched' : List ℕ) : Type 0 where
-  pub long : length watched' ≡ length watched
-  pub still : (i : ℕ) → range_blocked blocked i ≡ true → range_blocked blocked' i ≡ true
-  pub is : b ≡ true → length blocked ≡ 768 → range_blocked blocked' r ≡ true
-  pub keeps : (f : ℕ → Bool) → any f (matching c r) ≡ false → Blocked c f blocked watched → Blocked c f blocked' watched'
+pub record RangeBars (c : Catalogue) (r : ℕ) (b : Bool) (s s' : Blocking) : Type 0 where
+  pub still : (i : ℕ) → range_blocked s i ≡ true → range_blocked s' i ≡ true
+  pub is : b ≡ true → range_blocked s' r ≡ true
+  pub keeps : (f : ℕ → Bool) → any f (matching c r) ≡ false → Blocked c f s → Blocked c f s'
 
--- ---- verdicts: that of condition x is at x, that of range r at 256 + r
+-- ---- verdicts
 
 -- none of the matching parts of range r is decided true
 unfoldable pub fails : Catalogue → (true? : ℕ → Bool) → ℕ → Bool
 fails c true? r = not (any true? (matching c r))
 
--- what verdict v of range r says: 1, nothing, any other, that it does not hold, and 2, that it is blocked
-pub record RangeSays (c : Catalogue) (true? : ℕ → Bool) (blocked : List ℕ) (r v : ℕ) : Type 0 where
-  pub fails : (v ≡ 1 → ⊥) → fails c true? r ≡ true
-  pub barred : v ≡ 2 → range_blocked blocked r ≡ true
+-- the verdicts of condition x and of range r
+abbrev pub condition_at : Known → ℕ → Verdict
+condition_at vs x = get_or vs.conditions x Verdict.Unasked
+
+abbrev pub range_at : Known → ℕ → Verdict
+range_at vs r = get_or vs.ranges r Verdict.Unasked
+
+-- nothing was asked
+pub record NothingAsked (vs : Known) : Type 0 where
+  pub conditions : (x : ℕ) → condition_at vs x ≡ Verdict.Unasked
+  pub ranges : (r : ℕ) → range_at vs r ≡ Verdict.Unasked
+
+-- what verdict v of range r says: that it holds, nothing, any other, that it does not hold, and that it is barred, that it is blocked
+pub record RangeSays (c : Catalogue) (true? : ℕ → Bool) (s : Blocking) (r : ℕ) (v : Verdict) : Type 0 where
+  pub fails : (v ≡ Verdict.Holds → ⊥) → fails c true? r ≡ true
+  pub barred : v ≡ Verdict.Barred → range_blocked s r ≡ true
 
 -- the same of condition x: each disjunct has such a range
-pub record Says (c : Catalogue) (true? : ℕ → Bool) (blocked : List ℕ) (x v : ℕ) : Type 0 where
-  pub fails : (v ≡ 1 → ⊥) → Barred c.conditions (fails c true?) x
-  pub barred : v ≡ 2 → Barred c.conditions (range_blocked blocked) x
+pub record Says (c : Catalogue) (true? : ℕ → Bool) (s : Blocking) (x : ℕ) (v : Verdict) : Type 0 where
+  pub fails : (v ≡ Verdict.Holds → ⊥) → Barred c.conditions (fails c true?) x
+  pub barred : v ≡ Verdict.Barred → Barred c.conditions (range_blocked s) x
 
 -- what is blocked is so rightly, and the verdicts are right of what was asked
-pub record Right (c : Catalogue) (true? : ℕ → Bool) (vs blocked watched : List ℕ) : Type 0 where
-  pub flags : Blocked c true? blocked watched
-  pub room : length vs ≡ 768
-  pub ranges : (r : ℕ) → (get_or vs (256 + r) 0 ≡ 0 → ⊥) → RangeSays c true? blocked r (get_or vs (256 + r) 0)
-  pub conditions : (x : ℕ) → x < 256 → (get_or vs x 0 ≡ 0 → ⊥) → Says c true? blocked x (get_or vs x 0)
+pub record Right (c : Catalogue) (true? : ℕ → Bool) (vs : Known) (s : Blocking) : Type 0 where
+  pub flags : Blocked c true? s
+  pub ranges : (r : ℕ) → (range_at vs r ≡ Verdict.Unasked → ⊥) → RangeSays c true? s r (range_at vs r)
+  pub conditions : (x : ℕ) → (condition_at vs x ≡ Verdict.Unasked → ⊥) → Says c true? s x (condition_at vs x)
 
 -- more was asked: ranges are blocked besides, and what is right stays so
-pub record Grows (c : Catalogue) (true? : ℕ → Bool) (vs blocked watched vs' blocked' watched' : List ℕ) : Type 0 where
-  pub long : length watched' ≡ length watched
-  pub still : (r : ℕ) → range_blocked blocked r ≡ true → range_blocked blocked' r ≡ true
-  pub keeps : Right c true? vs blocked watched → Right c true? vs' blocked' watched'
+pub record Grows (c : Catalogue) (true? : ℕ → Bool) (vs : Known) (s : Blocking) (vs' : Known) (s' : Blocking) : Type 0 where
+  pub still : (r : ℕ) → range_blocked s r ≡ true → range_blocked s' r ≡ true
+  pub keeps : Right c true? vs s → Right c true? vs' s'
 
 -- range r was: v is its verdict
-pub record RangeJudged (c : Catalogue) (true? : ℕ → Bool) (r v : ℕ) (vs blocked watched vs' blocked' watched' : List ℕ) : Type 0 where
-  pub grows : Grows c true? vs blocked watched vs' blocked' watched'
-  pub says : Right c true? vs blocked watched → RangeSays c true? blocked' r v
+pub record RangeJudged (c : Catalogue) (true? : ℕ → Bool) (r : ℕ) (v : Verdict) (vs : Known) (s : Blocking) (vs' : Known) (s' : Blocking) : Type 0 where
+  pub grows : Grows c true? vs s vs' s'
+  pub says : Right c true? vs s → RangeSays c true? s' r v
 
 -- condition x was
-pub record Judged (c : Catalogue) (true? : ℕ → Bool) (x v : ℕ) (vs blocked watched vs' blocked' watched' : List ℕ) : Type 0 where
-  pub grows : Grows c true? vs blocked watched vs' blocked' watched'
-  pub says : Right c true? vs blocked watched → Says c true? blocked' x v
+pub record Judged (c : Catalogue) (true? : ℕ → Bool) (x : ℕ) (v : Verdict) (vs : Known) (s : Blocking) (vs' : Known) (s' : Blocking) : Type 0 where
+  pub grows : Grows c true? vs s vs' s'
+  pub says : Right c true? vs s → Says c true? s' x v
 
 -- the left half tells of an `and` unless it holds, of an `or` if it does
-unfoldable pub told_by_left : (operator first : ℕ) → Bool
-told_by_left operator first = cond (eqb operator 0) (not (eqb first 1)) (eqb first 1)
+abbrev pub told_by_left : (is_and : Bool) → (first : Verdict) → Bool
+told_by_left true Verdict.Holds = false
+told_by_left true Verdict.Unasked = true
+told_by_left true Verdict.Barred = true
+told_by_left true Verdict.Fails = true
+told_by_left false Verdict.Holds = true
+told_by_left false Verdict.Unasked = false
+told_by_left false Verdict.Barred = false
+told_by_left false Verdict.Fails = false
 
 -- or else the right half tells; but not of an `or` that it is barred: the left half tells that
-unfoldable pub of_halves : (operator first second : ℕ) → ℕ
-of_halves operator first second = cond (eqb operator 0) second (cond (eqb second 2) first second)
+abbrev pub of_halves : (is_and : Bool) → (first second : Verdict) → Verdict
+of_halves true first second = second
+of_halves false first Verdict.Barred = first
+of_halves false first Verdict.Unasked = Verdict.Unasked
+of_halves false first Verdict.Holds = Verdict.Holds
+of_halves false first Verdict.Fails = Verdict.Fails
 
 -- ---- part p is decided true
 
 -- nothing else is blocked than before
-pub record Fewer (blocked blocked' : List ℕ) : Type 0 where
-  pub room : length blocked' ≡ length blocked
-  pub before : (x : ℕ) → is_blocked blocked' x ≡ true → is_blocked blocked x ≡ true
-
--- no condition is blocked
-pub record ReleasesConditions (blocked blocked' : List ℕ) : Type 0 where
-  pub fewer : Fewer blocked blocked'
-  pub none : (x : ℕ) → x < 256 → is_blocked blocked' x ≡ false
+pub record Fewer (s s' : Blocking) : Type 0 where
+  pub conditions : s'.conditions ≡ s.conditions
+  pub before : (r : ℕ) → range_blocked s' r ≡ true → range_blocked s r ≡ true
+  pub watched : s'.watched ≡ s.watched
 
 -- if p is a member of range r, that is not blocked
-pub record ReleasesRange (m : List ℕ) (p r : ℕ) (blocked blocked' : List ℕ) : Type 0 where
-  pub fewer : Fewer blocked blocked'
-  pub free : is_marked m r p ≡ true → range_blocked blocked' r ≡ false
+pub record ReleasesRange (m : List ℕ) (p r : ℕ) (s s' : Blocking) : Type 0 where
+  pub fewer : Fewer s s'
+  pub free : is_marked m r p ≡ true → range_blocked s' r ≡ false
 
 -- no range of class j is that p is a member of
-pub record ReleasesClass (k : Counts) (m : List ℕ) (p j : ℕ) (blocked blocked' : List ℕ) : Type 0 where
-  pub fewer : Fewer blocked blocked'
-  pub free : (r : ℕ) → r < k.ranges → r % 16 ≡ j → is_marked m r p ≡ true → range_blocked blocked' r ≡ false
+pub record ReleasesClass (k : Counts) (m : List ℕ) (p j : ℕ) (s s' : Blocking) : Type 0 where
+  pub fewer : Fewer s s'
+  pub free : (r : ℕ) → r < k.ranges → r % 16 ≡ j → is_marked m r p ≡ true → range_blocked s' r ≡ false
 
 -- nor is one of a class whose bit is set in v
-pub record ReleasesWatched (k : Counts) (m : List ℕ) (p v : ℕ) (blocked blocked' : List ℕ) : Type 0 where
-  pub fewer : Fewer blocked blocked'
-  pub free : (r : ℕ) → r < k.ranges → bit (r % 16) v ≡ true → is_marked m r p ≡ true → range_blocked blocked' r ≡ false
+pub record ReleasesWatched (k : Counts) (m : List ℕ) (p v : ℕ) (s s' : Blocking) : Type 0 where
+  pub fewer : Fewer s s'
+  pub free : (r : ℕ) → r < k.ranges → bit (r % 16) v ≡ true → is_marked m r p ≡ true → range_blocked s' r ≡ false
 
 -- where no part but p was made true, what is blocked now is so rightly
-pub record Releases (k : Counts) (m : List ℕ) (p : ℕ) (blocked watched blocked' watched' : List ℕ) : Type 0 where
+pub record Releases (k : Counts) (m : List ℕ) (p : ℕ) (s s' : Blocking) : Type 0 where
   pub is : (u t : List ℕ) {true? now? : ℕ → Bool} → ((q : ℕ) → (q ≡ p → ⊥) → now? q ≡ true? q)
-      → Blocked (catalogue k m u t) true? blocked watched → Blocked (catalogue k m u t) now? blocked' watched'
+      → Blocked (catalogue k m u t) true? s → Blocked (catalogue k m u t) now? s'
 
 -- ---- the disjuncts of one condition, listed
 
--- disjunct i of condition x stands in the lists: how many ranges it has at 1024 + i, and range j at 16 i + j
-pub record Stands (cs : List Condition) (lists : List ℕ) (x i : ℕ) : Type 0 where
-  pub len : get_or lists (1024 + i) 0 ≡ length (get_or (disjuncts cs x) i [])
-  pub short : get_or lists (1024 + i) 0 ≤ 16
-  pub is : (j : ℕ) → j < get_or lists (1024 + i) 0 → get_or lists (16 * i + j) 0 ≡ get_or (get_or (disjuncts cs x) i []) j 0
+abbrev pub no_disjunct : code.Disjunct
+no_disjunct = record { ranges = []; len = 0 }
+
+abbrev pub disjunct_in : Listing → ℕ → code.Disjunct
+disjunct_in l i = get_or l.disjuncts i no_disjunct
+
+-- disjunct i of condition x stands in the listing
+pub record Stands (cs : List Condition) (l : Listing) (x i : ℕ) : Type 0 where
+  pub is : Carries (disjunct_in l i) (get_or (disjuncts cs x) i [])
 
 -- all disjuncts of condition x do
-pub record AllStand (cs : List Condition) (lists : List ℕ) (x : ℕ) : Type 0 where
-  pub long : length lists ≡ 1604
+pub record AllStand (cs : List Condition) (l : Listing) (x : ℕ) : Type 0 where
   pub few : length (disjuncts cs x) ≤ 64
-  pub each : (i : ℕ) → i < length (disjuncts cs x) → Stands cs lists x i
+  pub each : (i : ℕ) → i < length (disjuncts cs x) → Stands cs l x i
 
--- v is 0, or 1 + r for a range r that each disjunct of condition x has
-pub record Shares (cs : List Condition) (x v : ℕ) : Type 0 where
-  pub low : v ≤ 512
-  pub is : (r : ℕ) → v ≡ 1 + r → Barred cs (eqb r) x
+-- the range that is named, if one is, is below `most`
+pub record Named (most : ℕ) (v : Option ℕ) : Type 0 where
+  pub low : (r : ℕ) → v ≡ Some r → r < most
 
--- all disjuncts of the condition do that is listed, if one is; and two numbers are such of each condition
-pub record Listed (cs : List Condition) (lists : List ℕ) : Type 0 where
-  pub long : length lists ≡ 1604
-  pub is : (x : ℕ) → get_or lists 1088 0 ≡ x + 1 → AllStand cs lists x
-  pub first : (x : ℕ) → Shares cs x (get_or lists (1092 + 2 * x) 0)
-  pub second : (x : ℕ) → Shares cs x (get_or lists (1093 + 2 * x) 0)
+-- and each disjunct of condition x has it
+pub record Shares (cs : List Condition) (x : ℕ) (v : Option ℕ) : Type 0 where
+  pub named : Named 512 v
+  pub is : (r : ℕ) → v ≡ Some r → Barred cs (eqb r) x
 
--- disjunct i of condition x was put, and those before it stand as they did
-pub record Lists (cs : List Condition) (x i : ℕ) (lists lists' : List ℕ) : Type 0 where
-  pub long : length lists' ≡ length lists
-  pub stands : Stands cs lists' x i
-  pub before : (h : ℕ) → h < i → Stands cs lists x h → Stands cs lists' x h
-  pub behind : (p : ℕ) → 1088 ≤ p → get_or lists' p 0 ≡ get_or lists p 0
+-- two ranges, if they are named, that each disjunct of condition x has
+abbrev pub shared_of : Listing → ℕ → Shared
+shared_of l x = get_or l.shared x (record { first = None; second = None })
+
+-- all disjuncts of the condition do that is listed, if one is; and two ranges are shared of each condition, if they are named
+pub record Listed (cs : List Condition) (l : Listing) : Type 0 where
+  pub is : (x : ℕ) → l.listed ≡ Some x → AllStand cs l x
+  pub first : (x : ℕ) → Shares cs x (shared_of l x).first
+  pub second : (x : ℕ) → Shares cs x (shared_of l x).second
+
+-- nothing is listed
+pub record NothingListed (l : Listing) : Type 0 where
+  pub listed : l.listed ≡ None
+  pub first : (x : ℕ) → (shared_of l x).first ≡ None
+  pub second : (x : ℕ) → (shared_of l x).second ≡ None
 
 -- ---- a condition by the ranges that its disjuncts share
 
--- v is 1 + r for a blocked range r
-unfoldable pub names_blocked : (blocked : List ℕ) → (v : ℕ) → Bool
-names_blocked blocked v = not (eqb v 0) && is_blocked blocked (255 + v)
+-- a blocked range is named
+abbrev pub names_blocked : Blocking → Option ℕ → Bool
+names_blocked s None = false
+names_blocked s (Some r) = range_blocked s r
 
--- one of the two numbers of condition x is
-unfoldable pub shared_bars : (lists blocked : List ℕ) → (x : ℕ) → Bool
-shared_bars lists blocked x = names_blocked blocked (get_or lists (1092 + 2 * x) 0) || names_blocked blocked (get_or lists (1093 + 2 * x) 0)
+-- one that the disjuncts of condition x share is
+unfoldable pub shared_bars : Listing → Blocking → (x : ℕ) → Bool
+shared_bars l s x = names_blocked s (shared_of l x).first || names_blocked s (shared_of l x).second
 
--- if b is true v is 1 + r for a range r that is blocked now; what is blocked stays so
-pub record AskedBars (c : Catalogue) (true? : ℕ → Bool) (v : ℕ) (b : Bool) (blocked watched blocked' watched' : List ℕ) : Type 0 where
-  pub long : length watched' ≡ length watched
-  pub is : b ≡ true → Blocked c true? blocked watched → names_blocked blocked' v ≡ true
-  pub keeps : Blocked c true? blocked watched → Blocked c true? blocked' watched'
+-- if b is true a range is named that is blocked now; what is blocked stays so
+pub record AskedBars (c : Catalogue) (true? : ℕ → Bool) (v : Option ℕ) (b : Bool) (s s' : Blocking) : Type 0 where
+  pub is : b ≡ true → names_blocked s' v ≡ true
+  pub keeps : Blocked c true? s → Blocked c true? s'
 
 -- ---- a condition by its list
 
--- disjunct i of the lists has a row, and its ranges are below `most`
-pub record Row (most : ℕ) (lists : List ℕ) (i : ℕ) : Type 0 where
-  pub low : i < 64
-  pub short : get_or lists (1024 + i) 0 ≤ 16
-  pub given : (j : ℕ) → j < get_or lists (1024 + i) 0 → get_or lists (16 * i + j) 0 < most
+-- the ranges of a disjunct are below `most`
+pub record Row (most : ℕ) (d : code.Disjunct) : Type 0 where
+  pub short : d.len ≤ 16
+  pub given : (j : ℕ) → j < d.len → get_or d.ranges j 0 < most
 
 -- range `place` of it is blocked
-pub record RowBarred (lists blocked : List ℕ) (i : ℕ) : Type 0 where
+pub record RowBarred (d : code.Disjunct) (s : Blocking) : Type 0 where
   pub place : ℕ
-  pub inside : place < get_or lists (1024 + i) 0
-  pub is : range_blocked blocked (get_or lists (16 * i + place) 0) ≡ true
+  pub inside : place < d.len
+  pub is : range_blocked s (get_or d.ranges place 0) ≡ true
 
 -- if b is true a range of it is
-pub record RowBars (lists blocked : List ℕ) (i : ℕ) (b : Bool) : Type 0 where
-  pub is : b ≡ true → RowBarred lists blocked i
+pub record RowBars (d : code.Disjunct) (s : Blocking) (b : Bool) : Type 0 where
+  pub is : b ≡ true → RowBarred d s
 
--- a range of disjunct i of the lists is blocked if b is true
-pub record DisjunctBars (c : Catalogue) (true? : ℕ → Bool) (lists : List ℕ) (i : ℕ) (b : Bool) (vs blocked watched vs' blocked' watched' : List ℕ) : Type 0 where
-  pub grows : Grows c true? vs blocked watched vs' blocked' watched'
-  pub is : b ≡ true → Right c true? vs blocked watched → RowBarred lists blocked' i
+-- a range of the disjunct is blocked if b is true
+pub record DisjunctBars (c : Catalogue) (true? : ℕ → Bool) (d : code.Disjunct) (b : Bool) (vs : Known) (s : Blocking) (vs' : Known) (s' : Blocking) : Type 0 where
+  pub grows : Grows c true? vs s vs' s'
+  pub is : b ≡ true → Right c true? vs s → RowBarred d s'
 
 -- a range of each disjunct of condition x is
-pub record EachBars (c : Catalogue) (true? : ℕ → Bool) (x : ℕ) (b : Bool) (vs blocked watched vs' blocked' watched' : List ℕ) : Type 0 where
-  pub grows : Grows c true? vs blocked watched vs' blocked' watched'
-  pub barred : b ≡ true → Right c true? vs blocked watched → Barred c.conditions (range_blocked blocked') x
+pub record EachBars (c : Catalogue) (true? : ℕ → Bool) (x : ℕ) (b : Bool) (vs : Known) (s : Blocking) (vs' : Known) (s' : Blocking) : Type 0 where
+  pub grows : Grows c true? vs s vs' s'
+  pub barred : b ≡ true → Right c true? vs s → Barred c.conditions (range_blocked s') x

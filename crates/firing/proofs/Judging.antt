@@ -5,7 +5,6 @@ use mathlib.Core.List.{List, [], ◌∷◌, ◌++◌, append-nil, append_assoc}
 use Prim.Native.Nat.{ℕ, zero, suc, ◌+◌, ◌-◌, ◌<◌, ◌≤◌}
 use native.Mathlib.Numerals.{add-one}
 use native.Mathlib.Omega.{arith}
-use lib.Dec.{eqb}
 use lib.ListN.{length, get_or, length-append}
 use Rattle.rules.specs.Lists.{filter, up_to}
 use Rattle.rules.specs.Catalogue.{Catalogue, no_requirement}
@@ -18,7 +17,6 @@ use Rattle.tables.specs.declared.Counts.{Counts}
 use Rattle.tables.specs.Tables.{tables}
 use Rattle.conditions.specs.Sizes.{Counted}
 use Rattle.cache.specs.Areas.{catalogue}
-use Rattle.entries.specs.Deferred.{is_free, is_held}
 use Rattle.goals.specs.Goals.{Catalogued}
 use Rattle.judging.specs.Judging.{Judged}
 use Rattle.firing.specs.declared.Judgement.{Judgement}
@@ -28,7 +26,7 @@ use Rattle.firing.proofs.Required.{its_disjuncts}
 
 -- ---- a flag for each disjunct of a requirement
 
-pub judges : (k : Counts) (m us t : List ℕ) {f : ℕ → Bool} (q : ℕ) (it : ConditionalRequirement) {count : ℕ} (flags : List ℕ)
+pub judges : (k : Counts) (m us t : List ℕ) {f : ℕ → Bool} (q : ℕ) (it : ConditionalRequirement) {count : ℕ} (flags : List Bool)
     → requirement_is it ≡ get_or (tables k t).requirements q no_requirement → Catalogued k m us t → q < k.requirements → unconditional (catalogue k m us t) q ≡ false
     → Counted (tables k t).conditions it.condition count → Judged (catalogue k m us t) f (disjuncts (tables k t).conditions it.condition) flags
     → Judges (catalogue k m us t) f q (record { flags = flags; count = count })
@@ -86,14 +84,14 @@ module _ {c : Catalogue} {f : ℕ → Bool} {q : ℕ} {j : Judgement} (d : Judge
 
 -- ---- the loop at disjunct i: what is listed, with what passes of those that are left, is what passes of all
 
-pub record Listing (flags : List ℕ) (count : ℕ) (holds : Bool) (is : Indices) (i : ℕ) : Type 0 where
+pub record Listing (flags : List Bool) (count : ℕ) (holds : Bool) (is : Indices) (i : ℕ) : Type 0 where
   pub few : count ≤ 64
   pub passed : i ≤ count
   pub room : is.len ≤ i
   pub len : is.len ≡ length (indices_in is)
   pub listed : indices_in is ++ filter (flagging flags holds) (up_to i (count - i)) ≡ filter (flagging flags holds) (up_to 0 count)
 
-pub listing_start : (flags : List ℕ) {count : ℕ} (holds : Bool) {is : Indices} → count ≤ 64 → Lists is [] → Listing flags count holds is 0
+pub listing_start : (flags : List Bool) {count : ℕ} (holds : Bool) {is : Indices} → count ≤ 64 → Lists is [] → Listing flags count holds is 0
 listing_start flags {count} holds h x =
     let all : count - 0 ≡ count = omega arith in
     record {
@@ -104,7 +102,7 @@ listing_start flags {count} holds h x =
       listed = rw (x.is, all);
     }
 
-module _ {flags : List ℕ} {count : ℕ} {holds : Bool} {is : Indices} {i : ℕ} (x : Listing flags count holds is i) where
+module _ {flags : List Bool} {count : ℕ} {holds : Bool} {is : Indices} {i : ℕ} (x : Listing flags count holds is i) where
   module _ (h : i < count) where
     left_is : up_to i (count - i) ≡ i ∷ up_to (i + 1) (count - (i + 1))
     unfolding up_to
@@ -112,11 +110,11 @@ module _ {flags : List ℕ} {count : ℕ} {holds : Bool} {is : Indices} {i : ℕ
         let e : count - i ≡ suc (count - (i + 1)) = omega arith in
         rw (e, add-one i)
 
-    tested : (b : Bool) → beq (not (eqb (get_or flags i 0) 0)) holds ≡ b → flagging flags holds i ≡ b
-    unfolding flagging is_held is_free
+    tested : (b : Bool) → beq (get_or flags i false) holds ≡ b → flagging flags holds i ≡ b
+    unfolding flagging
     tested b e = e
 
-    pub listing_take : {is' is'' : Indices} → beq (not (eqb (get_or flags i 0) 0)) holds ≡ true → Lists is' (indices_in is ++ (i ∷ [])) → is'' ≡ is'
+    pub listing_take : {is' is'' : Indices} → beq (get_or flags i false) holds ≡ true → Lists is' (indices_in is ++ (i ∷ [])) → is'' ≡ is'
         → Listing flags count holds is'' (i + 1)
     listing_take {is'} e y z =
         let p : ℕ → Bool = flagging flags holds in
@@ -130,7 +128,7 @@ module _ {flags : List ℕ} {count : ℕ} {holds : Bool} {is : Indices} {i : ℕ
           listed = rw y.is (append_assoc (indices_in is) (i ∷ []) rest ∙ (ap (λ (ys : List ℕ). indices_in is ++ ys) (sym all) ∙ x.listed));
         })
 
-    pub listing_pass : {is'' : Indices} → beq (not (eqb (get_or flags i 0) 0)) holds ≡ false → is'' ≡ is → Listing flags count holds is'' (i + 1)
+    pub listing_pass : {is'' : Indices} → beq (get_or flags i false) holds ≡ false → is'' ≡ is → Listing flags count holds is'' (i + 1)
     listing_pass e z =
         let p : ℕ → Bool = flagging flags holds in
         let all : filter p (up_to i (count - i)) ≡ filter p (up_to (i + 1) (count - (i + 1))) = ap (filter p) left_is ∙ filter_passes p i (up_to (i + 1) (count - (i + 1))) (tested false e) in

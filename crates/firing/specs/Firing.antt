@@ -1,5 +1,5 @@
 -- A condition is served: which disjuncts fire, and what that does.
-use Rattle.std.specs.Prelude.{◌≡◌, Bool, true, false, not, List, [], ◌∷◌, map, ℕ, ◌+◌, ◌<◌, ◌≤◌, length, take}
+use Rattle.std.specs.Prelude.{◌≡◌, Bool, true, false, not, List, [], ◌∷◌, map, ℕ, ◌+◌, ◌<◌, ◌≤◌, length, get_or, take}
 use Rattle.std.specs.Bool.{beq}
 use Rattle.rules.specs.Lists.{filter, fold}
 use Rattle.rules.specs.Catalogue.{Catalogue}
@@ -8,7 +8,6 @@ use Rattle.rules.specs.Opening.{Task, Opening, queue, open_names, ranges_of, ent
 use Rattle.rules.specs.State.{State, decided_true}
 use Rattle.rules.proofs.Capped.{add_waiting}
 use Rattle.state.specs.declared.Limits.{Limits}
-use Rattle.entries.specs.Deferred.{is_held}
 use Rattle.encoder.specs.declared.Counters.{Counters}
 use Rattle.encoder.specs.Held.{Reading, task_in, fired_now}
 use Rattle.encoder.specs.Did.{on_opening, Did}
@@ -24,11 +23,11 @@ judging c true? q false i = not (entry_holds c true? q i)
 pub record Judges (c : Catalogue) (true? : ℕ → Bool) (q : ℕ) (j : Judgement) : Type 0 where
   pub few : j.count ≤ 64
   pub all : j.count ≡ length (disjuncts_of c q)
-  pub is : (i : ℕ) → i < j.count → is_held j.flags i ≡ entry_holds c true? q i
+  pub is : (i : ℕ) → i < j.count → get_or j.flags i false ≡ entry_holds c true? q i
 
 -- the same of a disjunct, by these flags
-unfoldable pub flagging : List ℕ → (holds : Bool) → ℕ → Bool
-flagging flags holds i = beq (is_held flags i) holds
+unfoldable pub flagging : List Bool → (holds : Bool) → ℕ → Bool
+flagging flags holds i = beq (get_or flags i false) holds
 
 unfoldable pub indices_in : Indices → List ℕ
 indices_in x = take x.len x.at

@@ -52,7 +52,7 @@ pub fn pushed(is: Indices, i: u16) -> Indices
 // Which disjuncts of a requirement hold: a flag for each of the first `count`.
 #[derive(Clone, Copy)]
 struct Judgement {
-    flags: [u8; 64],
+    flags: [bool; 64],
     count: usize,
 }
 
@@ -89,7 +89,7 @@ fn flagged(judgement: Judgement, holds: bool) -> Indices
     let mut i = 0;
     while i < judgement.count {
         let flag = judgement.flags[i];
-        if (flag != 0) == holds {
+        if flag == holds {
             is = pushed(is, i as u16);
         }
         i += 1;

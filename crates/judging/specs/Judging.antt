@@ -1,5 +1,5 @@
 -- What is kept while the disjuncts of a condition are judged: verdicts for the disjuncts of each condition that is worked out, and the flags that come of them.
-use Rattle.std.specs.Prelude.{◌≡◌, Bool, cond, List, [], ℕ, ◌+◌, ◌*◌, ◌<◌, ◌≤◌, max, eqb, length, get_or}
+use Rattle.std.specs.Prelude.{◌≡◌, Bool, true, false, List, [], ℕ, ◌+◌, ◌*◌, ◌<◌, length, get_or}
 use Rattle.rules.specs.Lists.{any}
 use Rattle.rules.specs.Candidates.{matching}
 use Rattle.rules.specs.Catalogue.{Condition, Catalogue}
@@ -12,86 +12,98 @@ use Rattle.state.specs.declared.Limits.{Limits}
 use Rattle.state.specs.Layout.{held, Fits}
 use Rattle.variable_map.specs.Mapping.{variables, Mapped}
 use Rattle.decision_tracker.specs.Tracking.{decisions, Kept}
-use Rattle.entries.specs.Deferred.{is_held}
 use Rattle.encoder.specs.declared.Counters.{Counters}
 use Rattle.goals.specs.Goals.{Catalogued, true_of}
+use Rattle.judging.specs.declared.Verdict.{Verdict}
+use Rattle.judging.specs.declared.Verdict.TheVariants.{Unknown, Holds, Fails}
+use Rattle.judging.specs.declared.Known.{Known}
 
--- ---- verdicts of disjuncts; 0 stands for none
+-- ---- verdicts of disjuncts
 
--- the verdict of a range or a disjunct, by whether it holds; that of two together is the larger one
-unfoldable pub verdict_of : Bool → ℕ
-verdict_of b = cond b 1 2
+-- the verdict of a range or a disjunct, by whether it holds
+abbrev pub verdict_of : Bool → Verdict
+verdict_of true = Holds
+verdict_of false = Fails
 
--- the n verdicts of ws at `to` are those of v together with each of vs at `from`, and the others are those of vs
-pub record Row (v : ℕ) (vs : List ℕ) (from to n : ℕ) (ws : List ℕ) : Type 0 where
-  pub here : (i : ℕ) → i < n → get_or ws (to + i) 0 ≡ max v (get_or vs (from + i) 0)
-  pub early : (p : ℕ) → p < to → get_or ws p 0 ≡ get_or vs p 0
-  pub late : (p : ℕ) → to + n ≤ p → get_or ws p 0 ≡ get_or vs p 0
+-- that of two together
+abbrev pub both : Verdict → Verdict → Verdict
+both Unknown w = w
+both Holds w = w
+both Fails w = Fails
 
--- the verdicts of two halves end before `to`, where there is room for n
-pub record Apart (left first right second to n len : ℕ) : Type 0 where
-  pub ahead : left + first ≤ to
-  pub behind : right + second ≤ to
-  pub room : to + n ≤ len
+-- whether it says that a disjunct holds
+abbrev pub says_holds : Verdict → Bool
+says_holds Unknown = false
+says_holds Holds = true
+says_holds Fails = false
 
--- for each of the first n of vs at `left` there is a row: it together with each at `right`
-pub record Rows (vs : List ℕ) (left right second to n : ℕ) (ws : List ℕ) : Type 0 where
-  pub here : (i j : ℕ) → i < n → j < second → get_or ws (to + (i * second + j)) 0 ≡ max (get_or vs (left + i) 0) (get_or vs (right + j) 0)
-  pub early : (p : ℕ) → p < to → get_or ws p 0 ≡ get_or vs p 0
-  pub late : (p : ℕ) → to + n * second ≤ p → get_or ws p 0 ≡ get_or vs p 0
+-- the verdicts of each of vs together with each of ws stand in a row
+pub record Pairs (vs ws row : List Verdict) : Type 0 where
+  pub here : (i j : ℕ) → i < length vs → j < length ws → get_or row (i * length ws + j) Unknown ≡ both (get_or vs i Unknown) (get_or ws j Unknown)
 
--- those of vs at `left`, and behind them those at `right`
-pub record Either (vs : List ℕ) (left first right second to : ℕ) (ws : List ℕ) : Type 0 where
-  pub ahead : (i : ℕ) → i < first → get_or ws (to + i) 0 ≡ get_or vs (left + i) 0
-  pub behind : (j : ℕ) → j < second → get_or ws (to + first + j) 0 ≡ get_or vs (right + j) 0
-  pub early : (p : ℕ) → p < to → get_or ws p 0 ≡ get_or vs p 0
-  pub late : (p : ℕ) → to + first + second ≤ p → get_or ws p 0 ≡ get_or vs p 0
+-- those of vs stand in a row, and behind them those of ws
+pub record Either (vs ws row : List Verdict) : Type 0 where
+  pub ahead : (i : ℕ) → i < length vs → get_or row i Unknown ≡ get_or vs i Unknown
+  pub behind : (j : ℕ) → j < length ws → get_or row (length vs + j) Unknown ≡ get_or ws j Unknown
 
 -- ---- conditions that are worked out
 
+-- the verdicts of condition x, where it is worked out, and that of range r
+abbrev pub row_of : Known → ℕ → List Verdict
+row_of known x = get_or known.disjuncts x []
+
+abbrev pub verdict_at : Known → (x i : ℕ) → Verdict
+verdict_at known x i = get_or (row_of known x) i Unknown
+
+abbrev pub range_at : Known → ℕ → Verdict
+range_at known r = get_or known.ranges r Unknown
+
+-- nothing is worked out
+pub record Nothing (known : Known) : Type 0 where
+  pub disjuncts : (x i : ℕ) → verdict_at known x i ≡ Unknown
+  pub ranges : (r : ℕ) → range_at known r ≡ Unknown
+
 -- the verdicts are right: where the first one of a condition is there, all of them are
-pub record Verdicts (c : Catalogue) (cs : List Condition) (true? : ℕ → Bool) (vs : List ℕ) : Type 0 where
-  pub is : (x i : ℕ) → x < 256 → 1 ≤ get_or vs (x * 64) 0 → i < 64 → i < length (disjuncts cs x) → get_or vs (x * 64 + i) 0 ≡ verdict_of (holds_now c true? (get_or (disjuncts cs x) i []))
-  pub ranges : (r : ℕ) → 1 ≤ get_or vs (16384 + r) 0 → get_or vs (16384 + r) 0 ≡ verdict_of (any true? (matching c r))
+pub record Verdicts (c : Catalogue) (cs : List Condition) (true? : ℕ → Bool) (known : Known) : Type 0 where
+  pub is : (x i : ℕ) → (verdict_at known x 0 ≡ Unknown → ⊥) → i < length (disjuncts cs x) → verdict_at known x i ≡ verdict_of (holds_now c true? (get_or (disjuncts cs x) i []))
+  pub ranges : (r : ℕ) → (range_at known r ≡ Unknown → ⊥) → range_at known r ≡ verdict_of (any true? (matching c r))
 
 -- there is a place for range r, and the verdicts that are kept are right
-pub record AsksRange (k : Counts) (m u t : List ℕ) (l : Limits) (n : Counters) (s vs : List ℕ) (r : ℕ) : Type 0 where
+pub record AsksRange (k : Counts) (m u t : List ℕ) (l : Limits) (n : Counters) (s : List ℕ) (known : Known) (r : ℕ) : Type 0 where
   pub catalogued : Catalogued k m u t
   pub fits : Fits l (length s)
   pub mapped : Mapped l n.variables (held l s)
   pub kept : Kept l n.decisions (held l s)
-  pub room : length vs ≡ 16896
-  pub right : Verdicts (catalogue k m u t) (tables k t).conditions (true_of (variables n.variables (held l s)) (decisions n.decisions (held l s))) vs
+  pub right : Verdicts (catalogue k m u t) (tables k t).conditions (true_of (variables n.variables (held l s)) (decisions n.decisions (held l s))) known
   pub given : r < 512
 
--- v is the verdict of range r, and the conditions that were worked out in vs are in ws
-pub record RangeAsked (c : Catalogue) (cs : List Condition) (true? : ℕ → Bool) (r v : ℕ) (vs ws : List ℕ) : Type 0 where
+-- v is the verdict of range r, and the conditions that were worked out still are
+pub record RangeAsked (c : Catalogue) (cs : List Condition) (true? : ℕ → Bool) (r : ℕ) (v : Verdict) (known known' : Known) : Type 0 where
   pub is : v ≡ verdict_of (any true? (matching c r))
-  pub right : Verdicts c cs true? ws
-  pub still : (y : ℕ) → y < 256 → 1 ≤ get_or vs (y * 64) 0 → 1 ≤ get_or ws (y * 64) 0
+  pub right : Verdicts c cs true? known'
+  pub still : (y : ℕ) → (verdict_at known y 0 ≡ Unknown → ⊥) → verdict_at known' y 0 ≡ Unknown → ⊥
 
 -- condition x is there, and the verdicts that are kept are right
-pub record Asks (k : Counts) (m u t : List ℕ) (l : Limits) (n : Counters) (s vs : List ℕ) (x : ℕ) : Type 0 where
+pub record Asks (k : Counts) (m u t : List ℕ) (l : Limits) (n : Counters) (s : List ℕ) (known : Known) (x : ℕ) : Type 0 where
   pub catalogued : Catalogued k m u t
   pub fits : Fits l (length s)
   pub mapped : Mapped l n.variables (held l s)
   pub kept : Kept l n.decisions (held l s)
-  pub room : length vs ≡ 16896
-  pub right : Verdicts (catalogue k m u t) (tables k t).conditions (true_of (variables n.variables (held l s)) (decisions n.decisions (held l s))) vs
+  pub right : Verdicts (catalogue k m u t) (tables k t).conditions (true_of (variables n.variables (held l s)) (decisions n.decisions (held l s))) known
   pub given : x < k.conditions
 
--- condition x is worked out in ws, as are those that were in vs
-pub record WorkedOut (c : Catalogue) (cs : List Condition) (true? : ℕ → Bool) (x : ℕ) (vs ws : List ℕ) : Type 0 where
-  pub right : Verdicts c cs true? ws
-  pub known : 1 ≤ get_or ws (x * 64) 0
-  pub still : (y : ℕ) → y < 256 → 1 ≤ get_or vs (y * 64) 0 → 1 ≤ get_or ws (y * 64) 0
+-- condition x is worked out, as are those that were
+pub record WorkedOut (c : Catalogue) (cs : List Condition) (true? : ℕ → Bool) (x : ℕ) (before after : Known) : Type 0 where
+  pub right : Verdicts c cs true? after
+  pub known : verdict_at after x 0 ≡ Unknown → ⊥
+  pub still : (y : ℕ) → (verdict_at before y 0 ≡ Unknown → ⊥) → verdict_at after y 0 ≡ Unknown → ⊥
 
 -- ---- flags
 
--- a flag for each of the n verdicts at `from`
-pub record Flags (vs : List ℕ) (from n : ℕ) (flags : List ℕ) : Type 0 where
-  pub is : (i : ℕ) → i < n → is_held flags i ≡ eqb (get_or vs (from + i) 0) 1
+-- a flag for each of these verdicts
+pub record Flags (row : List Verdict) (flags : List Bool) : Type 0 where
+  pub is : (i : ℕ) → get_or flags i false ≡ says_holds (get_or row i Unknown)
 
 -- a flag for each of these disjuncts, by whether it holds
-pub record Judged (c : Catalogue) (true? : ℕ → Bool) (ds : List Disjunct) (flags : List ℕ) : Type 0 where
-  pub is : (i : ℕ) → i < length ds → is_held flags i ≡ holds_now c true? (get_or ds i [])
+pub record Judged (c : Catalogue) (true? : ℕ → Bool) (ds : List Disjunct) (flags : List Bool) : Type 0 where
+  pub is : (i : ℕ) → i < length ds → get_or flags i false ≡ holds_now c true? (get_or ds i [])

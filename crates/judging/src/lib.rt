@@ -1,177 +1,208 @@
 // Which disjuncts of a condition hold: the conditions that it comes of are worked out one by one, each once, and a range is asked once.
 #![tactic(auto)]
 
-ghost use Rattle.std.specs.Prelude.{◌≡◌, ◌+◌, ◌*◌, ◌<◌, ◌≤◌, max, length};
+ghost use Rattle.std.specs.Prelude.{◌≡◌, ◌+◌, ◌*◌, ◌<◌, ◌≤◌, length, get_or};
 ghost use Rattle.rules.specs.Conditions.{disjuncts};
 ghost use Rattle.tables.specs.Tables.{tables};
 ghost use Rattle.cache.specs.Areas.{catalogue};
 ghost use Rattle.state.specs.Layout.{held, Fits};
 ghost use Rattle.variable_map.specs.Mapping.{variables, Mapped};
 ghost use Rattle.decision_tracker.specs.Tracking.{decisions, Kept};
-ghost use Rattle.entries.specs.Deferred.{flag_of};
 ghost use Rattle.goals.specs.Goals.{Catalogued, true_of};
-ghost use Rattle.judging.specs.Judging.{verdict_of, Row, Apart, Rows, Either, AsksRange, RangeAsked, Asks, WorkedOut, Flags, Judged};
+ghost use Rattle.judging.specs.declared.Verdict.{Verdict};
+ghost use Rattle.judging.specs.Judging.{verdict_of, both, says_holds, Nothing, Pairs, Either, AsksRange, RangeAsked, Asks, WorkedOut, Flags, Judged};
 
 use encoder::Counters;
 use state::Limits;
 use tables::Counts;
 
-// ---- verdicts: 1, it holds, 2, it does not, and 0, it is not worked out. That of disjunct i of condition x is at 64 x + i, and that of range r at
-// 16,384 + r.
+// ---- verdicts
 
-// The verdict by whether something holds.
-fn verdict(holds: bool) -> u8
-    ensures { result ≡ verdict_of holds }
-{
-    if holds {
-        return 1;
-    }
-    2
+// Whether a range or a disjunct holds, once that is worked out. It has one byte, where an Option<bool> has two: all verdicts are cleared
+// for each condition that is judged.
+#[derive(Clone, Copy, PartialEq, Eq)]
+enum Verdict {
+    Unknown,
+    Holds,
+    Fails,
 }
 
-// The verdict of two disjuncts together: the larger one. With 0 it is the other's.
-fn both_of(v: u8, w: u8) -> u8
-    ensures { result ≡ max v w }
-{
-    if v < w { w } else { v }
-}
+impl From<bool> for Verdict {
+    ghost from_gives = { λ holds verdict. verdict ≡ verdict_of holds };
 
-// n verdicts are put: those of v together with each at `from`, which end before `to`.
-fn put_row(verdicts: &mut [u8], v: u8, from: usize, to: usize, n: usize)
-    requires n_bound { from + n ≤ to }
-    requires n_in_bounds { to + n ≤ length verdicts.old }
-    ensures { Row v verdicts.old from to n verdicts.new }
-{
-    let mut i = 0;
-    while i < n {
-        let w = verdicts[from + i];
-        verdicts[to + i] = both_of(v, w);
-        i += 1;
+    fn from(holds: bool) -> Verdict {
+        if holds {
+            Verdict::Holds
+        } else {
+            Verdict::Fails
+        }
     }
 }
 
-// Those of an `and`: a row for each of the left half's, it together with each of the right half's. Where the right half has one alone, one row of
-// it together with each of the left half's is the same.
-fn put_and(verdicts: &mut [u8], left: usize, first: usize, right: usize, second: usize, to: usize)
-    requires { Apart left first right second to (first * second) (length verdicts.old) }
-    ensures { Rows verdicts.old left right second to first verdicts.new }
+impl Verdict {
+    // The verdict of two disjuncts together.
+    fn and(self, other: Verdict) -> Verdict
+        ensures { result ≡ both self other }
+    {
+        match self {
+            Verdict::Unknown | Verdict::Holds => other,
+            Verdict::Fails => Verdict::Fails,
+        }
+    }
+
+    // Does it say so?
+    fn holds(self) -> bool
+        ensures { result ≡ says_holds self }
+    {
+        matches!(self, Verdict::Holds)
+    }
+}
+
+// The verdicts of a condition's disjuncts: that of a range alone.
+fn leaf_row(v: Verdict) -> [Verdict; 64]
+    ensures { get_or result 0 Verdict.Unknown ≡ v }
 {
-    if second == 1 {
-        let w = verdicts[right];
-        put_row(verdicts, w, left, to, first);
-        return;
+    let mut row = [Verdict::Unknown; 64];
+    row[0] = v;
+    row
+}
+
+// Those of an `and`: that of each disjunct of the left half together with each of the right half's.
+fn and_row(left: &[Verdict], right: &[Verdict]) -> [Verdict; 64]
+    requires { length left.now * length right.now ≤ 64 }
+    ensures { Pairs left.now right.now result }
+{
+    let mut row = [Verdict::Unknown; 64];
+    for (i, v) in left.iter().enumerate() {
+        for (j, w) in right.iter().enumerate() {
+            row[i * right.len() + j] = v.and(*w);
+        }
     }
-    let mut i = 0;
-    let mut at = to;
-    while i < first {
-        let v = verdicts[left + i];
-        put_row(verdicts, v, right, at, second);
-        at += second;
-        i += 1;
-    }
+    row
 }
 
 // Those of an `or`: the left half's, and behind them the right half's.
-fn put_or(verdicts: &mut [u8], left: usize, first: usize, right: usize, second: usize, to: usize)
-    requires { Apart left first right second to (first + second) (length verdicts.old) }
-    ensures { Either verdicts.old left first right second to verdicts.new }
+fn or_row(left: &[Verdict], right: &[Verdict]) -> [Verdict; 64]
+    requires { length left.now + length right.now ≤ 64 }
+    ensures { Either left.now right.now result }
 {
-    put_row(verdicts, 0, left, to, first);
-    put_row(verdicts, 0, right, to + first, second);
+    let mut row = [Verdict::Unknown; 64];
+    for (i, v) in left.iter().enumerate() {
+        row[i] = *v;
+    }
+    for (j, w) in right.iter().enumerate() {
+        row[left.len() + j] = *w;
+    }
+    row
 }
 
-// The verdict of range r. It is asked once.
-fn range_verdict(
-    marks: &[u8],
-    unions: &[u8],
-    t: &[u8],
-    k: Counts,
-    s: &[u8],
-    l: Limits,
-    n: Counters,
-    verdicts: &mut [u8],
-    r: usize,
-) -> u8
-    requires { AsksRange k marks.now unions.now t.now l n s.now verdicts.old r }
-    ensures { RangeAsked (catalogue k marks.now unions.now t.now) (tables k t.now).conditions (true_of (variables n.variables (held l s.now)) (decisions n.decisions (held l s.now))) r result verdicts.old verdicts.new }
-{
-    let place = 16384 + r;
-    let known = verdicts[place];
-    if known != 0 {
-        return known;
-    }
-    let holds = goals::range_holds(marks, unions, t, k, s, l, n.variables, n.decisions, r);
-    let v = verdict(holds);
-    verdicts[place] = v;
-    v
+// What is known: the verdicts of each condition's disjuncts, and of each range.
+#[derive(Drop)]
+struct Known {
+    disjuncts: [[Verdict; 64]; 256],
+    ranges: [Verdict; 512],
 }
 
-// Condition x is worked out, unless it was: after its halves, which have smaller numbers.
-fn work_out(
-    marks: &[u8],
-    unions: &[u8],
-    t: &[u8],
-    k: Counts,
-    s: &[u8],
-    l: Limits,
-    n: Counters,
-    verdicts: &mut [u8],
-    x: usize,
-)
-    requires { Asks k marks.now unions.now t.now l n s.now verdicts.old x }
-    ensures { WorkedOut (catalogue k marks.now unions.now t.now) (tables k t.now).conditions (true_of (variables n.variables (held l s.now)) (decisions n.decisions (held l s.now))) x verdicts.old verdicts.new }
-{
-    let to = x * 64;
-    if verdicts[to] != 0 {
-        return;
+impl Known {
+    // Nothing was worked out.
+    fn nothing() -> Known
+        ensures { Nothing result }
+    {
+        Known {
+            disjuncts: [[Verdict::Unknown; 64]; 256],
+            ranges: [Verdict::Unknown; 512],
+        }
     }
-    let it = tables::condition_at(t, k, x);
-    let left = it.left as usize;
-    if it.operator == 2 {
-        let v = range_verdict(marks, unions, t, k, s, l, n, verdicts, left);
-        verdicts[to] = v;
-        return;
+
+    // The verdict of range r. It is asked once.
+    fn range(
+        &mut self,
+        marks: &[u8],
+        unions: &[u8],
+        t: &[u8],
+        k: Counts,
+        s: &[u8],
+        l: Limits,
+        n: Counters,
+        r: usize,
+    ) -> Verdict
+        requires { AsksRange k marks.now unions.now t.now l n s.now self.old r }
+        ensures { RangeAsked (catalogue k marks.now unions.now t.now) (tables k t.now).conditions (true_of (variables n.variables (held l s.now)) (decisions n.decisions (held l s.now))) r result self.old self.new }
+    {
+        match self.ranges[r] {
+            Verdict::Unknown => {
+                let v = Verdict::from(goals::range_holds(
+                    marks,
+                    unions,
+                    t,
+                    k,
+                    s,
+                    l,
+                    n.variables,
+                    n.decisions,
+                    r,
+                ));
+                self.ranges[r] = v;
+                v
+            }
+            v => v,
+        }
     }
-    let right = it.right as usize;
-    work_out(marks, unions, t, k, s, l, n, verdicts, left);
-    work_out(marks, unions, t, k, s, l, n, verdicts, right);
-    let first = conditions::count(t, k, left);
-    let second = conditions::count(t, k, right);
-    if it.operator == 0 {
-        put_and(verdicts, left * 64, first, right * 64, second, to);
-        return;
+
+    // Condition x is worked out, unless it was: after its halves, which have smaller numbers.
+    fn work_out(
+        &mut self,
+        marks: &[u8],
+        unions: &[u8],
+        t: &[u8],
+        k: Counts,
+        s: &[u8],
+        l: Limits,
+        n: Counters,
+        x: usize,
+    )
+        requires { Asks k marks.now unions.now t.now l n s.now self.old x }
+        ensures { WorkedOut (catalogue k marks.now unions.now t.now) (tables k t.now).conditions (true_of (variables n.variables (held l s.now)) (decisions n.decisions (held l s.now))) x self.old self.new }
+    {
+        if self.disjuncts[x][0] != Verdict::Unknown {
+            return;
+        }
+        let it = tables::condition_at(t, k, x);
+        let left = it.left as usize;
+        if it.operator == 2 {
+            let v = self.range(marks, unions, t, k, s, l, n, left);
+            self.disjuncts[x] = leaf_row(v);
+            return;
+        }
+        let right = it.right as usize;
+        self.work_out(marks, unions, t, k, s, l, n, left);
+        self.work_out(marks, unions, t, k, s, l, n, right);
+        let first = conditions::count(t, k, left);
+        let second = conditions::count(t, k, right);
+        let rows = &self.disjuncts;
+        let row = if it.operator == 0 {
+            and_row(&rows[left][..first], &rows[right][..second])
+        } else {
+            or_row(&rows[left][..first], &rows[right][..second])
+        };
+        self.disjuncts[x] = row;
     }
-    put_or(verdicts, left * 64, first, right * 64, second, to);
 }
 
-// ---- a flag for each disjunct
+// ---- which disjuncts hold
 
-// The flag of a disjunct or an entry: 1 where it holds, or else 0.
-pub fn flag(holds: bool) -> u8
-    ensures { result ≡ flag_of holds }
+// Of each verdict of a row, whether it says that the disjunct holds.
+fn flags_of(row: &[Verdict; 64]) -> [bool; 64]
+    ensures { Flags row.now result }
 {
-    if holds {
-        return 1;
-    }
-    0
-}
-
-// A flag for each of the n verdicts from `from` on.
-fn flags_of(verdicts: &[u8], from: usize, n: usize) -> [u8; 64]
-    requires n_bound { n ≤ 64 }
-    requires n_in_bounds { from + n ≤ length verdicts.now }
-    ensures { Flags verdicts.now from n result }
-{
-    let mut flags = [0u8; 64];
-    let mut i = 0;
-    while i < n {
-        flags[i] = flag(verdicts[from + i] == 1);
-        i += 1;
+    let mut flags = [false; 64];
+    for (i, v) in row.iter().enumerate() {
+        flags[i] = v.holds();
     }
     flags
 }
 
-// Which disjuncts of condition c hold: a flag for each. Each condition that it comes of is worked out once, and each range asked once.
+// Which disjuncts of condition c hold. Each condition that it comes of is worked out once, and each range asked once.
 fn each_holding(
     marks: &[u8],
     unions: &[u8],
@@ -181,20 +212,19 @@ fn each_holding(
     l: Limits,
     n: Counters,
     c: usize,
-) -> [u8; 64]
+) -> [bool; 64]
     requires catalogued { Catalogued k marks.now unions.now t.now }
     requires fits { Fits l (length s.now) }
     requires mapped { Mapped l n.variables (held l s.now) × Kept l n.decisions (held l s.now) }
     requires c_lt_conditions { c < k.conditions }
     ensures { Judged (catalogue k marks.now unions.now t.now) (true_of (variables n.variables (held l s.now)) (decisions n.decisions (held l s.now))) (disjuncts (tables k t.now).conditions c) result }
 {
-    let count = conditions::count(t, k, c);
-    let mut verdicts = [0u8; 16896];
-    work_out(marks, unions, t, k, s, l, n, &mut verdicts, c);
-    flags_of(&verdicts, c * 64, count)
+    let mut known = Known::nothing();
+    known.work_out(marks, unions, t, k, s, l, n, c);
+    flags_of(&known.disjuncts[c])
 }
 
-// Which disjuncts of condition c hold: a flag for each. Where there is one alone no verdicts are kept.
+// Which disjuncts of condition c hold. Where there is one alone no verdicts are kept.
 pub fn holding(
     marks: &[u8],
     unions: &[u8],
@@ -204,7 +234,7 @@ pub fn holding(
     l: Limits,
     n: Counters,
     c: usize,
-) -> [u8; 64]
+) -> [bool; 64]
     requires catalogued { Catalogued k marks.now unions.now t.now }
     requires fits { Fits l (length s.now) }
     requires mapped { Mapped l n.variables (held l s.now) × Kept l n.decisions (held l s.now) }
@@ -212,9 +242,8 @@ pub fn holding(
     ensures { Judged (catalogue k marks.now unions.now t.now) (true_of (variables n.variables (held l s.now)) (decisions n.decisions (held l s.now))) (disjuncts (tables k t.now).conditions c) result }
 {
     if conditions::count(t, k, c) == 1 {
-        let holds = goals::disjunct_holds(marks, unions, t, k, s, l, n, c, 0);
-        let mut flags = [0u8; 64];
-        flags[0] = flag(holds);
+        let mut flags = [false; 64];
+        flags[0] = goals::disjunct_holds(marks, unions, t, k, s, l, n, c, 0);
         return flags;
     }
     each_holding(marks, unions, t, k, s, l, n, c)

@@ -1,10 +1,6 @@
 -- `judging::flags_of` gives a flag for each verdict. The invariant: the first i flags are set.
-use Prim.Native.Nat.{◌-◌}
 use Rattle.judging.proofs.Judging.{FlagsSoFar}
 use Rattle.judging.proofs.flags_of.Given as goal
 
 abbrev pub invariant-loop-i : goal.invariant-loop-i
-invariant-loop-i l = FlagsSoFar l.verdicts l.from l.n l.i l.flags
-
-abbrev pub decreases-loop-i : goal.decreases-loop-i
-decreases-loop-i l = l.n - l.i
+invariant-loop-i l = FlagsSoFar l.row l.i l.flags
