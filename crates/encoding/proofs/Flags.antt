@@ -51,7 +51,7 @@ module _ {c : Catalogue} {l : Limits} {n a : Counters} {st st₁ : ℕ → List 
             other_areas l (reading_of s) v a st₁ cl wt cl' wt' (rw (x.done s h.given h.reached h.holds f) now);
       }
 
-  pub begun_flagged : {flags : List ℕ} → Flagged c l flags n st → Flagged c l flags a st₁
+  pub begun_flagged : {flags : List Bool} → Flagged c l flags n st → Flagged c l flags a st₁
   begun_flagged k = record { settles = λ i z. begun_settles (k.settles i z) }
 
 -- ---- the named parts join
@@ -104,7 +104,7 @@ module _ (c : Catalogue) where
               };
         }
 
-module _ {c : Catalogue} {l : Limits} (r : Run) {n n' : Counters} {st st' : ℕ → List ℕ} {cl cl' flags : List ℕ} (g : Good c l n st cl []) where
+module _ {c : Catalogue} {l : Limits} (r : Run) {n n' : Counters} {st st' : ℕ → List ℕ} {cl cl' : List ℕ} {flags : List Bool} (g : Good c l n st cl []) where
   pub joined_flagged : ClausesDid c l (λ v. join_all c r) n st cl n' st' cl' → Flagged c l flags n st → Flagged c l flags n' st'
   joined_flagged d f = record { settles = λ i z. settles_by (did_alike (d.is [])) g (λ v e. joined_settled c r _ ((f.settles i z).held e v cl [])) }
 

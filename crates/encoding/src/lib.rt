@@ -29,7 +29,7 @@ pub fn run_once(
     l: Limits,
     n: Counters,
     level: u16,
-    settled: &mut [u8; 640],
+    settled: &mut [bool; 640],
 ) -> Counters
     requires catalogued { Catalogued k marks.now unions.now t.now }
     requires fits { Fits l (length s.old) }

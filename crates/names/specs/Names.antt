@@ -1,5 +1,5 @@
 -- A name's task in the code's steps.
-use Rattle.std.specs.Prelude.{List, [], ◌∷◌, ◌++◌, ℕ}
+use Rattle.std.specs.Prelude.{List, ◌++◌, ℕ}
 use Rattle.rules.specs.Lists.{fold}
 use Rattle.rules.specs.Catalogue.{Catalogue}
 use Rattle.rules.specs.Candidates.{locked_part, locked_out, excluded_parts}
@@ -13,11 +13,6 @@ use Rattle.encoder.specs.Held.{KnownUnlessFull}
 use Rattle.parts.specs.declared.Naming.TheVariants.{Variable}
 use Rattle.parts.specs.declared.Adding.TheVariants.{Lock, Excluded}
 use Rattle.parts.specs.Parts.{naming_of, adding_of}
-
--- the first of a list or, of an empty list, d
-unfoldable pub first_of : ℕ → List ℕ → ℕ
-first_of d [] = d
-first_of d (x ∷ xs) = x
 
 unfoldable pub name_parts : Catalogue → ℕ → State → State
 name_parts c n s =

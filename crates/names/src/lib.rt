@@ -1,7 +1,7 @@
 // A name's task: a locked part makes every other part of the name false beside the root; then each excluded part is false.
 #![tactic(auto)]
 
-ghost use Rattle.std.specs.Prelude.{◌≡◌, [], ◌++◌, ◌<◌, length};
+ghost use Rattle.std.specs.Prelude.{◌≡◌, [], ◌++◌, ◌<◌, length, slice_get};
 ghost use Rattle.rules.specs.Lists.{fold};
 ghost use Rattle.rules.specs.Candidates.{locked_part, locked_out, excluded_parts};
 ghost use Rattle.rules.specs.Opening.{serve_name};
@@ -17,26 +17,26 @@ ghost use Rattle.parts.specs.declared.Naming.TheVariants.{Variable};
 ghost use Rattle.parts.specs.declared.Adding.TheVariants as Adding;
 ghost use Rattle.parts.specs.Parts.{naming_of, adding_of};
 ghost use Rattle.owners.specs.Owners.{serving};
-ghost use Rattle.names.specs.Names.{first_of, NamesParts, add_clauses};
+ghost use Rattle.names.specs.Names.{NamesParts, add_clauses};
 
 use encoder::{Counters, Run};
 use parts::{Adding, Naming, Parts};
 use state::Limits;
 use tables::Counts;
 
-// The locked part of a name, or the number of parts if it has none.
-fn locked_part(marks: &[u8], unions: &[u8], t: &[u8], k: Counts, name: u16) -> usize
+// The locked part of a name, if it has one.
+fn locked_part(marks: &[u8], unions: &[u8], t: &[u8], k: Counts, name: u16) -> Option<usize>
     requires { Indexed k marks.now unions.now t.now }
-    ensures { result ≡ first_of (length (catalogue k marks.now unions.now t.now).parts) (locked_part (catalogue k marks.now unions.now t.now) name) }
+    ensures { result ≡ slice_get (locked_part (catalogue k marks.now unions.now t.now) name) 0 }
 {
     let mut p = parts::first(marks, unions, t, k, Parts::Locked(name));
     while p < k.parts {
         if parts::selected(marks, unions, t, k, Parts::Locked(name), p) {
-            return p;
+            return Some(p);
         }
         p = parts::next(marks, unions, t, k, Parts::Locked(name), p);
     }
-    k.parts
+    None
 }
 
 fn serve_several(
@@ -70,39 +70,41 @@ fn name_locked(
     l: Limits,
     n: Counters,
     name: u16,
-    locked: usize,
+    locked: Option<usize>,
 ) -> Counters
     requires indexed { Indexed k marks.now unions.now t.now }
     requires fits { Fits l (length s.old) }
     requires good_alone { GoodAlone (catalogue k marks.now unions.now t.now) l n (held l s.old) }
-    requires locked_value { locked ≡ first_of (length (catalogue k marks.now unions.now t.now).parts) (locked_part (catalogue k marks.now unions.now t.now) name) }
+    requires locked_value { locked ≡ slice_get (locked_part (catalogue k marks.now unions.now t.now) name) 0 }
     ensures { StateDid (catalogue k marks.now unions.now t.now) l (λ v. fold (naming_of (catalogue k marks.now unions.now t.now) Variable) (locked_part (catalogue k marks.now unions.now t.now) name ++ locked_out (catalogue k marks.now unions.now t.now) name)) n (held l s.old) result (held l s.new) }
 {
-    if locked < k.parts {
-        let m = parts::name_each(
-            marks,
-            unions,
-            t,
-            k,
-            s,
-            l,
-            n,
-            Parts::Locked(name),
-            Naming::Variable,
-        );
-        return parts::name_each(
-            marks,
-            unions,
-            t,
-            k,
-            s,
-            l,
-            m,
-            Parts::Others { name, locked },
-            Naming::Variable,
-        );
+    match locked {
+        Some(locked) => {
+            let m = parts::name_each(
+                marks,
+                unions,
+                t,
+                k,
+                s,
+                l,
+                n,
+                Parts::Locked(name),
+                Naming::Variable,
+            );
+            parts::name_each(
+                marks,
+                unions,
+                t,
+                k,
+                s,
+                l,
+                m,
+                Parts::Others { name, locked },
+                Naming::Variable,
+            )
+        }
+        None => n,
     }
-    n
 }
 
 // The locked part, the others and the excluded parts get their variables.
@@ -115,12 +117,12 @@ fn name_parts(
     l: Limits,
     n: Counters,
     name: u16,
-    locked: usize,
+    locked: Option<usize>,
 ) -> Counters
     requires indexed { Indexed k marks.now unions.now t.now }
     requires fits { Fits l (length s.old) }
     requires good_alone { GoodAlone (catalogue k marks.now unions.now t.now) l n (held l s.old) }
-    requires locked_value { locked ≡ first_of (length (catalogue k marks.now unions.now t.now).parts) (locked_part (catalogue k marks.now unions.now t.now) name) }
+    requires locked_value { locked ≡ slice_get (locked_part (catalogue k marks.now unions.now t.now) name) 0 }
     ensures { NamesParts (catalogue k marks.now unions.now t.now) l name n (held l s.old) result (held l s.new) }
 {
     let a = serve_several(marks, unions, t, k, s, l, n, name);
@@ -150,19 +152,19 @@ fn lock_others(
     n: Counters,
     r: Run,
     name: u16,
-    locked: usize,
+    locked: Option<usize>,
 ) -> Counters
     requires indexed { Indexed k marks.now unions.now t.now }
     requires fits { Fits l (length s.old) }
     requires good { Good (catalogue k marks.now unions.now t.now) l n (held l s.old) clauses.old [] }
     requires long_enough { LongEnough l (length clauses.old) 16384 }
     requires number_nonzero { 0 < r.number }
-    requires locked_value { locked ≡ first_of (length (catalogue k marks.now unions.now t.now).parts) (locked_part (catalogue k marks.now unions.now t.now) name) }
+    requires locked_value { locked ≡ slice_get (locked_part (catalogue k marks.now unions.now t.now) name) 0 }
     requires known_unless_full { KnownUnlessFull (is_full n) (variables n.variables (held l s.old)) (locked_out (catalogue k marks.now unions.now t.now) name) }
     ensures { ClausesDid (catalogue k marks.now unions.now t.now) l (λ v. fold (adding_of (run_of r) Adding.Lock) (locked_out (catalogue k marks.now unions.now t.now) name)) n (held l s.old) clauses.old result (held l s.new) clauses.new }
 {
-    if locked < k.parts {
-        return parts::add_each(
+    match locked {
+        Some(locked) => parts::add_each(
             marks,
             unions,
             t,
@@ -174,9 +176,9 @@ fn lock_others(
             r,
             Parts::Others { name, locked },
             Adding::Lock,
-        );
+        ),
+        None => n,
     }
-    n
 }
 
 // The clauses of a name whose parts have their variables.
@@ -191,14 +193,14 @@ fn add_clauses(
     n: Counters,
     r: Run,
     name: u16,
-    locked: usize,
+    locked: Option<usize>,
 ) -> Counters
     requires indexed { Indexed k marks.now unions.now t.now }
     requires fits { Fits l (length s.old) }
     requires good { Good (catalogue k marks.now unions.now t.now) l n (held l s.old) clauses.old [] }
     requires long_enough { LongEnough l (length clauses.old) 16384 }
     requires number_nonzero { 0 < r.number }
-    requires locked_value { locked ≡ first_of (length (catalogue k marks.now unions.now t.now).parts) (locked_part (catalogue k marks.now unions.now t.now) name) }
+    requires locked_value { locked ≡ slice_get (locked_part (catalogue k marks.now unions.now t.now) name) 0 }
     requires known_unless_full { KnownUnlessFull (is_full n) (variables n.variables (held l s.old)) (locked_out (catalogue k marks.now unions.now t.now) name) }
     requires known_unless_full_2 { KnownUnlessFull (is_full n) (variables n.variables (held l s.old)) (excluded_parts (catalogue k marks.now unions.now t.now) name) }
     ensures { ClausesDid (catalogue k marks.now unions.now t.now) l (λ v. add_clauses (catalogue k marks.now unions.now t.now) (run_of r) name) n (held l s.old) clauses.old result (held l s.new) clauses.new }

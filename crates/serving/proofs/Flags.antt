@@ -1,6 +1,6 @@
 -- The flags of goals: a served requirement settles its goal's candidates, and no task unsettles any.
 use mathlib.Core.Path.{◌≡◌, refl, sym, ◌∙◌}
-use mathlib.Core.Bool.{true, false, not, true≢false}
+use mathlib.Core.Bool.{Bool, true, false, true≢false}
 use mathlib.Core.List.Memᴰ
 use mathlib.Core.List.{List, [], ◌++◌}
 use Prim.Native.Nat.{ℕ, zero, suc, ◌+◌, ◌*◌, ◌-◌, ◌<◌}
@@ -8,7 +8,7 @@ use native.Mathlib.Omega.{arith}
 use lib.Dec.{eqb, ltb}
 use lib.ListN.{get_or, set, replicate}
 use lib.Seq.{get_or-set_other}
-use borrow.Author.Tests.{eqb-true, eqb-false, eq-eqb, lt-ltb, le-ltb}
+use borrow.Author.Tests.{eqb-true, eqb-false, lt-ltb, le-ltb}
 use Rattle.rules.specs.Lists.{elem, distinct, fold}
 use Rattle.rules.specs.Catalogue.{Goal, range, union, Catalogue, no_requirement, goal_at}
 use Rattle.rules.specs.Candidates.{sorted, goal_ranges, candidates}
@@ -88,25 +88,25 @@ requirement_settles c r q is s =
 
 -- ---- the flags
 
-zeros : (k i : ℕ) → ◌≡◌ {A = ℕ} (get_or (replicate k 0) i 0) 0
-zeros zero i = refl
-zeros (suc k) zero = refl
-zeros (suc k) (suc i) = zeros k i
+pub none_in : (k i : ℕ) → get_or (replicate k false) i false ≡ false
+none_in zero i = refl
+none_in (suc k) zero = refl
+none_in (suc k) (suc i) = none_in k i
 
 -- none is set
-pub flagged_none : {c : Catalogue} {l : Limits} {n : Counters} {st : ℕ → List ℕ} (k : ℕ) → Flagged c l (replicate k 0) n st
-flagged_none k = record { settles = λ i h. absurd (h (zeros k i)) }
+pub flagged_none : {c : Catalogue} {l : Limits} {n : Counters} {st : ℕ → List ℕ} (k : ℕ) → Flagged c l (replicate k false) n st
+flagged_none k = record { settles = λ i h. absurd (true≢false (sym h ∙ none_in k i)) }
 
 -- one more
-flagged_set : {c : Catalogue} {l : Limits} {flags : List ℕ} {n : Counters} {st : ℕ → List ℕ} (i : ℕ) → Settles c l (distinct (goal_ranges c (goal_from i))) n st → Flagged c l flags n st
-    → Flagged c l (set flags i 1) n st
+flagged_set : {c : Catalogue} {l : Limits} {flags : List Bool} {n : Counters} {st : ℕ → List ℕ} (i : ℕ) → Settles c l (distinct (goal_ranges c (goal_from i))) n st → Flagged c l flags n st
+    → Flagged c l (set flags i true) n st
 flagged_set {flags = flags} i h f =
     record {
-      settles = λ j k. by_cases (eqb j i) (λ e. rw (eqb-true j i e) h) (λ e. f.settles j (λ z. k (get_or-set_other flags i j 1 0 (eqb-false j i e) ∙ z)));
+      settles = λ j k. by_cases (eqb j i) (λ e. rw (eqb-true j i e) h) (λ e. f.settles j (sym (get_or-set_other flags i j true false (eqb-false j i e)) ∙ k));
     }
 
 -- none is lost where nothing is unsettled
-module _ {c : Catalogue} {l : Limits} {flags : List ℕ} {n n' : Counters} {st st' : ℕ → List ℕ} where
+module _ {c : Catalogue} {l : Limits} {flags : List Bool} {n n' : Counters} {st st' : ℕ → List ℕ} where
   pub flagged_stand : {F : Reading → State → State} {cl wt cl' wt' : List ℕ} → AlikeDid c l F n st cl wt n' st' cl' wt' → Good c l n st cl wt
       → ((v : Reading) (s : State) → Stands s.opening (F v s).opening) → Flagged c l flags n st → Flagged c l flags n' st'
   flagged_stand d g k f = record { settles = λ i h. settles_stand d g k (f.settles i h) }
@@ -124,17 +124,17 @@ module _ {c : Catalogue} {l : Limits} {flags : List ℕ} {n n' : Counters} {st s
 
   -- a requirement is, and its goal flagged
   pub flagged_more : (r : Run) (q : ℕ) (is : List ℕ) (i : ℕ) {cl cl' : List ℕ} → goal_from i ≡ goal_at c q
-      → ClausesAlike c l (λ v. serving c r (requirement q is)) n st cl n' st' cl' → Good c l n st cl [] → Flagged c l flags n st → Flagged c l (set flags i 1) n' st'
+      → ClausesAlike c l (λ v. serving c r (requirement q is)) n st cl n' st' cl' → Good c l n st cl [] → Flagged c l flags n st → Flagged c l (set flags i true) n' st'
   flagged_more r q is i e d g f =
       flagged_set i (rw e (settles_done (d.is []) g (λ v. requirement_settles c r q is))) (flagged_stand (d.is []) g (λ v. serving_stands c r (requirement q is)) f)
 
 -- the flag says that the requirement's candidates are settled
-pub flag_settles : {c : Catalogue} {l : Limits} {flags : List ℕ} {n : Counters} {st : ℕ → List ℕ} (q i : ℕ) → goal_from i ≡ goal_at c q → Flagged c l flags n st
-    → not (eqb (get_or flags i 0) 0) ≡ true → Settles c l (distinct (goal_ranges c (goal_at c q))) n st
-flag_settles {flags = flags} q i e f h = rw e at (f.settles i (λ z. true≢false (sym h ∙ rw (eq-eqb (get_or flags i 0) 0 z))))
+pub flag_settles : {c : Catalogue} {l : Limits} {flags : List Bool} {n : Counters} {st : ℕ → List ℕ} (q i : ℕ) → goal_from i ≡ goal_at c q → Flagged c l flags n st
+    → get_or flags i false ≡ true → Settles c l (distinct (goal_ranges c (goal_at c q))) n st
+flag_settles q i e f h = rw e at (f.settles i h)
 
 -- the line's head is moved
-pub flagged_from : {c : Catalogue} {l : Limits} {flags : List ℕ} {n : Counters} {st : ℕ → List ℕ} (first : ℕ) → Flagged c l flags n st → Flagged c l flags (from first n) st
+pub flagged_from : {c : Catalogue} {l : Limits} {flags : List Bool} {n : Counters} {st : ℕ → List ℕ} (first : ℕ) → Flagged c l flags n st → Flagged c l flags (from first n) st
 flagged_from first f = record { settles = λ i h. from_settles (f.settles i h) }
   where
     from_settles : {c : Catalogue} {l : Limits} {rs : List ℕ} {n : Counters} {st : ℕ → List ℕ} → Settles c l rs n st → Settles c l rs (from first n) st

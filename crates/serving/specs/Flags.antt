@@ -1,5 +1,5 @@
 -- The flags of a run's goals.
-use Rattle.std.specs.Prelude.{◌≡◌, cond, List, ℕ, ◌-◌, ltb, get_or}
+use Rattle.std.specs.Prelude.{◌≡◌, true, false, Bool, cond, List, ℕ, ◌-◌, ltb, get_or}
 use Rattle.rules.specs.Lists.{distinct}
 use Rattle.rules.specs.Catalogue.{Goal, range, union, Catalogue}
 use Rattle.rules.specs.Candidates.{goal_ranges}
@@ -12,5 +12,5 @@ unfoldable pub goal_from : ℕ → Goal
 goal_from i = cond (ltb i 512) (range i) (union (i - 512))
 
 -- the candidates of a goal whose flag is set are settled, unless it is full
-pub record Flagged (c : Catalogue) (l : Limits) (flags : List ℕ) (n : Counters) (st : ℕ → List ℕ) : Type 0 where
-  pub settles : (i : ℕ) → (get_or flags i 0 ≡ 0 → ⊥) → Settles c l (distinct (goal_ranges c (goal_from i))) n st
+pub record Flagged (c : Catalogue) (l : Limits) (flags : List Bool) (n : Counters) (st : ℕ → List ℕ) : Type 0 where
+  pub settles : (i : ℕ) → get_or flags i false ≡ true → Settles c l (distinct (goal_ranges c (goal_from i))) n st

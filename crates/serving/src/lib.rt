@@ -53,7 +53,7 @@ fn serve_flagged(
     r: Run,
     q: usize,
     is: Indices,
-    settled: &mut [u8; 640],
+    settled: &mut [bool; 640],
 ) -> Counters
     requires catalogued { Catalogued k marks.now unions.now t.now }
     requires fits { Fits l (length s.old) }
@@ -67,9 +67,9 @@ fn serve_flagged(
     ensures flagged_2 { Flagged (catalogue k marks.now unions.now t.now) l settled.new result (held l s.new) }
 {
     let i = goal_place(marks, unions, t, k, q);
-    let known = settled[i] != 0;
+    let known = settled[i];
     let m = handling::serve_requirement(marks, unions, t, k, s, clauses, l, n, r, q, is, known);
-    settled[i] = 1;
+    settled[i] = true;
     m
 }
 
@@ -87,7 +87,7 @@ fn serve_fired(
     n: Counters,
     r: Run,
     q: usize,
-    settled: &mut [u8; 640],
+    settled: &mut [bool; 640],
 ) -> Counters
     requires catalogued { Catalogued k marks.now unions.now t.now }
     requires fits { Fits l (length s.old) }
@@ -134,7 +134,7 @@ fn serve_drawn(
     r: Run,
     drawn: usize,
     e: usize,
-    settled: &mut [u8; 640],
+    settled: &mut [bool; 640],
 ) -> Counters
     requires catalogued { Catalogued k marks.now unions.now t.now }
     requires fits { Fits l (length s.old) }
@@ -180,7 +180,7 @@ fn serve_task(
     r: Run,
     drawn: usize,
     number: u16,
-    settled: &mut [u8; 640],
+    settled: &mut [bool; 640],
 ) -> Counters
     requires catalogued { Catalogued k marks.now unions.now t.now }
     requires fits { Fits l (length s.old) }
@@ -225,7 +225,7 @@ fn serve_next(
     r: Run,
     drawn: usize,
     head: usize,
-    settled: &mut [u8; 640],
+    settled: &mut [bool; 640],
 ) -> Counters
     requires catalogued { Catalogued k marks.now unions.now t.now }
     requires fits { Fits l (length s.old) }
@@ -239,10 +239,12 @@ fn serve_next(
     ensures flagged_2 { Flagged (catalogue k marks.now unions.now t.now) l settled.new result (held l s.new) }
 {
     let number = line::at(s, l, head);
-    let mut m = n;
-    m.first = head + 1;
+    let behind = Counters {
+        first: head + 1,
+        ..n
+    };
     serve_task(
-        marks, unions, t, k, s, clauses, w, l, m, r, drawn, number, settled,
+        marks, unions, t, k, s, clauses, w, l, behind, r, drawn, number, settled,
     )
 }
 
@@ -259,7 +261,7 @@ pub fn serve_line(
     n: Counters,
     r: Run,
     drawn: usize,
-    settled: &mut [u8; 640],
+    settled: &mut [bool; 640],
 ) -> Counters
     requires catalogued { Catalogued k marks.now unions.now t.now }
     requires fits { Fits l (length s.old) }
@@ -273,6 +275,7 @@ pub fn serve_line(
 {
     let mut m = n;
     let mut head = 0;
+    // Kept: no plainer: the line grows while it is served, so its end is not known at the start.
     while head < m.tail {
         if m.full != 0 {
             return m;

@@ -1,21 +1,7 @@
 -- `names::name_parts`: the parts that a name's clauses are for get their variables.
-use borrow.Author.Rules.{rules}
-use Rattle.state.proofs.Sizes.{fits_same}
 use Rattle.encoder.proofs.Steps.{alone_after}
 use Rattle.names.proofs.Serving.{parts_named}
 use Rattle.names.proofs.name_parts.Goals as goal
-
-pub name_locked-b-requires-clause-good_alone : goal.name_locked-b-requires-clause-good_alone
-name_locked-b-requires-clause-good_alone c = alone_after c.serve_several-a.ensures c.requires.good_alone
-
-pub name_locked-b-requires-clause-locked_value : goal.name_locked-b-requires-clause-locked_value
-name_locked-b-requires-clause-locked_value c = c.requires.locked_value
-
-pub name_each-requires-clause-indexed : goal.name_each-requires-clause-indexed
-name_each-requires-clause-indexed c = c.requires.indexed
-
-pub name_each-requires-clause-fits : goal.name_each-requires-clause-fits
-name_each-requires-clause-fits c = fits_same (search rules) c.requires.fits
 
 pub name_each-requires-clause-good_alone : goal.name_each-requires-clause-good_alone
 name_each-requires-clause-good_alone c = alone_after c.name_locked-b.ensures (alone_after c.serve_several-a.ensures c.requires.good_alone)

@@ -5,8 +5,8 @@ use Rattle.serving.proofs.Passing.{good_from, served_next}
 use Rattle.serving.proofs.Flags.{flagged_from}
 use Rattle.serving.proofs.serve_next.Goals as goal
 
-pub overflow_add-m : goal.overflow_add-m
-overflow_add-m c = omega (arith, c.requires.number_nonzero.3)
+pub overflow_add-behind : goal.overflow_add-behind
+overflow_add-behind c = omega (arith, c.requires.number_nonzero.3)
 
 pub serve_task-requires-clause-catalogued : goal.serve_task-requires-clause-catalogued
 serve_task-requires-clause-catalogued c = let q = c.requires.number_nonzero in
