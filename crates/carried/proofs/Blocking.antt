@@ -1,16 +1,17 @@
 -- Blocked conditions: a draw of one changes nothing, and each command keeps them blocked but for a decision that makes a watched part true.
-use mathlib.Core.Path.{◌≡◌, refl, sym, ◌∙◌, fun_ext}
-use mathlib.Core.Logic.{◌≢◌, inl, inr, ⊎_elim}
+use mathlib.Core.Path.{◌≡◌, refl, sym, ◌∙◌, ap, fun_ext}
+use mathlib.Core.Logic.{◌≢◌, ◌⊎◌, inl, inr, ⊎_elim}
 use mathlib.Core.Bool.{Bool, true, false, ◌&&◌, cond, true≢false}
 use mathlib.Core.List.{List, []}
 use mathlib.Core.Option.{Option, none, some}
-use Prim.Native.Nat.{ℕ, ◌+◌, ◌*◌, ◌<◌, ◌≤◌}
-use native.Mathlib.Omega.{arith}
+use Prim.Native.Nat.{ℕ, ◌<◌}
 use lib.Dec.{eqb}
 use lib.ListN.{length, get_or}
 use borrow.Author.Tests.{eqb-true, ne_eqb}
+use Rattle.std.specs.declared.option.Option as code_option
+use Rattle.std.specs.Prelude.{Some, None}
 use Rattle.rules.specs.Called.{◌∈◌}
-use Rattle.rules.specs.Catalogue.{root, part, range, union, Catalogue, Condition, condition_at}
+use Rattle.rules.specs.Catalogue.{root, part, range, union, Catalogue, condition_at}
 use Rattle.rules.specs.Conditions.{Disjunct, disjuncts, disjuncts_if, disjuncts_of, disjunct_at, is_condition}
 use Rattle.rules.specs.Refusals.{ok}
 use Rattle.rules.specs.Records.{Command}
@@ -35,21 +36,17 @@ use Rattle.tables.specs.declared.Counts.{Counts}
 use Rattle.tables.specs.Tables.{tables}
 use Rattle.cache.specs.Areas.{catalogue}
 use Rattle.cache.proofs.Laws.{conditions_held}
-use Rattle.state.specs.declared.Limits.{Limits}
-use Rattle.state.specs.Layout.{held, Fits}
-use Rattle.entries.specs.Deferred.{is_held}
 use Rattle.variable_map.specs.declared.Origin as code_origin
 use Rattle.variable_map.specs.Mapping.{origin_by, origin_of}
-use Rattle.goals.specs.Goals.{Catalogued, true_of, AllGiven}
+use Rattle.goals.specs.Goals.{true_of, AllGiven}
 use Rattle.goals.proofs.Given.{all_given}
-use Rattle.blocking.specs.Blocking.{Blocked, Sees, Blocks, Releases, Listed, shared_bars}
-use Rattle.blocking.proofs.Watching.{held_inside}
-use Rattle.blocking.proofs.Blocking.{one_blocked, blocked_fails, blocked_still}
+use Rattle.blocking.specs.declared.Blocking.{Blocking}
+use Rattle.blocking.specs.declared.Listing.{Listing}
+use Rattle.blocking.specs.Blocking.{is_blocked, Blocked, Blocks, Releases, Listed}
+use Rattle.blocking.proofs.Blocked.{blocked_still}
+use Rattle.blocking.proofs.Judging.{blocks_known}
 use Rattle.blocking.proofs.Sharing.{shared_blocks}
-use Rattle.encoder.specs.declared.Counters.{Counters}
-use Rattle.encoding.specs.Running.{Reaches}
 use Rattle.commands.specs.Commands.{Idle}
-use Rattle.commands.proofs.Drawing.{set_past}
 use Rattle.commands.proofs.Idling.{idle_draw}
 use Rattle.carried.specs.Carrying.{Settled, Has, Guards, Idles, DrawIdles, IsFlagged, MakesTrue, Unblocks}
 use Rattle.carried.proofs.Undoing.{decided_before}
@@ -72,22 +69,6 @@ module _ (c : Catalogue) (f : ℕ → Bool) (k : ℕ) (h : (d : Disjunct) → d 
   idle_failing : (s : Opening) → AllGiven c s.waiting → Idle c f k s
   idle_failing s a = record { none = each_imp entry_idle a.given }
 
--- ---- what draws and decisions see
-
-pub sees : (k : Counts) (m u t : List ℕ) {l : Limits} {n : Counters} {s cl wt : List ℕ} → Catalogued k m u t → Fits l (length s) → Reaches (catalogue k m u t) l n (held l s) cl wt
-    → Sees k m u t l n.variables n.decisions s
-sees k m u t a f r = record { catalogued = a; fits = f; mapped = r.holds.good.state.mapped; kept = r.holds.good.state.kept }
-
-pub few_conditions : (k : Counts) (m u t : List ℕ) {l : Limits} {n d : ℕ} {s : List ℕ} → Sees k m u t l n d s → k.conditions ≤ 256
-few_conditions k m u t y = y.catalogued.kept.held.laid.conditions
-
-module _ {cs : List Condition} {lists : List ℕ} (y : Listed cs lists) (x : ℕ) where
-  pub first_low : get_or lists (1092 + 2 * x) 0 ≤ 512
-  first_low = (y.first x).low
-
-  pub second_low : get_or lists (1093 + 2 * x) 0 ≤ 512
-  second_low = (y.second x).low
-
 -- ---- the code's draw
 
 pub has_true : {vs : List Origin} {ds : List Decision} {s : State} → Has vs ds s → decided_true s ≡ true_of vs ds
@@ -95,74 +76,63 @@ unfolding decided_true true_of
 has_true h = fun_ext (λ p. rw (h.variables, h.decisions))
 
 -- a draw decides nothing
-guards_draw : {c : Catalogue} {vs : List Origin} {ds : List Decision} (k : ℕ) {blocked watched blocked' watched' : List ℕ}
-    → (Blocked c (true_of vs ds) blocked watched → Blocked c (true_of vs ds) blocked' watched') → Guards c vs ds (Command.draw k) blocked watched blocked' watched'
+guards_draw : {c : Catalogue} {vs : List Origin} {ds : List Decision} (k : ℕ) {blocking blocking' : Blocking}
+    → (Blocked c (true_of vs ds) blocking → Blocked c (true_of vs ds) blocking') → Guards c vs ds (Command.draw k) blocking blocking'
 unfolding carried_out decided_true
-guards_draw {c} {vs} {ds} k {blocked} {watched} {blocked'} {watched'} f = record { is = is }
+guards_draw {c} {vs} {ds} k {blocking} {blocking'} f = record { is = is }
   where
-    is : (l : rules.Limits) (s s' : State) → Reached l c s → Has vs ds s → carry_out l c (Command.draw k) s ≡ ok s' → Blocked c (decided_true s) blocked watched
-        → Blocked c (decided_true s') blocked' watched'
+    is : (l : rules.Limits) (s s' : State) → Reached l c s → Has vs ds s → carry_out l c (Command.draw k) s ≡ ok s' → Blocked c (decided_true s) blocking
+        → Blocked c (decided_true s') blocking'
     is l s s' r h e b =
         let same : decided_true s' ≡ decided_true s = rw (← carried_is l c s (Command.draw k) s' e) (unfold carried_out decided_true in refl) in
         rw (same ∙ has_true h) (f (rw (has_true h) at b))
 
-module _ {c : Catalogue} {vs : List Origin} {ds : List Decision} (k : ℕ) {flags blocked watched : List ℕ} where
+module _ {c : Catalogue} {vs : List Origin} {ds : List Decision} (k : ℕ) {flags : List Bool} {blocking : Blocking} where
   -- it is flagged
-  pub idles_settled : {b : Bool} → b ≡ is_held flags k → b ≡ true → Idles c vs ds (Command.draw k) flags blocked watched true blocked watched
+  pub idles_settled : {b : Bool} → b ≡ get_or flags k false → b ≡ true → Idles c vs ds (Command.draw k) flags blocking true blocking
   idles_settled e q = record { is = λ _ l s g r h z w. settled_draw l c s z k (sym e ∙ q); guards = guards_draw k (λ w. w) }
 
   -- it is asked
-  idles_asked : {b : Bool} {blocked' watched' : List ℕ} → k < length c.conditions → Blocks c (true_of vs ds) k b blocked watched blocked' watched'
-      → Idles c vs ds (Command.draw k) flags blocked watched b blocked' watched'
+  idles_asked : {b : Bool} {blocking' : Blocking} → k < length c.conditions → Blocks c (true_of vs ds) k b blocking blocking'
+      → Idles c vs ds (Command.draw k) flags blocking b blocking'
   idles_asked {b} g d = record { is = is; guards = guards_draw k d.keeps }
     where
-      is : b ≡ true → (l : rules.Limits) (s : State) → Given c → Reached l c s → Has vs ds s → Settled c flags s → Blocked c (decided_true s) blocked watched
+      is : b ≡ true → (l : rules.Limits) (s : State) → Given c → Reached l c s → Has vs ds s → Settled c flags s → Blocked c (decided_true s) blocking
           → carry_out l c (Command.draw k) s ≡ ok s
       is e l s n r h z w =
           let fails : (d : Disjunct) → d ∈ disjuncts c.conditions k → holds_now c (decided_true s) d ≡ false = rw (has_true h) (d.none e (rw (has_true h) at w)) in
           drawn_is l c s k g ∙ rw (idle_draw c (decided_true s) k s.opening (idle_failing c (decided_true s) k fails s.opening (all_given (valid n r).opening.waiting)))
 
   -- there is no such condition
-  pub idles_not : Idles c vs ds (Command.draw k) flags blocked watched false blocked watched
+  pub idles_not : Idles c vs ds (Command.draw k) flags blocking false blocking
   idles_not = record { is = λ e. absurd (true≢false (sym e)); guards = guards_draw k (λ w. w) }
 
-pub idles_given : (j : Counts) (m u t : List ℕ) {vs : List Origin} {ds : List Decision} (k : ℕ) {flags blocked watched : List ℕ} {b : Bool} {blocked' watched' : List ℕ} → k < j.conditions
-    → Blocks (catalogue j m u t) (true_of vs ds) k b blocked watched blocked' watched' → Idles (catalogue j m u t) vs ds (Command.draw k) flags blocked watched b blocked' watched'
+pub idles_given : (j : Counts) (m u t : List ℕ) {vs : List Origin} {ds : List Decision} (k : ℕ) {flags : List Bool} {blocking : Blocking} {b : Bool} {blocking' : Blocking} → k < j.conditions
+    → Blocks (catalogue j m u t) (true_of vs ds) k b blocking blocking' → Idles (catalogue j m u t) vs ds (Command.draw k) flags blocking b blocking'
 idles_given j m u t k h d = idles_asked k (rw (conditions_held j m u t) h) d
 
 -- it is flagged, or blocked, or a range is that its disjuncts share
-module _ {flags blocked lists : List ℕ} {conditions k : ℕ} where
-  pub flagged_in : {b : Bool} → b ≡ is_held flags k → b ≡ true → IsFlagged flags blocked lists conditions k true
-  flagged_in e q = record { is = λ _. inl (sym e ∙ q) }
+module _ {flags : List Bool} {blocking : Blocking} {listing : Listing} {conditions k : ℕ} where
+  pub blocked_in : k < conditions → get_or blocking.conditions k false ≡ true → IsFlagged flags blocking listing conditions k true
+  unfolding is_blocked
+  blocked_in h e = record { is = λ _. inr (h, inl e) }
 
-  pub blocked_in : {v : ℕ} → k < conditions → v ≡ get_or blocked k 0 → v ≡ 1 → IsFlagged flags blocked lists conditions k true
-  blocked_in h e q = record { is = λ _. inr (h, inl (sym e ∙ q)) }
-
-  pub shared_in : {b : Bool} → k < conditions → b ≡ shared_bars lists blocked k → IsFlagged flags blocked lists conditions k b
-  shared_in h e = record { is = λ q. inr (h, inr (sym e ∙ q)) }
-
-  pub flagged_out : IsFlagged flags blocked lists conditions k false
-  flagged_out = record { is = λ e. absurd (true≢false (sym e)) }
-
-module _ (j : Counts) (m u t : List ℕ) {vs : List Origin} {ds : List Decision} (k : ℕ) {flags blocked watched : List ℕ} where
-  pub passed_flagged : {lists : List ℕ} {b : Bool} → j.conditions ≤ 256 → Listed (tables j t).conditions lists
-      → IsFlagged flags blocked lists j.conditions k b → b ≡ true → DrawIdles (catalogue j m u t) vs ds k flags blocked watched true blocked watched
-  passed_flagged {lists} few y f q =
+module _ (j : Counts) (m u t : List ℕ) {vs : List Origin} {ds : List Decision} (k : ℕ) {flags : List Bool} {blocking : Blocking} where
+  pub passed_flagged : {listing : Listing} {b : Bool} → Listed (tables j t).conditions listing
+      → IsFlagged flags blocking listing j.conditions k b → b ≡ true → DrawIdles (catalogue j m u t) vs ds k flags blocking true blocking
+  passed_flagged {listing} y f q =
       record {
-        idles = ⊎_elim (λ e. idles_settled k refl e) (λ e. ⊎_elim (λ z. idles_given j m u t k e.0 (known e.0 z)) (λ z. idles_given j m u t k e.0 (shared_blocks j m u t y z)) e.1) (f.is q);
+        idles = ⊎_elim (λ e. idles_settled k refl e) (λ e. ⊎_elim (λ z. idles_given j m u t k e.0 (blocks_known j m u t z)) (λ z. idles_given j m u t k e.0 (shared_blocks j m u t y z)) e.1) (f.is q);
         keeps = λ w. w;
       }
-    where
-      known : {true? : ℕ → Bool} {watched : List ℕ} → k < j.conditions → get_or blocked k 0 ≡ 1 → Blocks (catalogue j m u t) true? k true blocked watched blocked watched
-      known h e = record { none = λ _ w. blocked_fails w k (omega arith) (one_blocked blocked k e); keeps = λ w. w }
 
   -- a range that they share is asked
-  pub passed_asked : {b : Bool} {blocked' watched' : List ℕ} → k < j.conditions → Blocks (catalogue j m u t) (true_of vs ds) k b blocked watched blocked' watched'
-      → DrawIdles (catalogue j m u t) vs ds k flags blocked watched b blocked' watched'
+  pub passed_asked : {b : Bool} {blocking' : Blocking} → k < j.conditions → Blocks (catalogue j m u t) (true_of vs ds) k b blocking blocking'
+      → DrawIdles (catalogue j m u t) vs ds k flags blocking b blocking'
   passed_asked h d = record { idles = idles_given j m u t k h d; keeps = d.keeps }
 
   -- there is no such condition
-  pub passed_not : DrawIdles (catalogue j m u t) vs ds k flags blocked watched false blocked watched
+  pub passed_not : DrawIdles (catalogue j m u t) vs ds k flags blocking false blocking
   passed_not = record { idles = idles_not k; keeps = λ w. w }
 
 -- ---- the code's decision
@@ -186,34 +156,27 @@ part_number : (o : code_origin.Origin) (p : ℕ) → o.kind ≡ 1 → origin_of 
 unfolding origin_of origin_by
 part_number o p k e = let q : chosen (part o.number) ≡ part_origin p = rw k at e in cc
 
-module _ {vs : List Origin} {x value p : ℕ} where
+module _ {vs : List Origin} {x value : ℕ} where
   -- another value than true
-  pub makes_value : (value ≡ 1 → ⊥) → MakesTrue vs x value p
+  pub makes_value : (value ≡ 1 → ⊥) → MakesTrue vs x value None
   makes_value n = record { is = λ e. absurd (n e) }
 
   module _ (o : code_origin.Origin) (h : origin_of o ≡ get_or vs x (chosen root)) where
     -- no part's variable
-    pub makes_other : (o.kind ≡ 1 → ⊥) → MakesTrue vs x value p
+    pub makes_other : (o.kind ≡ 1 → ⊥) → MakesTrue vs x value None
     makes_other n = record { is = λ _ q e. absurd (other_kind o q n (h ∙ e)) }
 
-pub makes_part : {vs : List Origin} {x value : ℕ} (o : code_origin.Origin) → origin_of o ≡ get_or vs x (chosen root) → o.kind ≡ 1 → MakesTrue vs x value o.number
-makes_part o h k = record { is = λ _ q e. sym (part_number o q k (h ∙ e)) }
+    pub makes_part : o.kind ≡ 1 → MakesTrue vs x value (Some o.number)
+    makes_part k = record { is = λ _ q e. ap Some (part_number o q k (h ∙ e)) }
 
--- past the parts none is watched
-pub past_watched : (watched : List ℕ) (p : ℕ) → length watched ≡ 1024 → 1024 ≤ p → false ≡ is_held watched p
-past_watched watched p l h = set_past watched p (omega arith)
+-- where only part p can be made true
+made_is : {vs : List Origin} {x value : ℕ} {made : code_option.Option ℕ} → MakesTrue vs x value made → {p q : ℕ} → made ≡ Some p → value ≡ 1 → get_or vs x (chosen root) ≡ part_origin q → q ≡ p
+made_is {made = made} d {p} {q} e i j = let a : made ≡ Some q = d.is i q j in cc
 
--- a watched part is one of 1,024
-pub watched_inside : {b : Bool} (watched : List ℕ) (p : ℕ) → b ≡ is_held watched p → b ≡ true → length watched ≡ 1024 → p < 1024
-watched_inside watched p e q l = rw l at (held_inside watched p (sym e ∙ q))
-
-module _ {k : Counts} {m : List ℕ} {vs : List Origin} {x value p : ℕ} {blocked watched : List ℕ} (d : MakesTrue vs x value p) where
-  pub unblocks_part : {blocked' watched' : List ℕ} → Releases k m p blocked watched blocked' watched' → Unblocks k m vs x value blocked watched blocked' watched'
-  unblocks_part r = record { is = λ u t f h. r.is u t (λ q n. f q (λ i j. n (d.is i q j))) h }
-
-  pub unblocks_none : {b : Bool} → b ≡ is_held watched p → b ≡ false → Unblocks k m vs x value blocked watched blocked watched
-  unblocks_none e q =
-      record { is = λ u t f h. blocked_still h (λ r g z. f r (λ i j. true≢false (sym (rw (d.is i r j) at g) ∙ sym e ∙ q)) ∙ z) }
+module _ {k : Counts} {m : List ℕ} {vs : List Origin} {x value : ℕ} {blocking : Blocking} {made : code_option.Option ℕ} (d : MakesTrue vs x value made) where
+  module _ {p : ℕ} (e : made ≡ Some p) where
+    pub unblocks_part : {blocking' : Blocking} → Releases k m p blocking blocking' → Unblocks k m vs x value blocking blocking'
+    unblocks_part r = record { is = λ u t f h. r.is u t (λ q n. f q (λ i j. n (made_is d e i j))) h }
 
 -- a decision makes no part true but that of its variable
 module _ (x value level : ℕ) (s : State) (p : ℕ) (n : value ≡ 1 → get_or s.variables x (chosen root) ≡ part_origin p → ⊥) where
@@ -232,12 +195,12 @@ module _ (x value level : ℕ) (s : State) (p : ℕ) (n : value ≡ 1 → get_or
 -- ---- the code's command
 
 -- one that makes no part true
-guards_still : {c : Catalogue} {vs : List Origin} {ds : List Decision} (o : Command) {blocked watched : List ℕ}
-    → ((l : rules.Limits) (s : State) → Reached l c s → (p : ℕ) → decided_true (carried_out l c o s) p ≡ true → decided_true s p ≡ true) → Guards c vs ds o blocked watched blocked watched
-guards_still {c} {vs} {ds} o {blocked} {watched} f = record { is = is }
+guards_still : {c : Catalogue} {vs : List Origin} {ds : List Decision} (o : Command) {blocking : Blocking}
+    → ((l : rules.Limits) (s : State) → Reached l c s → (p : ℕ) → decided_true (carried_out l c o s) p ≡ true → decided_true s p ≡ true) → Guards c vs ds o blocking blocking
+guards_still {c} {vs} {ds} o {blocking} f = record { is = is }
   where
-    is : (l : rules.Limits) (s s' : State) → Reached l c s → Has vs ds s → carry_out l c o s ≡ ok s' → Blocked c (decided_true s) blocked watched
-        → Blocked c (decided_true s') blocked watched
+    is : (l : rules.Limits) (s s' : State) → Reached l c s → Has vs ds s → carry_out l c o s ≡ ok s' → Blocked c (decided_true s) blocking
+        → Blocked c (decided_true s') blocking
     is l s s' r h e w = rw (← carried_is l c s o s' e) (blocked_still w (λ p _ z. contrary (decided_true (carried_out l c o s) p) (decided_true s p) (f l s r p) z))
 
 add_true : (l : rules.Limits) (c : Catalogue) (o : ℕ) (s : State) (p : ℕ) → decided_true (carried_out l c (Command.add o) s) p ≡ decided_true s p
@@ -253,35 +216,40 @@ module _ {l : rules.Limits} {c : Catalogue} {s : State} (r : Reached l c s) (lev
   unfolding carried_out
   undo_true e = decided_before r level p e
 
-module _ (x : code.Command) {c : Catalogue} {vs : List Origin} {ds : List Decision} {flags blocked watched : List ℕ} where
-  idles_no : (o : Command) → command_of x ≡ o → {blocked' watched' : List ℕ} → Guards c vs ds o blocked watched blocked' watched'
-      → Idles c vs ds (command_of x) flags blocked watched false blocked' watched'
+module _ (x : code.Command) {c : Catalogue} {vs : List Origin} {ds : List Decision} {flags : List Bool} {blocking : Blocking} where
+  idles_no : (o : Command) → command_of x ≡ o → {blocking' : Blocking} → Guards c vs ds o blocking blocking'
+      → Idles c vs ds (command_of x) flags blocking false blocking'
   idles_no o q g = rw q (record { is = λ e. absurd (true≢false (sym e)); guards = g })
 
-  pub idles_add : (o : ℕ) → x ≡ C.Add o → Idles c vs ds (command_of x) flags blocked watched false blocked watched
+  pub idles_add : (o : ℕ) → x ≡ C.Add o → Idles c vs ds (command_of x) flags blocking false blocking
   unfolding command_of
   idles_add o q = idles_no (Command.add o) (rw q) (guards_still (Command.add o) (λ l s r p e. sym (add_true l c o s p) ∙ e))
 
-  pub idles_run : (level : ℕ) → x ≡ C.Run level → Idles c vs ds (command_of x) flags blocked watched false blocked watched
+  pub idles_run : (level : ℕ) → x ≡ C.Run level → Idles c vs ds (command_of x) flags blocking false blocking
   unfolding command_of
   idles_run level q = idles_no (Command.run level) (rw q) (guards_still (Command.run level) (λ l s r p e. sym (run_true r level p) ∙ e))
 
-  pub idles_undo : (level : ℕ) → x ≡ C.Undo level → Idles c vs ds (command_of x) flags blocked watched false blocked watched
+  pub idles_undo : (level : ℕ) → x ≡ C.Undo level → Idles c vs ds (command_of x) flags blocking false blocking
   unfolding command_of
   idles_undo level q = idles_no (Command.undo level) (rw q) (guards_still (Command.undo level) (λ l s r p e. undo_true r level p e))
 
-  pub idles_draw : (k : ℕ) {b : Bool} {blocked' watched' : List ℕ} → x ≡ C.Draw k → Idles c vs ds (Command.draw k) flags blocked watched b blocked' watched'
-      → Idles c vs ds (command_of x) flags blocked watched b blocked' watched'
+  -- any of these
+  pub idles_same : ((o : ℕ) × (x ≡ C.Add o)) ⊎ (((level : ℕ) × (x ≡ C.Run level)) ⊎ ((level : ℕ) × (x ≡ C.Undo level)))
+      → Idles c vs ds (command_of x) flags blocking false blocking
+  idles_same e = ⊎_elim (λ a. idles_add a.0 a.1) (λ b. ⊎_elim (λ a. idles_run a.0 a.1) (λ a. idles_undo a.0 a.1) b) e
+
+  pub idles_draw : (k : ℕ) {b : Bool} {blocking' : Blocking} → x ≡ C.Draw k → Idles c vs ds (Command.draw k) flags blocking b blocking'
+      → Idles c vs ds (command_of x) flags blocking b blocking'
   unfolding command_of
   idles_draw k q d = rw q d
 
-module _ (j : Counts) (m u t : List ℕ) (x : code.Command) {vs : List Origin} {ds : List Decision} {flags blocked watched : List ℕ} where
-  pub idles_decide : (v value level : ℕ) {blocked' watched' : List ℕ} → x ≡ C.Decide v value level → Unblocks j m vs v value blocked watched blocked' watched'
-      → Idles (catalogue j m u t) vs ds (command_of x) flags blocked watched false blocked' watched'
+module _ (j : Counts) (m u t : List ℕ) (x : code.Command) {vs : List Origin} {ds : List Decision} {flags : List Bool} {blocking : Blocking} where
+  pub idles_decide : (v value level : ℕ) {blocking' : Blocking} → x ≡ C.Decide v value level → Unblocks j m vs v value blocking blocking'
+      → Idles (catalogue j m u t) vs ds (command_of x) flags blocking false blocking'
   unfolding command_of
-  idles_decide v value level {blocked'} {watched'} q d = idles_no x (Command.decide v value level) (rw q) (record { is = is })
+  idles_decide v value level {blocking'} q d = idles_no x (Command.decide v value level) (rw q) (record { is = is })
     where
-      is : (l : rules.Limits) (s s' : State) → Reached l (catalogue j m u t) s → Has vs ds s → carry_out l (catalogue j m u t) (Command.decide v value level) s ≡ ok s' → Blocked (catalogue j m u t) (decided_true s) blocked watched
-          → Blocked (catalogue j m u t) (decided_true s') blocked' watched'
+      is : (l : rules.Limits) (s s' : State) → Reached l (catalogue j m u t) s → Has vs ds s → carry_out l (catalogue j m u t) (Command.decide v value level) s ≡ ok s' → Blocked (catalogue j m u t) (decided_true s) blocking
+          → Blocked (catalogue j m u t) (decided_true s') blocking'
       is l s s' r h e w =
           rw (← carried_is l (catalogue j m u t) s (Command.decide v value level) s' e) (unfold carried_out in d.is u t (λ p n. decided_same v value level s p (rw (← h.variables) at n)) w)

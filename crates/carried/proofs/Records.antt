@@ -7,6 +7,7 @@ use native.Mathlib.Omega.{arith}
 use lib.Dec.{leb}
 use lib.ListN.{length, get_or, take, drop}
 use borrow.Author.Tests.{leb-true}
+use Rattle.std.specs.Prelude.{Result, Ok, Err}
 use Rattle.rules.specs.Compute.{computing}
 use Rattle.rules.specs.Lists.{all}
 use Rattle.rules.specs.Catalogue.{Catalogue}
@@ -33,13 +34,12 @@ use Rattle.decision_tracker.specs.Tracking.{decisions}
 use Rattle.encoder.specs.declared.Counters.{Counters}
 use Rattle.encoder.specs.Held.{state_of}
 use Rattle.encoder.specs.Did.{limits_of}
+use Rattle.blocking.specs.declared.Blocking.{Blocking}
 use Rattle.blocking.specs.Blocking.{Blocked}
 use Rattle.encoding.specs.Running.{Holds}
-use Rattle.commands.specs.declared.Outcome.{Outcome}
-use Rattle.commands.specs.declared.Outcome.TheVariants as outcome
 use Rattle.sheet.specs.Sheet.{CommandDid}
-use Rattle.carried.specs.declared.Step.{Step}
-use Rattle.carried.specs.Carrying.{end_from, Settled, Has, Idles, SettledDid, ReadDid, Passed, StepDid}
+use Rattle.carried.specs.declared.Next.{Next}
+use Rattle.carried.specs.Carrying.{end_from, Settled, Has, Idles, SettledDid, Passed, StepDid}
 
 -- ---- a sheet record has three bytes or more
 
@@ -104,9 +104,9 @@ has_held h =
     let is = h.is (record { truth = λ _. true; drawn = [] }) in
     record { variables = sym (ap (λ (u : State). u.variables) is); decisions = sym (ap (λ (u : State). u.decisions) is) }
 
-module _ {c : Catalogue} {flags blocked watched : List ℕ} {l : Limits} {o : Command} {n : Counters} {st : ℕ → List ℕ} {cl wt blocked' watched' : List ℕ} {b : Bool}
-    (d : Idles c (variables n.variables st) (decisions n.decisions st) o flags blocked watched b blocked' watched') where
-  pub settled_passes : b ≡ true → SettledDid c flags blocked watched l o n st cl wt (outcome.Carried n) st cl wt blocked' watched'
+module _ {c : Catalogue} {flags : List Bool} {blocking : Blocking} {l : Limits} {o : Command} {n : Counters} {st : ℕ → List ℕ} {cl wt : List ℕ} {blocking' : Blocking} {b : Bool}
+    (d : Idles c (variables n.variables st) (decisions n.decisions st) o flags blocking b blocking') where
+  pub settled_passes : b ≡ true → SettledDid c flags blocking l o n st cl wt (Ok n) st cl wt blocking'
   settled_passes e =
       record {
         carried = λ m q s g z h x w. let y : m ≡ n = cc in rw y (record { state = s; is = d.is e (limits_of l) s g z (has_held h) x w; holds = h; runs = omega arith });
@@ -114,48 +114,21 @@ module _ {c : Catalogue} {flags blocked watched : List ℕ} {l : Limits} {o : Co
         refused = λ f q. absurd (not_one (cc));
       }
 
-  pub settled_carries : {r : Outcome} {st' : ℕ → List ℕ} {cl' wt' : List ℕ} → CommandDid c l o n st cl wt r st' cl' wt'
-      → SettledDid c flags blocked watched l o n st cl wt r st' cl' wt' blocked' watched'
+  pub settled_carries : {r : Result Counters Refusal} {st' : ℕ → List ℕ} {cl' wt' : List ℕ} → CommandDid c l o n st cl wt r st' cl' wt'
+      → SettledDid c flags blocking l o n st cl wt r st' cl' wt' blocking'
   settled_carries k = record { carried = λ m e s g z h _ _. k.carried m e s g z h; guards = d.guards; refused = k.refused }
-
--- that was read
-module _ {c : Catalogue} {flags blocked watched : List ℕ} {l : Limits} {next : ℕ} {x : code.Command} {n : Counters} {st : ℕ → List ℕ} {cl wt : List ℕ} {st' : ℕ → List ℕ}
-    {cl' wt' blocked' watched' : List ℕ} where
-  pub read_carried : {m : Counters} {y : code.Command} → x ≡ y → SettledDid c flags blocked watched l (command_of x) n st cl wt (outcome.Carried m) st' cl' wt' blocked' watched'
-      → ReadDid c flags blocked watched l next x n st cl wt (Step.Next next m y) st' cl' wt' blocked' watched'
-  read_carried {m} {y} e d =
-      record {
-        carried = λ a m' y' v. let i : a ≡ next = cc in let j : m' ≡ m = cc in let z : y' ≡ y = cc in (i, z ∙ sym e, rw j d);
-        refused = λ f v. absurd (not_one (cc));
-      }
-
-  pub read_refused : {f : Refusal} → SettledDid c flags blocked watched l (command_of x) n st cl wt (outcome.Refused f) st' cl' wt' blocked' watched'
-      → ReadDid c flags blocked watched l next x n st cl wt (Step.Refused f) st' cl' wt' blocked' watched'
-  read_refused {f} d =
-      record {
-        carried = λ a m y v. absurd (not_one (cc));
-        refused = λ g v. let q : g ≡ f = cc in rw q d;
-      }
-
-  -- by its outcome
-  module _ {r : Outcome} (d : SettledDid c flags blocked watched l (command_of x) n st cl wt r st' cl' wt' blocked' watched') where
-    pub read_carried_by : {m : Counters} → r ≡ outcome.Carried m → ReadDid c flags blocked watched l next x n st cl wt (Step.Next next m x) st' cl' wt' blocked' watched'
-    read_carried_by e = read_carried refl (rw e at d)
-
-    pub read_refused_by : {f : Refusal} → r ≡ outcome.Refused f → ReadDid c flags blocked watched l next x n st cl wt (Step.Refused f) st' cl' wt' blocked' watched'
-    read_refused_by e = read_refused (rw e at d)
 
 -- ---- the code's record
 
-module _ {c : Catalogue} {flags blocked watched : List ℕ} {l : Limits} {job : List ℕ} {at : ℕ} {n : Counters} {st : ℕ → List ℕ} {cl wt : List ℕ} {st' : ℕ → List ℕ}
-    {cl' wt' blocked' watched' : List ℕ} where
+module _ {c : Catalogue} {flags : List Bool} {blocking : Blocking} {l : Limits} {job : List ℕ} {at : ℕ} {n : Counters} {st : ℕ → List ℕ} {cl wt : List ℕ} {st' : ℕ → List ℕ}
+    {cl' wt' : List ℕ} {blocking' : Blocking} where
   refuses : (f : Refusal)
       → ((s : State) → Given c → Reached (limits_of l) c s → Holds c l s n st cl wt → (t : Terms) → t.limits ≡ limits_of l
       → end_from t job at (carrying c s) ≡ refused (number_and_place (length job) at (refusal_of f)))
-      → StepDid c flags blocked watched l job at n st cl wt (Step.Refused f) st' cl' wt' blocked' watched'
+      → StepDid c flags blocking l job at n st cl wt (Err f) st' cl' wt' blocking'
   refuses f p =
       record {
-        next = λ a m o e. absurd (not_one (cc));
+        next = λ y e. absurd (not_one (cc));
         refused = λ g e. let q : g ≡ f = cc in rw q p;
       }
 
@@ -180,27 +153,27 @@ module _ (job : List ℕ) (at : ℕ) (x : Record) (e : result_of (get_or job at 
   pub sheet_whole : (next : ℕ) → next ≡ next_of job at → at < length job → next ≤ length job
   sheet_whole next u h = next_inside true job at next _ sheet_is u h
 
-module _ {c : Catalogue} {flags blocked watched : List ℕ} {l : Limits} (job : List ℕ) (at : ℕ) {n : Counters} {st : ℕ → List ℕ} {cl wt : List ℕ} (x : Record) (h : at < length job)
+module _ {c : Catalogue} {flags : List Bool} {blocking : Blocking} {l : Limits} (job : List ℕ) (at : ℕ) {n : Counters} {st : ℕ → List ℕ} {cl wt : List ℕ} (x : Record) (h : at < length job)
     (e : result_of (get_or job at 0) (drop (at + 1) job) x ≡ read true (get_or job at 0) (drop (at + 1) job)) where
-  pub step_unread : (f : Refusal) → x ≡ R.Refused f → StepDid c flags blocked watched l job at n st cl wt (Step.Refused f) st cl wt blocked watched
+  pub step_unread : (f : Refusal) → x ≡ R.Refused f → StepDid c flags blocking l job at n st cl wt (Err f) st cl wt blocking
   unfolding result_of
   step_unread f q = refuses f (λ s _ _ _ t p. unread l job at h c s t p (refusal_of f) (sym (rw q at e)))
 
   -- after a sheet record nothing is read as an item
-  pub step_item : (f : Refusal) → x ≡ R.Item → StepDid c flags blocked watched l job at n st cl wt (Step.Refused f) st cl wt blocked watched
+  pub step_item : (f : Refusal) → x ≡ R.Item → StepDid c flags blocking l job at n st cl wt (Err f) st cl wt blocking
   unfolding result_of
   step_item f q = absurd (no_item (get_or job at 0) (drop (at + 1) job) _ (sym (rw q at e)))
 
   module _ (q : x ≡ R.Sheet) (next : ℕ) (u : next ≡ next_of job at) (k : code.Command) (w : command_of k ≡ command_read (get_or job at 0) (take (next - (at + 1)) (drop (at + 1) job)))
-      {st' : ℕ → List ℕ} {cl' wt' blocked' watched' : List ℕ} where
-    step_refused : (f : Refusal) → SettledDid c flags blocked watched l (command_of k) n st cl wt (outcome.Refused f) st' cl' wt' blocked' watched'
+      {st' : ℕ → List ℕ} {cl' wt' : List ℕ} {blocking' : Blocking} where
+    step_refused : (f : Refusal) → SettledDid c flags blocking l (command_of k) n st cl wt (Err f) st' cl' wt' blocking'
         → (s : State) → Given c → Reached (limits_of l) c s → Holds c l s n st cl wt → (t : Terms) → t.limits ≡ limits_of l
         → end_from t job at (carrying c s) ≡ refused (number_and_place (length job) at (refusal_of f))
     step_refused f d s g z o t p = not_carried l job at h c s t p (command_of k) (is_read job at x e q next u k w) (refusal_of f) (d.refused f refl s g z o)
 
-    pub step_carried : (m : Counters) → SettledDid c flags blocked watched l (command_of k) n st cl wt (outcome.Carried m) st' cl' wt' blocked' watched'
+    pub step_carried : (m : Counters) → SettledDid c flags blocking l (command_of k) n st cl wt (Ok m) st' cl' wt' blocking'
         → (s : State) → Given c → Reached (limits_of l) c s → Holds c l s n st cl wt → Settled c flags s
-        → Blocked c (decided_true s) blocked watched → Passed c l job at next (command_of k) s n m st' cl' wt' blocked' watched'
+        → Blocked c (decided_true s) blocking → Passed c l job at next (command_of k) s n m st' cl' wt' blocking'
     step_carried m d s g z o b v =
         let y = d.carried m refl s g z o b v in
         record {
@@ -215,10 +188,19 @@ module _ {c : Catalogue} {flags blocked watched : List ℕ} {l : Limits} (job : 
           alike = λ t p. goes_on l job at h c s t p (command_of k) (is_read job at x e q next u k w) y.state next (behind job at x e q next u k w) y.is;
         }
 
-    pub step_read : {r : Step} → ReadDid c flags blocked watched l next k n st cl wt r st' cl' wt' blocked' watched'
-        → StepDid c flags blocked watched l job at n st cl wt r st' cl' wt' blocked' watched'
-    step_read d =
+    -- it was carried out or refused
+    pub step_done : {y : Next} → y.at ≡ next → y.command ≡ k → SettledDid c flags blocking l (command_of k) n st cl wt (Ok y.counters) st' cl' wt' blocking'
+        → StepDid c flags blocking l job at n st cl wt (Ok y) st' cl' wt' blocking'
+    step_done {y} i j d =
         record {
-          next = λ a m k' v. let z = d.carried a m k' v in rw (z.0, z.1) (step_carried m z.2);
-          refused = λ f v. step_refused f (d.refused f v);
+          next = λ z v. let p : z ≡ y = cc in rw (p, i, j) (step_carried y.counters d);
+          refused = λ f v. absurd (not_one (cc));
+        }
+
+    pub step_failed : {f : Refusal} → SettledDid c flags blocking l (command_of k) n st cl wt (Err f) st' cl' wt' blocking'
+        → StepDid c flags blocking l job at n st cl wt (Err f) st' cl' wt' blocking'
+    step_failed {f} d =
+        record {
+          next = λ y v. absurd (not_one (cc));
+          refused = λ g v. let p : g ≡ f = cc in rw p (step_refused f d);
         }

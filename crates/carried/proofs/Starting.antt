@@ -13,7 +13,7 @@ use Rattle.rules.proofs.Each.{Each}
 use Rattle.rules.proofs.Forgotten.{forget}
 use Rattle.tables.specs.Tables as tables
 use Rattle.state.specs.declared.Limits.{Limits}
-use Rattle.state.specs.Changed.{Blank, Cleared}
+use Rattle.state.specs.Changed.{Cleared}
 use Rattle.state.specs.Layout.{held, Fits}
 use Rattle.variable_map.specs.Mapping.{Grown}
 use Rattle.decision_tracker.specs.Tracking.{decisions}
@@ -27,9 +27,6 @@ use Rattle.solver.specs.Rows.{no_row, row_of, rows}
 use Rattle.encoder.specs.declared.Counters.{Counters}
 use Rattle.encoder.specs.Held.{Reading, clause_in, clauses_in, conflict_if, conflicts_from, opening_of, state_of, GoodState, GoodClauses}
 use Rattle.carried.specs.Carrying.{Started}
-
-pub slots_blank : {st : ℕ → List ℕ} → Cleared st → Blank 0 st
-slots_blank z = z.first 0 (omega arith)
 
 -- the counters at the start
 abbrev counters : (variables clauses : ℕ) → Counters

@@ -7,6 +7,7 @@ use native.Mathlib.Omega.{arith}
 use lib.Dec.{eqb, leb}
 use lib.ListN.{length}
 use borrow.Author.Tests.{ne_eqb, le-leb, lt-leb}
+use Rattle.std.specs.Prelude.{Result, Ok, Err}
 use Rattle.rules.specs.Lists.{any, snoc, unless}
 use Rattle.rules.specs.Catalogue.{Catalogue}
 use Rattle.rules.specs.Records.{Command}
@@ -32,8 +33,6 @@ use Rattle.encoder.specs.declared.Counters.{Counters}
 use Rattle.encoder.specs.Held.{Reading, opening_of, state_of, Good}
 use Rattle.encoder.specs.Did.{limits_of, on_opening}
 use Rattle.encoder.proofs.Frames.{good_kept, list_kept, line_kept}
-use Rattle.commands.specs.declared.Count.{Count}
-use Rattle.commands.specs.declared.Outcome.TheVariants.{Carried, Refused}
 use Rattle.commands.specs.Commands.{ChangesOf, Changes, with_added, AddsOwner, PartOutcomes, Adds}
 use Rattle.commands.proofs.Outcomes.{unchanged, changes_as, outcome_carried, outcome_refused}
 
@@ -104,19 +103,19 @@ unfolding owner_absent absent given
 missing_part c owner n h = rw (ne_eqb owner 65535 n, le-leb (length c.parts) owner h)
 
 module _ {l : Limits} {n : Counters} {st : ℕ → List ℕ} (parts owner : ℕ) where
-  root_added : {m : Counters} {st' : ℕ → List ℕ} → owner ≡ 65535 → Changes l (on_opening (add (owner_of 1024))) n st m st' → PartOutcomes parts l (Command.add owner) n st (Carried m) st'
+  root_added : {m : Counters} {st' : ℕ → List ℕ} → owner ≡ 65535 → Changes l (on_opening (add (owner_of 1024))) n st m st' → PartOutcomes parts l (Command.add owner) n st (Ok m) st'
   root_added e h =
       record { is = λ c _. outcome_carried h (λ cl wt v. carried l c 1024 owner _ (unfold owner_absent in rw e) (unfold items.owner_of in rw e root_is)) }
 
   part_added : {m : Counters} {st' : ℕ → List ℕ} → parts ≤ 1024 → owner < parts → Changes l (on_opening (add (owner_of owner))) n st m st'
-      → PartOutcomes parts l (Command.add owner) n st (Carried m) st'
+      → PartOutcomes parts l (Command.add owner) n st (Ok m) st'
   part_added a b h =
       record { is = λ c e. outcome_carried h (λ cl wt v. carried l c owner owner _ (present c owner (rw e b)) (part_owner (omega arith))) }
     where
       part_owner : owner < 1024 → owner_of owner ≡ items.owner_of owner
       part_owner d = unfold items.owner_of in rw (ne_eqb owner 65535 (λ q. omega arith)) (part_is owner d)
 
-  none_added_law : (owner ≡ 65535 → ⊥) → parts ≤ owner → PartOutcomes parts l (Command.add owner) n st (Refused (Missing Part 1)) st
+  none_added_law : (owner ≡ 65535 → ⊥) → parts ≤ owner → PartOutcomes parts l (Command.add owner) n st (Err (Missing Part 1)) st
   none_added_law q h =
       record { is = λ c e. outcome_refused (λ cl wt v. refused c (missing_part c owner q (rw e h)) (state_of c l v n st cl wt)) }
     where
@@ -124,8 +123,8 @@ module _ {l : Limits} {n : Counters} {st : ℕ → List ℕ} (parts owner : ℕ)
       refused c a s = unfold carry_out command_refusals unless_any refusal_of thing_of in rw a
 
 module _ {l : Limits} {k : ℕ} {st : ℕ → List ℕ} (parts owner : ℕ) where
-  to_count : {d : ℕ} {st' : ℕ → List ℕ} → ((n : Counters) → n.added ≡ k → PartOutcomes parts l (Command.add owner) n st (Carried (with_added d n)) st')
-      → Adds parts l (Command.add owner) k st (Count.To d) st'
+  to_count : {d : ℕ} {st' : ℕ → List ℕ} → ((n : Counters) → n.added ≡ k → PartOutcomes parts l (Command.add owner) n st (Ok (with_added d n)) st')
+      → Adds parts l (Command.add owner) k st (Ok d) st'
   to_count {d} h =
       record {
         to = λ d' q. let p : d' ≡ d = cc in rw p h;
@@ -133,13 +132,13 @@ module _ {l : Limits} {k : ℕ} {st : ℕ → List ℕ} (parts owner : ℕ) wher
         same = λ f q. absurd (not_one (cc));
       }
 
-  pub add_root : {d : ℕ} {st' : ℕ → List ℕ} → owner ≡ 65535 → AddsOwner l (owner_of 1024) k st d st' → Adds parts l (Command.add owner) k st (Count.To d) st'
+  pub add_root : {d : ℕ} {st' : ℕ → List ℕ} → owner ≡ 65535 → AddsOwner l (owner_of 1024) k st d st' → Adds parts l (Command.add owner) k st (Ok d) st'
   add_root e h = to_count (λ n z. root_added parts owner e (h.changes n z))
 
-  pub add_part : {d : ℕ} {st' : ℕ → List ℕ} → parts ≤ 1024 → owner < parts → AddsOwner l (owner_of owner) k st d st' → Adds parts l (Command.add owner) k st (Count.To d) st'
+  pub add_part : {d : ℕ} {st' : ℕ → List ℕ} → parts ≤ 1024 → owner < parts → AddsOwner l (owner_of owner) k st d st' → Adds parts l (Command.add owner) k st (Ok d) st'
   add_part a b h = to_count (λ n z. part_added parts owner a b (h.changes n z))
 
-  pub add_missing : (owner ≡ 65535 → ⊥) → parts ≤ owner → Adds parts l (Command.add owner) k st (Count.Refused (Missing Part 1)) st
+  pub add_missing : (owner ≡ 65535 → ⊥) → parts ≤ owner → Adds parts l (Command.add owner) k st (Err (Missing Part 1)) st
   add_missing q h =
       record {
         to = λ d p. absurd (not_one (cc));
@@ -148,9 +147,9 @@ module _ {l : Limits} {k : ℕ} {st : ℕ → List ℕ} (parts owner : ℕ) wher
       }
 
 -- of counters that have it
-module _ {parts : ℕ} {l : Limits} {o : Command} (n : Counters) {st st' : ℕ → List ℕ} {r : Count} (h : Adds parts l o n.added st r st') where
-  pub added_to : {d : ℕ} → r ≡ Count.To d → PartOutcomes parts l o n st (Carried (with_added d n)) st'
+module _ {parts : ℕ} {l : Limits} {o : Command} (n : Counters) {st st' : ℕ → List ℕ} {r : Result ℕ Refusal} (h : Adds parts l o n.added st r st') where
+  pub added_to : {d : ℕ} → r ≡ Ok d → PartOutcomes parts l o n st (Ok (with_added d n)) st'
   added_to q = h.to _ q n refl
 
-  pub added_refused : {f : Refusal} → r ≡ Count.Refused f → PartOutcomes parts l o n st (Refused f) st'
+  pub added_refused : {f : Refusal} → r ≡ Err f → PartOutcomes parts l o n st (Err f) st'
   added_refused q = h.refused _ q n refl

@@ -7,6 +7,7 @@ use native.Mathlib.Omega.{arith}
 use lib.Dec.{eqb, ltb, leb}
 use lib.ListN.{length}
 use borrow.Author.Tests.{eq-eqb, ne_eqb, le-leb, lt-leb, lt-ltb, le-ltb}
+use Rattle.std.specs.Prelude.{Result, Ok, Err}
 use Rattle.rules.specs.Lists.{any, snoc, when}
 use Rattle.rules.specs.Literal.{Literal}
 use Rattle.rules.specs.Catalogue.{Catalogue}
@@ -37,8 +38,6 @@ use Rattle.encoder.specs.Held.{Reading, opening_of, state_of, Good}
 use Rattle.encoder.specs.Did.{limits_of}
 use Rattle.encoder.proofs.Frames.{good_kept, list_kept, line_kept}
 use Rattle.encoder.proofs.Counted.{with_decisions}
-use Rattle.commands.specs.declared.Count.{Count}
-use Rattle.commands.specs.declared.Outcome.TheVariants.{Carried, Refused}
 use Rattle.commands.specs.Commands.{ChangesOf, Changes, decided_to, DecidesLiteral, Decides, PlainOutcomes}
 use Rattle.commands.proofs.Outcomes.{unchanged, changes_as, outcome_carried, outcome_refused}
 
@@ -81,7 +80,7 @@ new_decision x b level = record { variable = x; value = b; level = level; clause
 
 module _ {l : Limits} {x : Literal} {level k : ℕ} {st st' : ℕ → List ℕ} where
   literal_to : {d : ℕ} → ((n : Counters) → n.decisions ≡ k → Changes l (decided_to x level) n st (with_decisions d n) st')
-      → is_falsified (evaluate (decisions k st) x) ≡ false → DecidesLiteral l x level k st (Count.To d) st'
+      → is_falsified (evaluate (decisions k st) x) ≡ false → DecidesLiteral l x level k st (Ok d) st'
   literal_to {d} h e =
       record {
         to = λ d' q. e;
@@ -92,7 +91,7 @@ module _ {l : Limits} {x : Literal} {level k : ℕ} {st st' : ℕ → List ℕ} 
 
 module _ {l : Limits} {k : ℕ} (x : code.Literal) {level : ℕ} {st : ℕ → List ℕ} {v : Value}
     (e : v ≡ seen (evaluate (decisions k st) (literal_of x))) where
-  pub decided_again : v ≡ values.True → DecidesLiteral l (literal_of x) level k st (Count.To k) st
+  pub decided_again : v ≡ values.True → DecidesLiteral l (literal_of x) level k st (Ok k) st
   decided_again q = literal_to changes (sym (falsified_true (decisions k st) (literal_of x) e q))
     where
       changes : (n : Counters) → n.decisions ≡ k → Changes l (decided_to (literal_of x) level) n st (with_decisions k n) st
@@ -103,7 +102,7 @@ module _ {l : Limits} {k : ℕ} (x : code.Literal) {level : ℕ} {st : ℕ → L
           idle : (c : Catalogue) (cl wt : List ℕ) (w : Reading) → state_of c l w n st cl wt ≡ decided_to (literal_of x) level (state_of c l w n st cl wt)
           idle c cl wt w = unfold decided_to when state_of in rw (z, undecided_seen, ← e, q)
 
-  pub decided_against_law : v ≡ values.False → DecidesLiteral l (literal_of x) level k st (Count.Refused DecidedAgainst) st
+  pub decided_against_law : v ≡ values.False → DecidesLiteral l (literal_of x) level k st (Err DecidedAgainst) st
   decided_against_law q =
       record {
         to = λ d p. absurd (not_one (cc));
@@ -114,7 +113,7 @@ module _ {l : Limits} {k : ℕ} (x : code.Literal) {level : ℕ} {st : ℕ → L
 
   pub decided_new : v ≡ values.Undecided → {y : ℕ} {b : Bool} → y ≡ (literal_of x).variable → b ≡ (literal_of x).positive
       → {count : ℕ} {st' : ℕ → List ℕ} → Told l count (snoc (decisions k st) (decision_of (new_decision y b level))) st st'
-      → DecidesLiteral l (literal_of x) level k st (Count.To count) st'
+      → DecidesLiteral l (literal_of x) level k st (Ok count) st'
   decided_new q {y} {b} ey eb {count} {st'} t = literal_to changes (sym (falsified_undecided (decisions k st) (literal_of x) e q))
     where
       changes : (n : Counters) → n.decisions ≡ k → Changes l (decided_to (literal_of x) level) n st (with_decisions count n) st'
@@ -170,27 +169,27 @@ module _ (l : Limits) (n : Counters) (st : ℕ → List ℕ) (x value level : �
     unfolding state_of
     decisions_are = refl
 
-  decide_missing : n.variables ≤ x → PlainOutcomes l (Command.decide x value level) n st (Refused (MissingVariable 1)) st
+  decide_missing : n.variables ≤ x → PlainOutcomes l (Command.decide x value level) n st (Err (MissingVariable 1)) st
   decide_missing h = record { is = λ c. outcome_refused (λ cl wt v. no_variable (limits_of l) c x value level _ (counted c cl wt v ∙ le-leb n.variables x h)) }
 
   module _ (h : x < n.variables) where
     there : (c : Catalogue) (cl wt : List ℕ) (v : Reading) → leb (length (state_of c l v n st cl wt).variables) x ≡ false
     there c cl wt v = counted c cl wt v ∙ lt-leb n.variables x h
 
-    decide_other : 1 < value → PlainOutcomes l (Command.decide x value level) n st (Refused (Contradicts OtherValue)) st
+    decide_other : 1 < value → PlainOutcomes l (Command.decide x value level) n st (Err (Contradicts OtherValue)) st
     decide_other a = record { is = λ c. outcome_refused (λ cl wt v. no_value (limits_of l) c x value level _ (there c cl wt v) (lt-ltb 1 value a)) }
 
     module _ (a : value ≤ 1) {low : Bool} (e : low ≡ (eqb level 0 || ltb level (last_level (decisions n.decisions st)))) where
-      decide_low : low ≡ true → PlainOutcomes l (Command.decide x value level) n st (Refused LevelLow) st
+      decide_low : low ≡ true → PlainOutcomes l (Command.decide x value level) n st (Err LevelLow) st
       decide_low q =
           record { is = λ c. outcome_refused (λ cl wt v. is_low (limits_of l) c x value level _ (there c cl wt v) (le-ltb 1 value a) (low_is c l v n st cl wt level e ∙ q)) }
 
-      module _ (q : low ≡ false) (y : code.Literal) (p : literal_of y ≡ signed x (eqb value 1)) {r : Count} {st' : ℕ → List ℕ}
+      module _ (q : low ≡ false) (y : code.Literal) (p : literal_of y ≡ signed x (eqb value 1)) {r : Result ℕ Refusal} {st' : ℕ → List ℕ}
           (d : DecidesLiteral l (literal_of y) level n.decisions st r st') where
         d' : DecidesLiteral l (signed x (eqb value 1)) level n.decisions st r st'
         d' = rw p at d
 
-        literal_passes : (m : ℕ) → r ≡ Count.To m → PlainOutcomes l (Command.decide x value level) n st (Carried (with_decisions m n)) st'
+        literal_passes : (m : ℕ) → r ≡ Ok m → PlainOutcomes l (Command.decide x value level) n st (Ok (with_decisions m n)) st'
         literal_passes m z = record { is = λ c. outcome_carried (d'.changes m z n refl) (λ cl wt v. done c cl wt v) }
           where
             done : (c : Catalogue) (cl wt : List ℕ) (v : Reading)
@@ -198,7 +197,7 @@ module _ (l : Limits) (n : Counters) (st : ℕ → List ℕ) (x value level : �
             done c cl wt v =
                 passes (limits_of l) c x value level _ (there c cl wt v) (le-ltb 1 value a) (low_is c l v n st cl wt level e ∙ q) (rw (decisions_are c cl wt v) at (d'.to m z))
 
-        literal_refused : (f : Refusal) → r ≡ Count.Refused f → PlainOutcomes l (Command.decide x value level) n st (Refused f) st'
+        literal_refused : (f : Refusal) → r ≡ Err f → PlainOutcomes l (Command.decide x value level) n st (Err f) st'
         literal_refused f z = record { is = λ c. outcome_refused (λ cl wt v. not_done c cl wt v) }
           where
             not_done : (c : Catalogue) (cl wt : List ℕ) (v : Reading)
@@ -211,22 +210,22 @@ module _ (l : Limits) (n : Counters) (st : ℕ → List ℕ) (x value level : �
 -- ---- the same for whatever counters have these numbers
 
 module _ {l : Limits} {v k : ℕ} {st : ℕ → List ℕ} {x value level : ℕ} where
-  refused_as : {f : Refusal} → ((n : Counters) → n.variables ≡ v → n.decisions ≡ k → PlainOutcomes l (Command.decide x value level) n st (Refused f) st)
-      → Decides l (Command.decide x value level) v k st (Count.Refused f) st
+  refused_as : {f : Refusal} → ((n : Counters) → n.variables ≡ v → n.decisions ≡ k → PlainOutcomes l (Command.decide x value level) n st (Err f) st)
+      → Decides l (Command.decide x value level) v k st (Err f) st
   refused_as {f} h = record { to = λ d q. absurd (not_one (cc)); refused = λ g q. let p : g ≡ f = cc in rw p h; same = λ g q. refl }
 
-  pub to_missing : v ≤ x → Decides l (Command.decide x value level) v k st (Count.Refused (MissingVariable 1)) st
+  pub to_missing : v ≤ x → Decides l (Command.decide x value level) v k st (Err (MissingVariable 1)) st
   to_missing h = refused_as (λ n p q. decide_missing l n st x value level (rw p h))
 
   module _ (h : x < v) where
-    pub to_other : 1 < value → Decides l (Command.decide x value level) v k st (Count.Refused (Contradicts OtherValue)) st
+    pub to_other : 1 < value → Decides l (Command.decide x value level) v k st (Err (Contradicts OtherValue)) st
     to_other a = refused_as (λ n p q. decide_other l n st x value level (rw p h) a)
 
     module _ (a : value ≤ 1) {low : Bool} (e : low ≡ (eqb level 0 || ltb level (last_level (decisions k st)))) where
-      pub to_low : low ≡ true → Decides l (Command.decide x value level) v k st (Count.Refused LevelLow) st
+      pub to_low : low ≡ true → Decides l (Command.decide x value level) v k st (Err LevelLow) st
       to_low z = refused_as (λ n p q. decide_low l n st x value level (rw p h) a (rw q e) z)
 
-      pub to_literal : low ≡ false → (y : code.Literal) → literal_of y ≡ signed x (eqb value 1) → {r : Count} {st' : ℕ → List ℕ}
+      pub to_literal : low ≡ false → (y : code.Literal) → literal_of y ≡ signed x (eqb value 1) → {r : Result ℕ Refusal} {st' : ℕ → List ℕ}
           → DecidesLiteral l (literal_of y) level k st r st' → Decides l (Command.decide x value level) v k st r st'
       to_literal z y w d =
           record {
@@ -236,16 +235,16 @@ module _ {l : Limits} {v k : ℕ} {st : ℕ → List ℕ} {x value level : ℕ} 
           }
 
 -- of counters that have them
-module _ {l : Limits} {o : Command} (n : Counters) {st st' : ℕ → List ℕ} {r : Count} (h : Decides l o n.variables n.decisions st r st') where
-  pub decided_to_law : {d : ℕ} → r ≡ Count.To d → PlainOutcomes l o n st (Carried (with_decisions d n)) st'
+module _ {l : Limits} {o : Command} (n : Counters) {st st' : ℕ → List ℕ} {r : Result ℕ Refusal} (h : Decides l o n.variables n.decisions st r st') where
+  pub decided_to_law : {d : ℕ} → r ≡ Ok d → PlainOutcomes l o n st (Ok (with_decisions d n)) st'
   decided_to_law q = h.to _ q n refl refl
 
-  pub decided_refused : {f : Refusal} → r ≡ Count.Refused f → PlainOutcomes l o n st (Refused f) st'
+  pub decided_refused : {f : Refusal} → r ≡ Err f → PlainOutcomes l o n st (Err f) st'
   decided_refused q = h.refused _ q n refl refl
 
 -- ---- the command undo: it has no refusals
 
 pub undone : {l : Limits} {n : Counters} {level count : ℕ} {st st' : ℕ → List ℕ} → Told l count (up_to_level level (decisions n.decisions st)) st st'
-    → PlainOutcomes l (Command.undo level) n st (Carried (with_decisions count n)) st'
+    → PlainOutcomes l (Command.undo level) n st (Ok (with_decisions count n)) st'
 undone {l} {n} {level} {count} {st} {st'} t =
     record { is = λ c. outcome_carried (record { is = λ c cl wt. told_changes n t c cl wt }) (λ cl wt v. unfold carry_out command_refusals carried_out unless_any state_of in refl) }

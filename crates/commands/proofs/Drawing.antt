@@ -1,14 +1,17 @@
 -- The entries of a condition that hold are drawn.
 use mathlib.Core.Path.{◌≡◌, refl, sym, ◌∙◌, ap}
-use mathlib.Core.Bool.{Bool, true, false, not, ◌&&◌, cond, true≢false}
+use mathlib.Core.Bool.{Bool, true, false, not, ◌&&◌, cond}
 use mathlib.Core.List.{List, []}
 use mathlib.Core.Option.{Option, none, some}
 use Prim.Native.Nat.{ℕ, ◌+◌, ◌<◌, ◌≤◌, zero-le}
 use native.Mathlib.Omega.{arith}
 use native.Mathlib.Decide.{dec_lt}
+use mir.Val.{bool_byte}
 use lib.Dec.{eqb}
 use lib.ListN.{length, get_or, set, length-set, get_or-eq_default}
-use borrow.Author.Tests.{eqb-true, eq-eqb, ne_eqb, le-leb, lt-leb}
+use borrow.Author.Tests.{not-true, eqb-true, eq-eqb, ne_eqb, le-leb, lt-leb}
+use Rattle.std.specs.List.{list_all}
+use Rattle.std.proofs.lemmas.List.Sums.{AllPass-from_list_all}
 use Rattle.rules.specs.Lists.{any}
 use Rattle.rules.specs.Catalogue as rules
 use Rattle.rules.specs.Catalogue.{Catalogue, no_requirement, condition_at}
@@ -37,9 +40,8 @@ use Rattle.variable_map.specs.Mapping.{variables}
 use Rattle.decision_tracker.specs.Tracking.{decisions}
 use Rattle.entries.specs.declared.Entry as entries
 use Rattle.entries.specs.Entries.{no_entry, entry_of, waiting_in, Long}
-use Rattle.entries.specs.Deferred.{flag_of, is_free, is_held, Flags, Drawn}
+use Rattle.entries.specs.Deferred.{flag_of, Flags, Drawn}
 use Rattle.entries.proofs.Drain.{length_waiting, flags_start, flags_step, Drained, drained}
-use Rattle.entries.proofs.Places.{is_free_law}
 use Rattle.encoder.specs.declared.Counters.{Counters}
 use Rattle.encoder.specs.Held.{Reading, opening_of, state_of, Good}
 use Rattle.encoder.specs.Did.{limits_of, on_opening}
@@ -51,34 +53,15 @@ use Rattle.commands.proofs.Idling.{idle_draw}
 
 -- ---- is no flag set?
 
--- the first i are not
-pub record Unset (flags : List ℕ) (i : ℕ) : Type 0 where
-  pub free : (j : ℕ) → j < i → get_or flags j 0 ≡ 0
-
-pub unset_start : {flags : List ℕ} → Unset flags 0
-unset_start = record { free = λ j h. let no : ⊥ = omega arith in absurd no }
-
-module _ {flags : List ℕ} {i : ℕ} (r : Unset flags i) where
-  pub unset_step : get_or flags i 0 ≡ 0 → Unset flags (i + 1)
-  unset_step e = record { free = λ j h. elim (dec_lt j i) [ yes l ↦ r.free j l | no l ↦ at j (omega arith) ] }
-    where
-      at : (j : ℕ) → j ≡ i → get_or flags j 0 ≡ 0
-      at j q = rw q e
-
-  pub unset_end : length flags ≤ i → NoneSet true flags
-  unfolding is_held
-  unset_end h = record { none = λ _ j. ap not (is_free_law flags j (elim (dec_lt j i) [ yes l ↦ r.free j l | no l ↦ get_or-eq_default flags 0 (omega arith) ])) }
-
-pub some_set : {flags : List ℕ} → NoneSet false flags
-some_set = record { none = λ e. absurd (true≢false (sym e)) }
-
-pub set_within : (flags : List ℕ) (i : ℕ) (b : Bool) → b ≡ not (eqb (get_or flags i 0) 0) → b ≡ is_held flags i
-unfolding is_held is_free
-set_within flags i b e = e
-
-pub set_past : (flags : List ℕ) (i : ℕ) → length flags ≤ i → false ≡ is_held flags i
-unfolding is_held
-set_past flags i h = sym (ap not (is_free_law flags i (get_or-eq_default flags 0 h)))
+pub none_of : {flags : List Bool} {b : Bool} → b ≡ list_all not flags → NoneSet b flags
+none_of {flags} {b} e = record { none = λ t i. at t i }
+  where
+    at : b ≡ true → (i : ℕ) → get_or flags i false ≡ false
+    at t i =
+        elim (dec_lt i (length flags)) [
+          | yes h ↦ not-true (get_or flags i false) (AllPass-from_list_all not flags (sym e ∙ t) i false h)
+          | no h ↦ get_or-eq_default flags false (omega arith)
+        ]
 
 -- ---- one entry: is it drawn?
 
@@ -95,7 +78,7 @@ this_condition : (c k : ℕ) → k ≡ c → c < 65535 → is_condition c (condi
 unfolding condition_of
 this_condition c k e h = rw (e, ne_eqb c 65535 (λ q. omega arith), eq-eqb c c refl)
 
-module _ (rs : List rules.Requirement) (flags : List ℕ) (c : ℕ) (e : ℕ × ℕ) (x : entries.Entry) (it : ConditionalRequirement) (ex : entry_of x ≡ e)
+module _ (rs : List rules.Requirement) (flags : List Bool) (c : ℕ) (e : ℕ × ℕ) (x : entries.Entry) (it : ConditionalRequirement) (ex : entry_of x ≡ e)
     (ei : requirement_is it ≡ get_or rs x.requirement no_requirement) where
   condition_is_law : (get_or rs e.0 no_requirement).condition ≡ condition_of it.condition
   unfolding requirement_is entry_of
@@ -105,7 +88,7 @@ module _ (rs : List rules.Requirement) (flags : List ℕ) (c : ℕ) (e : ℕ × 
   unfolding is_flagged
   other_entry n = rw (condition_is_law, other_condition c it.condition n)
 
-  pub its_flag : (b : Bool) → it.condition ≡ c → c < 65535 → b ≡ is_held flags x.disjunct → b ≡ is_flagged rs flags c e
+  pub its_flag : (b : Bool) → it.condition ≡ c → c < 65535 → b ≡ get_or flags x.disjunct false → b ≡ is_flagged rs flags c e
   unfolding is_flagged entry_of
   its_flag b q h p = rw (condition_is_law, this_condition c it.condition q h, ← ex) p
 
@@ -113,9 +96,9 @@ entry_given : {c : Catalogue} (l : Limits) (n i : ℕ) (b : List ℕ) → AllGiv
 entry_given l n i b a h = each_at a.given i no_entry (omega (arith, length_waiting l n b))
 
 -- an entry that is given is flagged just where it is drawn
-module _ (k : Counts) (m u t : List ℕ) {f : ℕ → Bool} (c : ℕ) {flags : List ℕ} (j : Judged (catalogue k m u t) f (disjuncts (tables k t).conditions c) flags) where
+module _ (k : Counts) (m u t : List ℕ) {f : ℕ → Bool} (c : ℕ) {flags : List Bool} (j : Judged (catalogue k m u t) f (disjuncts (tables k t).conditions c) flags) where
   judged_in : (cs : List rules.Condition) → cs ≡ (tables k t).conditions → (i : ℕ) → i < length (disjuncts cs c)
-      → is_held flags i ≡ holds_now (catalogue k m u t) f (get_or (disjuncts cs c) i [])
+      → get_or flags i false ≡ holds_now (catalogue k m u t) f (get_or (disjuncts cs c) i [])
   judged_in cs e i h = rw e (j.is i (rw e at h))
 
   flagged_drawn : (e : ℕ × ℕ) → Entry (catalogue k m u t) e → is_flagged (tables k t).requirements flags c e ≡ is_drawn (catalogue k m u t) f c e
@@ -123,12 +106,12 @@ module _ (k : Counts) (m u t : List ℕ) {f : ℕ → Bool} (c : ℕ) {flags : L
   flagged_drawn e g = rw (← requirement_held k m u t e.0) (go (condition_at (catalogue k m u t) e.0) g.disjunct)
     where
       go : (o : Option ℕ) → e.1 < length (disjuncts_if (catalogue k m u t).conditions o)
-          → (is_condition c o && is_held flags e.1) ≡ (is_condition c o && holds_now (catalogue k m u t) f (get_or (disjuncts_if (catalogue k m u t).conditions o) e.1 []))
+          → (is_condition c o && get_or flags e.1 false) ≡ (is_condition c o && holds_now (catalogue k m u t) f (get_or (disjuncts_if (catalogue k m u t).conditions o) e.1 []))
       go none h = refl
       go (some i) h = by_cases (eqb i c) (λ q. same i (eqb-true i c q) h) (λ q. rw q)
         where
           same : (i : ℕ) → i ≡ c → e.1 < length (disjuncts (catalogue k m u t).conditions i)
-              → (eqb i c && is_held flags e.1) ≡ (eqb i c && holds_now (catalogue k m u t) f (get_or (disjuncts (catalogue k m u t).conditions i) e.1 []))
+              → (eqb i c && get_or flags e.1 false) ≡ (eqb i c && holds_now (catalogue k m u t) f (get_or (disjuncts (catalogue k m u t).conditions i) e.1 []))
           same i q h = rw q (ap (λ b. eqb c c && b) (judged_in (catalogue k m u t).conditions (conditions_same k m u t) e.1 (rw q at h)))
 
   module _ (l : Limits) (n : ℕ) (b : List ℕ) (a : AllGiven (catalogue k m u t) (waiting_in l n b)) where
@@ -158,14 +141,19 @@ pub record Flagging (f : ℕ × ℕ → Bool) (n : ℕ) (xs : List (ℕ × ℕ))
 pub flagging_start : {f : ℕ × ℕ → Bool} {n : ℕ} {xs : List (ℕ × ℕ)} {held : List ℕ} {l : Limits} {bytes : ℕ} → length held ≡ 2048 → Long l bytes → n ≤ l.waiting → Flagging f n xs 0 held
 flagging_start e a h = record { count = e; passed = zero-le; small = omega (arith, a.waiting); flags = flags_start }
 
+byte_flag : (b : Bool) → bool_byte b ≡ flag_of b
+unfolding flag_of
+byte_flag true = refl
+byte_flag false = refl
+
 module _ {f : ℕ × ℕ → Bool} {n i : ℕ} {xs : List (ℕ × ℕ)} {held : List ℕ} (r : Flagging f n xs i held) where
-  pub flagging_step : {b : Bool} {x : ℕ} → i < n → b ≡ f (get_or xs i no_entry) → x ≡ flag_of b → Flagging f n xs (i + 1) (set held i x)
+  pub flagging_step : {b : Bool} {x : ℕ} → i < n → b ≡ f (get_or xs i no_entry) → x ≡ bool_byte b → Flagging f n xs (i + 1) (set held i x)
   flagging_step {b} {x} h t e =
       record {
         count = length-set held i x ∙ r.count;
         passed = omega arith;
         small = r.small;
-        flags = flags_step r.flags (omega (arith, r.count, r.small)) t e;
+        flags = flags_step r.flags (omega (arith, r.count, r.small)) t (e ∙ byte_flag b);
       }
 
   pub flagging_end : n ≤ i → Flags f n xs held
@@ -212,7 +200,7 @@ draw_end {c} {l} {k} {n} {st} {held} {j} {d} {wt} {wt'} f s = record { good = go
     state cl v = unfold state_of opening_of on_opening draw decided_true true_of in rw (r.waiting, r.drawn)
 
 -- nothing is drawn where no disjunct holds
-pub draw_none : (k : Counts) (m u t : List ℕ) {l : Limits} {c : ℕ} {n : Counters} {st : ℕ → List ℕ} {wt flags : List ℕ} {b : Bool}
+pub draw_none : (k : Counts) (m u t : List ℕ) {l : Limits} {c : ℕ} {n : Counters} {st : ℕ → List ℕ} {wt : List ℕ} {flags : List Bool} {b : Bool}
     → Judged (catalogue k m u t) (true_of (variables n.variables st) (decisions n.decisions st)) (disjuncts (tables k t).conditions c) flags
     → AllGiven (catalogue k m u t) (waiting_in l n.waiting wt) → NoneSet b flags → b ≡ true → Draws (catalogue k m u t) l c n st wt n wt
 draw_none k m u t {l} {c} {n} {st} {wt} j a h e = record { good = λ cl g. g; full = refl; runs = refl; is = state }

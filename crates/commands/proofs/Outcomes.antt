@@ -2,6 +2,7 @@
 use mathlib.Core.Path.{◌≡◌, refl, sym, ◌∙◌, ap}
 use mathlib.Core.List.{List}
 use Prim.Native.Nat.{ℕ}
+use Rattle.std.specs.Prelude.{Result, Ok, Err}
 use Rattle.rules.specs.Catalogue.{Catalogue}
 use Rattle.rules.specs.Refusals.{ok, refuse}
 use Rattle.rules.specs.Records.{Command}
@@ -17,8 +18,6 @@ use Rattle.cache.proofs.Laws.{parts_held}
 use Rattle.encoder.specs.declared.Counters.{Counters}
 use Rattle.encoder.specs.Held.{Reading, state_of}
 use Rattle.encoder.specs.Did.{limits_of}
-use Rattle.commands.specs.declared.Outcome.{Outcome}
-use Rattle.commands.specs.declared.Outcome.TheVariants.{Carried, Refused}
 use Rattle.commands.specs.Commands.{ChangesOf, Changes, CarriedOut, Outcomes, PartOutcomes}
 
 -- ---- changes
@@ -40,7 +39,7 @@ carried_out_law h e = record { good = h.good; hand = h.hand; full = h.full; runs
 
 module _ {c : Catalogue} {l : Limits} {o : Command} {n : Counters} {st st' : ℕ → List ℕ} where
   pub outcome_carried : {F : State → State} {m : Counters} → Changes l F n st m st'
-      → ((cl wt : List ℕ) (v : Reading) → carry_out (limits_of l) c o (state_of c l v n st cl wt) ≡ ok (F (state_of c l v n st cl wt))) → Outcomes c l o n st (Carried m) st'
+      → ((cl wt : List ℕ) (v : Reading) → carry_out (limits_of l) c o (state_of c l v n st cl wt) ≡ ok (F (state_of c l v n st cl wt))) → Outcomes c l o n st (Ok m) st'
   outcome_carried {F} {m} h p =
       record {
         carried = λ m' e cl wt. let q : m' ≡ m = cc in rw q (carried_out_law (h.is c cl wt) (p cl wt));
@@ -48,7 +47,7 @@ module _ {c : Catalogue} {l : Limits} {o : Command} {n : Counters} {st st' : ℕ
       }
 
   pub outcome_refused : {f : Refusal} → ((cl wt : List ℕ) (v : Reading) → carry_out (limits_of l) c o (state_of c l v n st cl wt) ≡ refuse (refusal_of f))
-      → Outcomes c l o n st (Refused f) st'
+      → Outcomes c l o n st (Err f) st'
   outcome_refused {f} p =
       record {
         carried = λ m e. absurd (not_one (cc));
@@ -57,6 +56,6 @@ module _ {c : Catalogue} {l : Limits} {o : Command} {n : Counters} {st st' : ℕ
 
 -- ---- for callers: of the catalogue that the areas hold
 
-pub part_outcome : (k : Counts) (m u t : List ℕ) {l : Limits} {o : Command} {n : Counters} {st st' : ℕ → List ℕ} {r : Outcome}
+pub part_outcome : (k : Counts) (m u t : List ℕ) {l : Limits} {o : Command} {n : Counters} {st st' : ℕ → List ℕ} {r : Result Counters Refusal}
     → PartOutcomes k.parts l o n st r st' → Outcomes (catalogue k m u t) l o n st r st'
 part_outcome k m u t h = h.is (catalogue k m u t) (parts_held k m u t)

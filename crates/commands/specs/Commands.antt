@@ -1,5 +1,5 @@
 -- What a command does to the state that the areas hold, or its refusal.
-use Rattle.std.specs.Prelude.{◌≡◌, Bool, true, false, ◌&&◌, List, ℕ, length, get_or}
+use Rattle.std.specs.Prelude.{◌≡◌, Bool, true, false, ◌&&◌, List, ℕ, length, get_or, Result, Ok, Err}
 use Rattle.std.proofs.Math.Option.{none}
 use Rattle.rules.specs.Lists.{snoc, when}
 use Rattle.rules.specs.Literal.{Literal}
@@ -18,14 +18,10 @@ use Rattle.refusal.specs.Refusing.{refusal_of}
 use Rattle.state.specs.declared.Limits.{Limits}
 use Rattle.decision_tracker.specs.Tracking.{decisions}
 use Rattle.marked.specs.Marked.{Marked}
-use Rattle.entries.specs.Deferred.{is_held}
 use Rattle.encoder.specs.declared.Counters.{Counters}
 use Rattle.encoder.specs.Held.{Reading, state_of, Good}
 use Rattle.encoder.specs.Did.{limits_of, on_opening, is_full}
 use Rattle.encoder.proofs.Counted.{with_decisions}
-use Rattle.commands.specs.declared.Count.{Count}
-use Rattle.commands.specs.declared.Outcome.{Outcome}
-use Rattle.commands.specs.declared.Outcome.TheVariants.{Carried, Refused}
 
 -- between two records the state area changed from st to st', and the state by F
 pub record ChangesOf (c : Catalogue) (l : Limits) (F : State → State) (n : Counters) (st : ℕ → List ℕ) (cl wt : List ℕ) (n' : Counters) (st' : ℕ → List ℕ) : Type 0 where
@@ -70,12 +66,12 @@ pub record AddsOwner (l : Limits) (o : Owner) (k : ℕ) (st : ℕ → List ℕ) 
 -- ---- a draw
 
 -- b says that no flag is set
-pub record NoneSet (b : Bool) (flags : List ℕ) : Type 0 where
-  pub none : b ≡ true → (i : ℕ) → is_held flags i ≡ false
+pub record NoneSet (b : Bool) (flags : List Bool) : Type 0 where
+  pub none : b ≡ true → (i : ℕ) → get_or flags i false ≡ false
 
 -- an entry of condition k, by these requirements, whose disjunct is flagged
-unfoldable pub is_flagged : List Requirement → (flags : List ℕ) → (k : ℕ) → ℕ × ℕ → Bool
-is_flagged rs flags k e = is_condition k (get_or rs e.0 no_requirement).condition && is_held flags e.1
+unfoldable pub is_flagged : List Requirement → (flags : List Bool) → (k : ℕ) → ℕ × ℕ → Bool
+is_flagged rs flags k e = is_condition k (get_or rs e.0 no_requirement).condition && get_or flags e.1 false
 
 -- nothing of condition k is to be drawn
 pub record Idle (c : Catalogue) (true? : ℕ → Bool) (k : ℕ) (s : opening.Opening) : Type 0 where
@@ -96,11 +92,11 @@ decided_to x level s =
     (λ (u : State). set_decisions (snoc u.decisions (record { variable = x.variable; value = x.positive; level = level; clause = none })) u) s
 
 -- the same, where there are k decisions, or refused where it is decided false; no other counter changes
-pub record DecidesLiteral (l : Limits) (x : Literal) (level k : ℕ) (st : ℕ → List ℕ) (r : Count) (st' : ℕ → List ℕ) : Type 0 where
-  pub to : (d : ℕ) → r ≡ Count.To d → is_falsified (evaluate (decisions k st) x) ≡ false
-  pub changes : (d : ℕ) → r ≡ Count.To d → (n : Counters) → n.decisions ≡ k → Changes l (decided_to x level) n st (with_decisions d n) st'
-  pub refused : (f : Refusal) → r ≡ Count.Refused f → (f ≡ DecidedAgainst) × (is_falsified (evaluate (decisions k st) x) ≡ true)
-  pub same : (f : Refusal) → r ≡ Count.Refused f → st' ≡ st
+pub record DecidesLiteral (l : Limits) (x : Literal) (level k : ℕ) (st : ℕ → List ℕ) (r : Result ℕ Refusal) (st' : ℕ → List ℕ) : Type 0 where
+  pub to : (d : ℕ) → r ≡ Ok d → is_falsified (evaluate (decisions k st) x) ≡ false
+  pub changes : (d : ℕ) → r ≡ Ok d → (n : Counters) → n.decisions ≡ k → Changes l (decided_to x level) n st (with_decisions d n) st'
+  pub refused : (f : Refusal) → r ≡ Err f → (f ≡ DecidedAgainst) × (is_falsified (evaluate (decisions k st) x) ≡ true)
+  pub same : (f : Refusal) → r ≡ Err f → st' ≡ st
 
 -- carried out
 pub record CarriedOut (c : Catalogue) (l : Limits) (o : Command) (n : Counters) (st : ℕ → List ℕ) (cl wt : List ℕ) (m : Counters) (st' : ℕ → List ℕ) : Type 0 where
@@ -111,27 +107,27 @@ pub record CarriedOut (c : Catalogue) (l : Limits) (o : Command) (n : Counters) 
   pub is : (v : Reading) → carry_out (limits_of l) c o (state_of c l v n st cl wt) ≡ ok (state_of c l v m st' cl wt)
 
 -- the command, of the state area alone: carried out as the definition says, or refused with its refusal
-pub record Outcomes (c : Catalogue) (l : Limits) (o : Command) (n : Counters) (st : ℕ → List ℕ) (r : Outcome) (st' : ℕ → List ℕ) : Type 0 where
-  pub carried : (m : Counters) → r ≡ Carried m → (cl wt : List ℕ) → CarriedOut c l o n st cl wt m st'
-  pub refused : (f : Refusal) → r ≡ Refused f → (cl wt : List ℕ) (v : Reading)
+pub record Outcomes (c : Catalogue) (l : Limits) (o : Command) (n : Counters) (st : ℕ → List ℕ) (r : Result Counters Refusal) (st' : ℕ → List ℕ) : Type 0 where
+  pub carried : (m : Counters) → r ≡ Ok m → (cl wt : List ℕ) → CarriedOut c l o n st cl wt m st'
+  pub refused : (f : Refusal) → r ≡ Err f → (cl wt : List ℕ) (v : Reading)
       → carry_out (limits_of l) c o (state_of c l v n st cl wt) ≡ refuse (refusal_of f)
 
 -- the same of one that does not read the catalogue
-pub record PlainOutcomes (l : Limits) (o : Command) (n : Counters) (st : ℕ → List ℕ) (r : Outcome) (st' : ℕ → List ℕ) : Type 0 where
+pub record PlainOutcomes (l : Limits) (o : Command) (n : Counters) (st : ℕ → List ℕ) (r : Result Counters Refusal) (st' : ℕ → List ℕ) : Type 0 where
   pub is : (c : Catalogue) → Outcomes c l o n st r st'
 
 -- of one that reads only how many parts it has
-pub record PartOutcomes (parts : ℕ) (l : Limits) (o : Command) (n : Counters) (st : ℕ → List ℕ) (r : Outcome) (st' : ℕ → List ℕ) : Type 0 where
+pub record PartOutcomes (parts : ℕ) (l : Limits) (o : Command) (n : Counters) (st : ℕ → List ℕ) (r : Result Counters Refusal) (st' : ℕ → List ℕ) : Type 0 where
   pub is : (c : Catalogue) → length c.parts ≡ parts → Outcomes c l o n st r st'
 
 -- of one that changes added owners alone, where there are k; what is refused changes nothing
-pub record Adds (parts : ℕ) (l : Limits) (o : Command) (k : ℕ) (st : ℕ → List ℕ) (r : Count) (st' : ℕ → List ℕ) : Type 0 where
-  pub to : (d : ℕ) → r ≡ Count.To d → (n : Counters) → n.added ≡ k → PartOutcomes parts l o n st (Carried (with_added d n)) st'
-  pub refused : (f : Refusal) → r ≡ Count.Refused f → (n : Counters) → n.added ≡ k → PartOutcomes parts l o n st (Refused f) st'
-  pub same : (f : Refusal) → r ≡ Count.Refused f → st' ≡ st
+pub record Adds (parts : ℕ) (l : Limits) (o : Command) (k : ℕ) (st : ℕ → List ℕ) (r : Result ℕ Refusal) (st' : ℕ → List ℕ) : Type 0 where
+  pub to : (d : ℕ) → r ≡ Ok d → (n : Counters) → n.added ≡ k → PartOutcomes parts l o n st (Ok (with_added d n)) st'
+  pub refused : (f : Refusal) → r ≡ Err f → (n : Counters) → n.added ≡ k → PartOutcomes parts l o n st (Err f) st'
+  pub same : (f : Refusal) → r ≡ Err f → st' ≡ st
 
 -- of one that changes decisions alone, where there are v variables and k decisions; likewise
-pub record Decides (l : Limits) (o : Command) (v k : ℕ) (st : ℕ → List ℕ) (r : Count) (st' : ℕ → List ℕ) : Type 0 where
-  pub to : (d : ℕ) → r ≡ Count.To d → (n : Counters) → n.variables ≡ v → n.decisions ≡ k → PlainOutcomes l o n st (Carried (with_decisions d n)) st'
-  pub refused : (f : Refusal) → r ≡ Count.Refused f → (n : Counters) → n.variables ≡ v → n.decisions ≡ k → PlainOutcomes l o n st (Refused f) st'
-  pub same : (f : Refusal) → r ≡ Count.Refused f → st' ≡ st
+pub record Decides (l : Limits) (o : Command) (v k : ℕ) (st : ℕ → List ℕ) (r : Result ℕ Refusal) (st' : ℕ → List ℕ) : Type 0 where
+  pub to : (d : ℕ) → r ≡ Ok d → (n : Counters) → n.variables ≡ v → n.decisions ≡ k → PlainOutcomes l o n st (Ok (with_decisions d n)) st'
+  pub refused : (f : Refusal) → r ≡ Err f → (n : Counters) → n.variables ≡ v → n.decisions ≡ k → PlainOutcomes l o n st (Err f) st'
+  pub same : (f : Refusal) → r ≡ Err f → st' ≡ st

@@ -1,7 +1,8 @@
 // The sheet's commands but run: add, draw, decide, undo.
 #![tactic(auto)]
 
-ghost use Rattle.std.specs.Prelude.{◌≡◌, ◌||◌, ◌+◌, ◌<◌, ◌≤◌, eqb, ltb, length, get_or};
+ghost use Rattle.std.specs.Prelude.{◌≡◌, false, not, ◌||◌, ◌+◌, ◌<◌, ◌≤◌, eqb, ltb, length, get_or, Ok};
+ghost use Rattle.std.specs.List.{list_all};
 ghost use Rattle.rules.specs.Decisions.{last_level};
 ghost use Rattle.rules.specs.Records.{Command};
 ghost use Rattle.rules.proofs.Levels.{Rising};
@@ -13,9 +14,9 @@ ghost use Rattle.variable_map.specs.Mapping.{Mapped};
 ghost use Rattle.decision_tracker.specs.Tracking.{decisions, Kept};
 ghost use Rattle.marked.specs.Marked.{owner_of, Marked};
 ghost use Rattle.entries.specs.Entries.{no_entry, waiting_in, Long};
-ghost use Rattle.entries.specs.Deferred.{is_held, Flags};
+ghost use Rattle.entries.specs.Deferred.{Flags};
 ghost use Rattle.goals.specs.Goals.{Catalogued, AllGiven};
-ghost use Rattle.commands.specs.Commands.{AddsOwner, Adds, NoneSet, is_flagged, Draws, DecidesLiteral, Decides, PlainOutcomes, PartOutcomes};
+ghost use Rattle.commands.specs.Commands.{AddsOwner, Adds, is_flagged, Draws, DecidesLiteral, Decides, PlainOutcomes, PartOutcomes};
 
 use clause::{Literal, Value};
 use decision_tracker::Decision;
@@ -23,20 +24,6 @@ use encoder::Counters;
 use refusal::{Contradiction, Refusal, Thing};
 use state::Limits;
 use tables::Counts;
-
-// What a command gives.
-#[derive(Drop)]
-pub enum Outcome {
-    Carried(Counters),
-    Refused(Refusal),
-}
-
-// How many added owners or decisions there are then, or a refusal.
-#[derive(Drop)]
-pub enum Count {
-    To(usize),
-    Refused(Refusal),
-}
 
 // ---- add
 
@@ -52,62 +39,52 @@ fn push_added(s: &mut [u8], l: Limits, count: usize, o: u16) -> usize
     marked::push(s, l, state::ADDED, state::ADDED_MARKS, count, o)
 }
 
-// An owner is added where so many are: it changes no other counter, and needs none.
-pub fn add_to(k: Counts, s: &mut [u8], l: Limits, count: usize, owner: u16) -> Count
+// An owner is added where so many are: how many are then. It changes no other counter, and needs none.
+pub fn add_to(
+    k: Counts,
+    s: &mut [u8],
+    l: Limits,
+    count: usize,
+    owner: u16,
+) -> Result<usize, Refusal>
     requires parts_bound { k.parts ≤ 1024 }
     requires fits { Fits l (length s.old) }
     requires marked { Marked 6 7 count (held l s.old) }
     ensures { Adds k.parts l (Command.add owner) count (held l s.old) result (held l s.new) }
 {
     if owner == 65535 {
-        return Count::To(push_added(s, l, count, 1024));
+        return Ok(push_added(s, l, count, 1024));
     }
     if (owner as usize) < k.parts {
-        return Count::To(push_added(s, l, count, owner));
+        return Ok(push_added(s, l, count, owner));
     }
-    Count::Refused(Refusal::Missing(Thing::Part, 1))
+    Err(Refusal::Missing(Thing::Part, 1))
 }
 
-pub fn add(k: Counts, s: &mut [u8], l: Limits, n: Counters, owner: u16) -> Outcome
+pub fn add(k: Counts, s: &mut [u8], l: Limits, n: Counters, owner: u16) -> Result<Counters, Refusal>
     requires parts_bound { k.parts ≤ 1024 }
     requires fits { Fits l (length s.old) }
     requires marked { Marked 6 7 n.added (held l s.old) }
     ensures { PartOutcomes k.parts l (Command.add owner) n (held l s.old) result (held l s.new) }
 {
-    match add_to(k, s, l, n.added, owner) {
-        Count::To(count) => {
-            let mut m = n;
-            m.added = count;
-            Outcome::Carried(m)
-        }
-        Count::Refused(refusal) => Outcome::Refused(refusal),
-    }
+    let added = add_to(k, s, l, n.added, owner)?;
+    Ok(Counters { added, ..n })
 }
 
 // ---- draw
 
 // Is no flag set?
-fn none_set(flags: &[u8]) -> bool
-    ensures { NoneSet result flags.now }
+fn none_set(flags: &[bool]) -> bool
+    ensures { result ≡ list_all not flags.now }
 {
-    let mut i = 0;
-    while i < flags.len() {
-        if flags[i] != 0 {
-            return false;
-        }
-        i += 1;
-    }
-    true
+    flags.iter().all(|flag| !*flag)
 }
 
 // Is flag i set? Past the flags none is.
-pub fn is_set(flags: &[u8], i: usize) -> bool
-    ensures { result ≡ is_held flags.now i }
+pub fn is_set(flags: &[bool], i: usize) -> bool
+    ensures { result ≡ get_or flags.now i false }
 {
-    if i < flags.len() {
-        return flags[i] != 0;
-    }
-    false
+    i < flags.len() && flags[i]
 }
 
 // Is entry i one of condition c whose disjunct is flagged?
@@ -117,7 +94,7 @@ fn is_drawn(
     w: &[u8],
     l: Limits,
     n: usize,
-    holding: &[u8],
+    holding: &[bool],
     c: u16,
     i: usize,
 ) -> bool
@@ -126,12 +103,9 @@ fn is_drawn(
     requires c_bound { c < 65535 }
     ensures { result ≡ is_flagged (tables k t.now).requirements holding.now c (get_or (waiting_in l n w.now) i no_entry) }
 {
-    let e = entries::waiting_at(w, l, n, i);
-    let it = tables::requirement_at(t, k, e.requirement as usize);
-    if it.condition != c {
-        return false;
-    }
-    is_set(holding, e.disjunct as usize)
+    let entry = entries::waiting_at(w, l, n, i);
+    let it = tables::requirement_at(t, k, entry.requirement as usize);
+    it.condition == c && is_set(holding, entry.disjunct as usize)
 }
 
 // Which of n entries are of condition c, with a disjunct that is flagged: a flag for each.
@@ -141,7 +115,7 @@ fn held_flags(
     w: &[u8],
     l: Limits,
     n: usize,
-    holding: &[u8],
+    holding: &[bool],
     c: u16,
 ) -> [u8; 2048]
     requires laid { Laid k (length t.now) }
@@ -150,11 +124,8 @@ fn held_flags(
     ensures { Flags (is_flagged (tables k t.now).requirements holding.now c) n (waiting_in l n w.now) result }
 {
     let mut flags = [0u8; 2048];
-    let mut i = 0;
-    while i < n {
-        let drawn = is_drawn(t, k, w, l, n, holding, c, i);
-        flags[i] = judging::flag(drawn);
-        i += 1;
+    for i in 0..n {
+        flags[i] = u8::from(is_drawn(t, k, w, l, n, holding, c, i));
     }
     flags
 }
@@ -185,10 +156,11 @@ pub fn draw(
     }
     let flags = held_flags(t, k, w, l, n.waiting, &judged, c);
     let counts = entries::draw(w, &flags, l, n.waiting, n.drawn);
-    let mut m = n;
-    m.waiting = counts.kept;
-    m.drawn = counts.drawn;
-    m
+    Counters {
+        waiting: counts.kept,
+        drawn: counts.drawn,
+        ..n
+    }
 }
 
 // ---- decide and undo
@@ -199,36 +171,37 @@ pub fn too_low(s: &[u8], l: Limits, count: usize, level: u16) -> bool
     requires count_le_variables { count ≤ l.variables }
     ensures { result ≡ (eqb level 0 || ltb level (last_level (decisions count (held l s.now)))) }
 {
-    if level == 0 {
-        return true;
-    }
-    level < decision_tracker::last_level(s, l, count)
+    level == 0 || level < decision_tracker::last_level(s, l, count)
 }
 
-// A variable gets a value, unless it has the other.
-fn decide_literal(s: &mut [u8], l: Limits, count: usize, literal: Literal, level: u16) -> Count
+// A variable gets a value, unless it has the other: how many decisions there are then.
+fn decide_literal(
+    s: &mut [u8],
+    l: Limits,
+    count: usize,
+    literal: Literal,
+    level: u16,
+) -> Result<usize, Refusal>
     requires fits { Fits l (length s.old) }
     requires kept { Kept l count (held l s.old) × ((literal_of literal).variable < l.variables) }
     ensures { DecidesLiteral l (literal_of literal) level count (held l s.old) result (held l s.new) }
 {
     match decision_tracker::eval(s, l, count, literal) {
-        Value::True => Count::To(count),
-        Value::False => Count::Refused(Refusal::DecidedAgainst),
+        Value::True => Ok(count),
+        Value::False => Err(Refusal::DecidedAgainst),
         Value::Undecided => {
-            let variable = literal.variable();
-            let value = literal.positive();
             let new = Decision {
-                variable,
-                value,
+                variable: literal.variable(),
+                value: literal.positive(),
                 level,
                 clause: 0,
             };
-            Count::To(decision_tracker::decide(s, l, count, new))
+            Ok(decision_tracker::decide(s, l, count, new))
         }
     }
 }
 
-// A decision, where there are so many variables and decisions: it changes no other counter, and needs none.
+// A decision, where there are so many variables and decisions: how many decisions there are then. It changes no other counter, and needs none.
 pub fn decide_to(
     s: &mut [u8],
     l: Limits,
@@ -237,46 +210,45 @@ pub fn decide_to(
     variable: u16,
     value: u8,
     level: u16,
-) -> Count
+) -> Result<usize, Refusal>
     requires fits { Fits l (length s.old) }
     requires kept { Kept l count (held l s.old) × (variables ≤ l.variables) }
     ensures { Decides l (Command.decide variable value level) variables count (held l s.old) result (held l s.new) }
 {
     if variable as usize >= variables {
-        return Count::Refused(Refusal::MissingVariable(1));
+        return Err(Refusal::MissingVariable(1));
     }
     if value > 1 {
-        return Count::Refused(Refusal::Contradicts(Contradiction::OtherValue));
+        return Err(Refusal::Contradicts(Contradiction::OtherValue));
     }
     if too_low(s, l, count, level) {
-        return Count::Refused(Refusal::LevelLow);
+        return Err(Refusal::LevelLow);
     }
     decide_literal(s, l, count, Literal::new(variable, value == 1), level)
 }
 
-pub fn decide(s: &mut [u8], l: Limits, n: Counters, variable: u16, value: u8, level: u16) -> Outcome
+pub fn decide(
+    s: &mut [u8],
+    l: Limits,
+    n: Counters,
+    variable: u16,
+    value: u8,
+    level: u16,
+) -> Result<Counters, Refusal>
     requires fits { Fits l (length s.old) }
     requires kept { Kept l n.decisions (held l s.old) × (n.variables ≤ l.variables) }
     ensures { PlainOutcomes l (Command.decide variable value level) n (held l s.old) result (held l s.new) }
 {
-    match decide_to(s, l, n.variables, n.decisions, variable, value, level) {
-        Count::To(count) => {
-            let mut m = n;
-            m.decisions = count;
-            Outcome::Carried(m)
-        }
-        Count::Refused(refusal) => Outcome::Refused(refusal),
-    }
+    let decisions = decide_to(s, l, n.variables, n.decisions, variable, value, level)?;
+    Ok(Counters { decisions, ..n })
 }
 
 // The decisions above this level are removed.
-pub fn undo(s: &mut [u8], l: Limits, n: Counters, level: u16) -> Outcome
+pub fn undo(s: &mut [u8], l: Limits, n: Counters, level: u16) -> Counters
     requires fits { Fits l (length s.old) }
     requires kept { Kept l n.decisions (held l s.old) × Rising (decisions n.decisions (held l s.old)) }
-    ensures { PlainOutcomes l (Command.undo level) n (held l s.old) result (held l s.new) }
+    ensures { PlainOutcomes l (Command.undo level) n (held l s.old) (Ok result) (held l s.new) }
 {
-    let count = decision_tracker::undo(s, l, n.decisions, level);
-    let mut m = n;
-    m.decisions = count;
-    Outcome::Carried(m)
+    let decisions = decision_tracker::undo(s, l, n.decisions, level);
+    Counters { decisions, ..n }
 }

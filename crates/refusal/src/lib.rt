@@ -6,7 +6,7 @@ ghost use Rattle.rules.specs.Refusals.{number_and_place};
 ghost use Rattle.refusal.specs.Refusing.{refusal_of};
 
 // What a catalogue gives by number.
-#[derive(Clone, Copy)]
+#[derive(Clone, Copy, Debug, PartialEq, Eq)]
 pub enum Thing {
     Name,
     Part,
@@ -17,7 +17,7 @@ pub enum Thing {
     Constraint,
 }
 
-#[derive(Clone, Copy)]
+#[derive(Clone, Copy, Debug, PartialEq, Eq)]
 pub enum Contradiction {
     OtherBits,
     SecondLocked,
@@ -30,7 +30,7 @@ pub enum Contradiction {
     OtherValue,
 }
 
-#[derive(Clone, Copy)]
+#[derive(Clone, Copy, Debug, PartialEq, Eq)]
 pub enum Refusal {
     Unfit,
     Overlong,
@@ -50,8 +50,15 @@ pub enum Refusal {
     ListingFull,
 }
 
+// A refusal with the byte of the record that it is of.
+#[derive(Clone, Copy, Debug, PartialEq, Eq)]
+pub struct RefusedAt {
+    pub refusal: Refusal,
+    pub at: usize,
+}
+
 // A refusal's number and place.
-#[derive(Clone, Copy)]
+#[derive(Clone, Copy, Debug, PartialEq, Eq)]
 pub struct Told {
     pub number: u8,
     pub place: usize,

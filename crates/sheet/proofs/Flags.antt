@@ -1,7 +1,9 @@
 -- Goals that are flagged stay so over a command: one that is no run loses no variable, no opened owner and no part that is named or tracked.
 use mathlib.Core.Path.{◌≡◌}
+use mathlib.Core.Bool.{Bool}
 use mathlib.Core.List.{List}
 use Prim.Native.Nat.{ℕ}
+use Rattle.std.specs.Prelude.{Result, Ok, Err}
 use Rattle.rules.specs.Catalogue.{Catalogue}
 use Rattle.rules.specs.Refusals.{ok}
 use Rattle.rules.specs.Records.{Command}
@@ -25,15 +27,13 @@ use Rattle.naming.specs.Settled.{AllSettled, Settles}
 use Rattle.naming.proofs.Settled.{Stands, stands_same, settled_stands, other_areas}
 use Rattle.beginning.specs.Beginning.{Reaches}
 use Rattle.serving.specs.Flags.{Flagged}
-use Rattle.commands.specs.declared.Outcome.{Outcome}
-use Rattle.commands.specs.declared.Outcome.TheVariants.{Carried, Refused}
 use Rattle.sheet.specs.Sheet.{Gives, CommandDid, FlaggedAfter}
 
-module _ {c : Catalogue} {l : Limits} {flags : List ℕ} {st : ℕ → List ℕ} where
-  pub after_refused : {f : Refusal} → FlaggedAfter c l flags (Refused f) st
+module _ {c : Catalogue} {l : Limits} {flags : List Bool} {st : ℕ → List ℕ} where
+  pub after_refused : {f : Refusal} → FlaggedAfter c l flags (Err f) st
   after_refused = record { flagged = λ m e. absurd (not_one (cc)) }
 
-  pub after_carried : {n : Counters} → Flagged c l flags n st → FlaggedAfter c l flags (Carried n) st
+  pub after_carried : {n : Counters} → Flagged c l flags n st → FlaggedAfter c l flags (Ok n) st
   after_carried {n} f = record { flagged = λ m e. let q : m ≡ n = cc in rw q f }
 
 -- ---- by the definitions
@@ -100,7 +100,7 @@ module _ {c : Catalogue} {l : Limits} {n : Counters} {st : ℕ → List ℕ} {cl
       }
 
 pub command_flagged : {c : Catalogue} {l : Limits} {n : Counters} {st : ℕ → List ℕ} {cl wt : List ℕ} (o : Command) → NoRun o → Reaches c l n st cl wt
-    → {r : Outcome} {st' : ℕ → List ℕ} {cl' wt' flags : List ℕ} → CommandDid c l o n st cl wt r st' cl' wt' → Flagged c l flags n st → FlaggedAfter c l flags r st'
+    → {r : Result Counters Refusal} {st' : ℕ → List ℕ} {cl' wt' : List ℕ} {flags : List Bool} → CommandDid c l o n st cl wt r st' cl' wt' → Flagged c l flags n st → FlaggedAfter c l flags r st'
 command_flagged o z h d f =
     record {
       flagged = λ m e. record { settles = λ i k. gives_settled h o z (d.carried m e h.state h.given h.reached h.holds) (f.settles i k) };

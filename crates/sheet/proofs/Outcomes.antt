@@ -3,8 +3,9 @@ use mathlib.Core.Path.{◌≡◌, refl, sym, ◌∙◌, ap}
 use mathlib.Core.List.{List}
 use Prim.Native.Nat.{ℕ, ◌<◌, ◌≤◌}
 use native.Mathlib.Omega.{arith}
+use Rattle.std.specs.Prelude.{Result, Ok, Err}
 use Rattle.rules.specs.Catalogue.{Catalogue}
-use Rattle.rules.specs.Refusals.{Result, ok, refuse}
+use Rattle.rules.specs.Refusals.{ok, refuse}
 use Rattle.rules.specs.Refusals as rules
 use Rattle.rules.specs.Records.{Command}
 use Rattle.rules.specs.State.{State}
@@ -29,8 +30,6 @@ use Rattle.reader.specs.declared.Command.TheVariants as C
 use Rattle.reader.specs.Reading.{command_of}
 use Rattle.encoder.proofs.Steps.{nothing_kept}
 use Rattle.encoding.specs.Running.{Holds}
-use Rattle.commands.specs.declared.Outcome.{Outcome}
-use Rattle.commands.specs.declared.Outcome.TheVariants.{Carried, Refused}
 use Rattle.commands.specs.Commands.{Draws, Outcomes, PlainOutcomes, PartOutcomes}
 use Rattle.commands.proofs.Outcomes.{part_outcome}
 use Rattle.commands.proofs.Drawing.{draw_carried, draw_missing}
@@ -40,11 +39,11 @@ use Rattle.beginning.proofs.Held.{any_reading}
 -- ---- a result but for what is forgotten
 
 -- a state that it gives
-record Ok (x : Result State) : Type 0 where
+record Known (x : rules.Result State) : Type 0 where
   state : State
   is : x ≡ ok state
 
-ok_forgotten : (x : Result State) (u : State) → forget_result x ≡ ok u → Ok x
+ok_forgotten : (x : rules.Result State) (u : State) → forget_result x ≡ ok u → Known x
 unfolding forget_result
 ok_forgotten (ok s) u e = record { state = s; is = refl }
 ok_forgotten (refuse f) u e = absurd (not_one (cc))
@@ -53,14 +52,14 @@ forgotten_is : (s u : State) → forget_result (ok s) ≡ ok u → forget s ≡ 
 unfolding forget_result
 forgotten_is s u e = cc
 
-refuse_forgotten : (x : Result State) (f : rules.Refusal) → forget_result x ≡ refuse f → x ≡ refuse f
+refuse_forgotten : (x : rules.Result State) (f : rules.Refusal) → forget_result x ≡ refuse f → x ≡ refuse f
 unfolding forget_result
 refuse_forgotten (ok s) f e = absurd (not_one (cc))
 refuse_forgotten (refuse g) f e = e
 
 module _ {c : Catalogue} {l : Limits} {s : State} {n : Counters} {st : ℕ → List ℕ} {cl wt : List ℕ} (o : Command) (h : Holds c l s n st cl wt) where
   -- the command, of the areas' state in place of s
-  as_held : (v : Reading) (x : Result State) → carry_out (limits_of l) c o (state_of c l v n st cl wt) ≡ x → forget_result (carry_out (limits_of l) c o s) ≡ forget_result x
+  as_held : (v : Reading) (x : rules.Result State) → carry_out (limits_of l) c o (state_of c l v n st cl wt) ≡ x → forget_result (carry_out (limits_of l) c o s) ≡ forget_result x
   as_held v x e = carry_out_forgets (limits_of l) c o s ∙ ap forget_result (rw (h.is v) at e)
 
   pub held_refused : (f : rules.Refusal) → ((v : Reading) → carry_out (limits_of l) c o (state_of c l v n st cl wt) ≡ refuse f) → carry_out (limits_of l) c o s ≡ refuse f
@@ -81,14 +80,14 @@ module _ {c : Catalogue} {l : Limits} {s : State} {n : Counters} {st : ℕ → L
         result : (v : Reading) → forget_result (carry_out (limits_of l) c o s) ≡ ok (state_of c l v m st' cl' wt')
         result v = as_held v (ok (state_of c l v m st' cl' wt')) (e v) ∙ (unfold forget_result in ap ok (nothing_kept c l v m st' cl' wt'))
 
-        read : (f : Ok (carry_out (limits_of l) c o s)) (v : Reading) → forget f.state ≡ state_of c l v m st' cl' wt'
+        read : (f : Known (carry_out (limits_of l) c o s)) (v : Reading) → forget f.state ≡ state_of c l v m st' cl' wt'
         read f v = forgotten_is f.state (state_of c l v m st' cl' wt') (rw f.is at (result v))
 
 -- ---- carried out or refused
 
 module _ {c : Catalogue} {l : Limits} {o : Command} {n : Counters} {st : ℕ → List ℕ} {cl wt : List ℕ} {st' : ℕ → List ℕ} {cl' wt' : List ℕ} where
   pub did_carried : {m : Counters} → ((s : State) → Given c → Reached (limits_of l) c s → Holds c l s n st cl wt → Gives c l o s n m st' cl' wt')
-      → CommandDid c l o n st cl wt (Carried m) st' cl' wt'
+      → CommandDid c l o n st cl wt (Ok m) st' cl' wt'
   did_carried {m} p =
       record {
         carried = λ m' e. let q : m' ≡ m = cc in rw q p;
@@ -96,7 +95,7 @@ module _ {c : Catalogue} {l : Limits} {o : Command} {n : Counters} {st : ℕ →
       }
 
   pub did_refused : {f : Refusal} → ((s : State) → Given c → Reached (limits_of l) c s → Holds c l s n st cl wt → carry_out (limits_of l) c o s ≡ refuse (refusal_of f))
-      → CommandDid c l o n st cl wt (Refused f) st' cl' wt'
+      → CommandDid c l o n st cl wt (Err f) st' cl' wt'
   did_refused {f} p =
       record {
         carried = λ m e. absurd (not_one (cc));
@@ -106,7 +105,7 @@ module _ {c : Catalogue} {l : Limits} {o : Command} {n : Counters} {st : ℕ →
 -- ---- the commands
 
 -- of one that changes the state area alone
-pub did_of : {c : Catalogue} {l : Limits} {o : Command} {n : Counters} {st st' : ℕ → List ℕ} {r : Outcome} → Outcomes c l o n st r st' → (cl wt : List ℕ)
+pub did_of : {c : Catalogue} {l : Limits} {o : Command} {n : Counters} {st st' : ℕ → List ℕ} {r : Result Counters Refusal} → Outcomes c l o n st r st' → (cl wt : List ℕ)
     → CommandDid c l o n st cl wt r st' cl wt
 did_of {o = o} d cl wt =
     record {
@@ -116,22 +115,22 @@ did_of {o = o} d cl wt =
 
 module _ (k : Counts) (m u t : List ℕ) {l : Limits} {n : Counters} {st : ℕ → List ℕ} {cl wt : List ℕ} where
   pub draw_did : {o : ℕ} {r : Counters} {wt' : List ℕ} → o < k.conditions → Draws (catalogue k m u t) l o n st wt r wt'
-      → CommandDid (catalogue k m u t) l (Command.draw o) n st cl wt (Carried r) st cl wt'
+      → CommandDid (catalogue k m u t) l (Command.draw o) n st cl wt (Ok r) st cl wt'
   draw_did {o} p d =
       did_carried
       (λ s _ _ h. held_carried (Command.draw o) h (d.good cl h.good) h.hand d.full d.runs (draw_carried l (catalogue k m u t) o d (rw conditions_held p) cl))
 
-  pub draw_refused : {o : ℕ} → k.conditions ≤ o → CommandDid (catalogue k m u t) l (Command.draw o) n st cl wt (Refused (Missing things.Condition 1)) st cl wt
+  pub draw_refused : {o : ℕ} → k.conditions ≤ o → CommandDid (catalogue k m u t) l (Command.draw o) n st cl wt (Err (Missing things.Condition 1)) st cl wt
   draw_refused {o} p = did_refused (λ s _ _ _. draw_missing l (catalogue k m u t) o (rw conditions_held p) s)
 
-  pub as_add : {r : Outcome} {st' : ℕ → List ℕ} (x : code.Command) (o : ℕ) → x ≡ C.Add o → PartOutcomes k.parts l (Command.add o) n st r st'
+  pub as_add : {r : Result Counters Refusal} {st' : ℕ → List ℕ} (x : code.Command) (o : ℕ) → x ≡ C.Add o → PartOutcomes k.parts l (Command.add o) n st r st'
       → CommandDid (catalogue k m u t) l (command_of x) n st cl wt r st' cl wt
   unfolding command_of
   as_add x o e d = rw e (did_of (part_outcome k m u t d) cl wt)
 
 -- ---- the code's command
 
-module _ {c : Catalogue} {l : Limits} {n : Counters} {st : ℕ → List ℕ} {cl wt : List ℕ} {r : Outcome} {st' : ℕ → List ℕ} (x : code.Command) where
+module _ {c : Catalogue} {l : Limits} {n : Counters} {st : ℕ → List ℕ} {cl wt : List ℕ} {r : Result Counters Refusal} {st' : ℕ → List ℕ} (x : code.Command) where
   pub as_decide : (y v i : ℕ) → x ≡ C.Decide y v i → PlainOutcomes l (Command.decide y v i) n st r st' → CommandDid c l (command_of x) n st cl wt r st' cl wt
   unfolding command_of
   as_decide y v i e d = rw e (did_of (d.is c) cl wt)

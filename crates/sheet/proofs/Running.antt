@@ -5,6 +5,7 @@ use mathlib.Core.List.{List}
 use Prim.Native.Nat.{ℕ, suc}
 use native.Mathlib.Omega.{arith}
 use lib.Dec.{eqb, ltb}
+use Rattle.std.specs.Prelude.{Ok, Err}
 use Rattle.rules.specs.Catalogue.{Catalogue}
 use Rattle.rules.specs.Refusals.{ok, refuse, unless_any}
 use Rattle.rules.specs.Records.{Command}
@@ -25,7 +26,6 @@ use Rattle.encoder.specs.declared.Counters.{Counters}
 use Rattle.encoder.specs.Did.{limits_of, is_full}
 use Rattle.encoder.proofs.Frames.{good_within}
 use Rattle.encoding.specs.Running.{Holds, RunDid}
-use Rattle.commands.specs.declared.Outcome.TheVariants.{Carried, Refused}
 use Rattle.sheet.specs.Sheet.{Gives, CommandDid}
 use Rattle.beginning.proofs.Held.{any_reading, held_decisions, held_runs}
 use Rattle.sheet.proofs.Outcomes.{did_carried, did_refused}
@@ -66,14 +66,14 @@ module _ {c : Catalogue} {l : Limits} {n : Counters} {st : ℕ → List ℕ} {cl
   unfolding too_low
   low_as h = sym (rw (held_decisions h) at e)
 
-  pub run_low : b ≡ true → CommandDid c l (Command.run level) n st cl wt (Refused LevelLow) st cl wt
+  pub run_low : b ≡ true → CommandDid c l (Command.run level) n st cl wt (Err LevelLow) st cl wt
   run_low t = did_refused (λ s _ _ h. low_run l c level s (low_as h ∙ t))
 
   module _ {m : Counters} {st' : ℕ → List ℕ} {cl' wt' : List ℕ} (f : b ≡ false) (d : RunDid c l level n st cl wt m st' cl' wt') where
-    pub run_full_law : is_full m ≡ true → CommandDid c l (Command.run level) n st cl wt (Refused RunFull) st' cl' wt'
+    pub run_full_law : is_full m ≡ true → CommandDid c l (Command.run level) n st cl wt (Err RunFull) st' cl' wt'
     run_full_law t = did_refused (λ s g r h. full_run l c level s (low_as h ∙ f) (d.over s g r h t))
 
-    pub run_done : is_full m ≡ false → CommandDid c l (Command.run level) n st cl wt (Carried m) st' cl' wt'
+    pub run_done : is_full m ≡ false → CommandDid c l (Command.run level) n st cl wt (Ok m) st' cl' wt'
     run_done t = did_carried gives
       where
         held_within : {s : State} → Holds c l s m st' cl' wt' → above (limits_of l) s ≡ false

@@ -1,5 +1,5 @@
 -- A command of a sheet, of the state that the areas hold.
-use Rattle.std.specs.Prelude.{◌≡◌, ℕ, ◌+◌, ◌≤◌, List}
+use Rattle.std.specs.Prelude.{◌≡◌, ℕ, ◌+◌, ◌≤◌, Bool, List, Result, Ok, Err}
 use Rattle.rules.specs.Catalogue.{Catalogue}
 use Rattle.rules.specs.Refusals.{ok, refuse}
 use Rattle.rules.specs.Records.{Command}
@@ -13,8 +13,6 @@ use Rattle.encoder.specs.declared.Counters.{Counters}
 use Rattle.encoder.specs.Did.{limits_of}
 use Rattle.serving.specs.Flags.{Flagged}
 use Rattle.encoding.specs.Running.{Holds}
-use Rattle.commands.specs.declared.Outcome.{Outcome}
-use Rattle.commands.specs.declared.Outcome.TheVariants.{Carried, Refused}
 
 -- the state that the command gives, in the areas
 pub record Gives (c : Catalogue) (l : Limits) (o : Command) (s : State) (n m : Counters) (st' : ℕ → List ℕ) (cl' wt' : List ℕ) : Type 0 where
@@ -24,11 +22,11 @@ pub record Gives (c : Catalogue) (l : Limits) (o : Command) (s : State) (n m : C
   pub runs : m.runs ≤ n.runs + 1
 
 pub record CommandDid (c : Catalogue) (l : Limits) (o : Command) (n : Counters) (st : ℕ → List ℕ) (cl wt : List ℕ)
-    (r : Outcome) (st' : ℕ → List ℕ) (cl' wt' : List ℕ) : Type 0 where
-  pub carried : (m : Counters) → r ≡ Carried m → (s : State) → Given c → Reached (limits_of l) c s → Holds c l s n st cl wt → Gives c l o s n m st' cl' wt'
-  pub refused : (f : Refusal) → r ≡ Refused f → (s : State) → Given c → Reached (limits_of l) c s → Holds c l s n st cl wt
+    (r : Result Counters Refusal) (st' : ℕ → List ℕ) (cl' wt' : List ℕ) : Type 0 where
+  pub carried : (m : Counters) → r ≡ Ok m → (s : State) → Given c → Reached (limits_of l) c s → Holds c l s n st cl wt → Gives c l o s n m st' cl' wt'
+  pub refused : (f : Refusal) → r ≡ Err f → (s : State) → Given c → Reached (limits_of l) c s → Holds c l s n st cl wt
       → carry_out (limits_of l) c o s ≡ refuse (refusal_of f)
 
 -- goals that are flagged are so after a command that was carried out
-pub record FlaggedAfter (c : Catalogue) (l : Limits) (flags : List ℕ) (r : Outcome) (st' : ℕ → List ℕ) : Type 0 where
-  pub flagged : (m : Counters) → r ≡ Carried m → Flagged c l flags m st'
+pub record FlaggedAfter (c : Catalogue) (l : Limits) (flags : List Bool) (r : Result Counters Refusal) (st' : ℕ → List ℕ) : Type 0 where
+  pub flagged : (m : Counters) → r ≡ Ok m → Flagged c l flags m st'

@@ -12,7 +12,6 @@ ghost use Rattle.encoding.specs.Running.{Reaches};
 ghost use Rattle.serving.specs.Flags.{Flagged};
 ghost use Rattle.sheet.specs.Sheet.{CommandDid, FlaggedAfter};
 
-use commands::Outcome;
 use encoder::Counters;
 use reader::Command;
 use refusal::{Refusal, Thing};
@@ -30,7 +29,7 @@ fn draw(
     l: Limits,
     n: Counters,
     c: u16,
-) -> Outcome
+) -> Result<Counters, Refusal>
     requires catalogued { Catalogued k marks.now unions.now t.now }
     requires fits { Fits l (length s.old) }
     requires reaches { Reaches (catalogue k marks.now unions.now t.now) l n (held l s.old) clauses.old w.old }
@@ -38,9 +37,9 @@ fn draw(
     ensures { CommandDid (catalogue k marks.now unions.now t.now) l (rules.Command.draw c) n (held l s.old) clauses.old w.old result (held l s.new) clauses.new w.new }
 {
     if (c as usize) < k.conditions {
-        return Outcome::Carried(commands::draw(marks, unions, t, k, s, w, l, n, c));
+        return Ok(commands::draw(marks, unions, t, k, s, w, l, n, c));
     }
-    Outcome::Refused(Refusal::Missing(Thing::Condition, 1))
+    Err(Refusal::Missing(Thing::Condition, 1))
 }
 
 fn run(
@@ -54,8 +53,8 @@ fn run(
     l: Limits,
     n: Counters,
     level: u16,
-    settled: &mut [u8; 640],
-) -> Outcome
+    settled: &mut [bool; 640],
+) -> Result<Counters, Refusal>
     requires catalogued { Catalogued k marks.now unions.now t.now }
     requires fits { Fits l (length s.old) }
     requires reaches { Reaches (catalogue k marks.now unions.now t.now) l n (held l s.old) clauses.old w.old }
@@ -65,13 +64,13 @@ fn run(
     ensures flagged_after { FlaggedAfter (catalogue k marks.now unions.now t.now) l settled.new result (held l s.new) }
 {
     if commands::too_low(s, l, n.decisions, level) {
-        return Outcome::Refused(Refusal::LevelLow);
+        return Err(Refusal::LevelLow);
     }
     let m = encoding::run_once(marks, unions, t, k, s, clauses, w, l, n, level, settled);
     if m.full != 0 {
-        return Outcome::Refused(Refusal::RunFull);
+        return Err(Refusal::RunFull);
     }
-    Outcome::Carried(m)
+    Ok(m)
 }
 
 // `settled` flags goals whose candidates are settled.
@@ -86,8 +85,8 @@ pub fn carry_out(
     l: Limits,
     n: Counters,
     command: Command,
-    settled: &mut [u8; 640],
-) -> Outcome
+    settled: &mut [bool; 640],
+) -> Result<Counters, Refusal>
     requires catalogued { Catalogued k marks.now unions.now t.now }
     requires fits { Fits l (length s.old) }
     requires reaches { Reaches (catalogue k marks.now unions.now t.now) l n (held l s.old) clauses.old w.old }
@@ -105,6 +104,6 @@ pub fn carry_out(
             value,
             level,
         } => commands::decide(s, l, n, variable, value, level),
-        Command::Undo(level) => commands::undo(s, l, n, level),
+        Command::Undo(level) => Ok(commands::undo(s, l, n, level)),
     }
 }

@@ -1,5 +1,4 @@
 -- `commands::held_flags` says of each entry whether it is flagged. The invariant: the flags of the first i entries are set.
-use Prim.Native.Nat.{◌-◌}
 use Rattle.tables.specs.Tables.{tables}
 use Rattle.entries.specs.Entries.{waiting_in}
 use Rattle.commands.specs.Commands.{is_flagged}
@@ -8,6 +7,3 @@ use Rattle.commands.proofs.held_flags.Given as goal
 
 abbrev pub invariant-loop-i : goal.invariant-loop-i
 invariant-loop-i l = Flagging (is_flagged (tables l.k l.t).requirements l.holding l.c) l.n (waiting_in l.l l.n l.w) l.i l.flags
-
-abbrev pub decreases-loop-i : goal.decreases-loop-i
-decreases-loop-i l = l.n - l.i
