@@ -7,6 +7,7 @@ use native.Mathlib.Omega.{arith}
 use native.Mathlib.Decide.{dec_lt}
 use lib.ListN.{length, length-map, drop}
 use borrow.Author.Tests.{lt-ltb, le-ltb}
+use Rattle.std.specs.Prelude.{Result, Ok, Err}
 use Rattle.rules.specs.Catalogue.{Catalogue}
 use Rattle.rules.specs.Refusals.{number_and_place, unless_any}
 use Rattle.rules.specs.State.{State}
@@ -16,6 +17,7 @@ use Rattle.rules.specs.Job.{answer_of, printed, is_empty, ending, ended_by}
 use Rattle.rules.proofs.Forgotten.{forget, forget_listing}
 use Rattle.rules.proofs.ListLaws.{no_element}
 use Rattle.refusal.specs.declared.Refusal.TheVariants.{NotRun, ListingFull}
+use Rattle.refusal.specs.declared.RefusedAt.{RefusedAt}
 use Rattle.refusal.specs.Refusing.{refusal_of}
 use Rattle.text.specs.Text.{Wrote}
 use Rattle.text.proofs.Written.{measured, fits, written}
@@ -30,9 +32,15 @@ use Rattle.encoder.specs.Held.{Reading, opening_of, state_of}
 use Rattle.encoder.proofs.Frames.{clauses_counted}
 use Rattle.line_fields.specs.Listed.{Lists}
 use Rattle.beginning.specs.Beginning.{Holds}
-use Rattle.ending.specs.declared.Outcome.{Outcome}
-use Rattle.ending.specs.declared.Outcome.TheVariants.{Accepted, Refused}
+use Rattle.ending.specs.declared.Accepted.{Accepted}
 use Rattle.ending.specs.Ending.{told, Comes, Prints, Finishes}
+
+-- the two refusals
+abbrev pub not_run : RefusedAt
+not_run = record { refusal = NotRun; at = 0 }
+
+abbrev pub no_listing : RefusedAt
+no_listing = record { refusal = ListingFull; at = 0 }
 
 -- any reading will do between two records
 abbrev some_reading : Reading
@@ -80,7 +88,7 @@ other_false false b e = refl
 
 module _ (c : Catalogue) (s : State) (t : Terms) (job : List ℕ) where
   left_over : {out : List ℕ} → not (is_empty s.opening.added && is_empty s.opening.drawn) ≡ true
-      → Comes job (ended_by t job c (unless_any (ending t job c s) s)) (Refused NotRun 0) out out
+      → Comes job (ended_by t job c (unless_any (ending t job c s) s)) (Err not_run) out out
   unfolding ending unless_any ended_by answer_of printed told refusal_of number_and_place
   left_over e = record { answer = rw (e, unless_any); listing = rw (e, unless_any) }
 
@@ -88,14 +96,14 @@ module _ (c : Catalogue) (s : State) (t : Terms) (job : List ℕ) where
     nothing : not (is_empty s.opening.added && is_empty s.opening.drawn) ≡ false
     nothing = rw (a, d)
 
-    too_long : {out : List ℕ} → t.listing < length (listing c s) → Comes job (ended_by t job c (unless_any (ending t job c s) s)) (Refused ListingFull 0) out out
+    too_long : {out : List ℕ} → t.listing < length (listing c s) → Comes job (ended_by t job c (unless_any (ending t job c s) s)) (Err no_listing) out out
     unfolding ending unless_any ended_by answer_of printed told refusal_of number_and_place
     too_long h =
         let f = lt-ltb t.listing (length (listing c s)) h in
         record { answer = rw (nothing, f, unless_any); listing = rw (nothing, f, unless_any) }
 
     printed_whole : {out out' : List ℕ} → length (listing c s) ≤ t.listing → out' ≡ listing c s ++ drop (length (listing c s)) out
-        → Comes job (ended_by t job c (unless_any (ending t job c s) s)) (Accepted (length (listing c s)) (length s.variables) (length s.clauses)) out out'
+        → Comes job (ended_by t job c (unless_any (ending t job c s) s)) (Ok (record { length = length (listing c s); variables = length s.variables; clauses = length s.clauses })) out out'
     unfolding ending unless_any ended_by answer_of printed told
     printed_whole h w =
         let f = le-ltb t.listing (length (listing c s)) h in
@@ -108,20 +116,20 @@ positive (suc m) h = omega arith
 -- ---- a law for each way out
 
 module _ {c : Catalogue} {l : Limits} {n : Counters} {st : ℕ → List ℕ} {cl wt : List ℕ} where
-  pub added_left : (out : List ℕ) → (n.added ≡ 0 → ⊥) → Finishes c l n st cl wt (Refused NotRun 0) out out
+  pub added_left : (out : List ℕ) → (n.added ≡ 0 → ⊥) → Finishes c l n st cl wt (Err not_run) out out
   added_left out h =
       record { is = λ s k t job e. left_over c s t job (either_false _ _ (not_empty s.opening.added (positive _ (rw (added_count k) h)))) }
 
-  pub drawn_left : (out : List ℕ) → (n.drawn ≡ 0 → ⊥) → Finishes c l n st cl wt (Refused NotRun 0) out out
+  pub drawn_left : (out : List ℕ) → (n.drawn ≡ 0 → ⊥) → Finishes c l n st cl wt (Err not_run) out out
   drawn_left out h =
       record { is = λ s k t job e. left_over c s t job (other_false (is_empty s.opening.added) _ (not_empty s.opening.drawn (positive _ (rw (drawn_count k) h)))) }
 
-  pub none_left_over : {r : Outcome} {out out' : List ℕ} → n.added ≡ 0 → n.drawn ≡ 0 → Prints c l n st cl wt r out out' → Finishes c l n st cl wt r out out'
+  pub none_left_over : {r : Result Accepted RefusedAt} {out out' : List ℕ} → n.added ≡ 0 → n.drawn ≡ 0 → Prints c l n st cl wt r out out' → Finishes c l n st cl wt r out out'
   none_left_over a d p =
       record { is = λ s k t job e. p.is s k t job e (no_element s.opening.added (added_count k ∙ a)) (no_element s.opening.drawn (drawn_count k ∙ d)) }
 
   module _ {room m : ℕ} {out : List ℕ} (e : room ≡ length out) (w : Lists c l n st cl wt room m [] []) where
-    pub no_room : room < m → Prints c l n st cl wt (Refused ListingFull 0) out out
+    pub no_room : room < m → Prints c l n st cl wt (Err no_listing) out out
     no_room h =
         record {
           is = λ s k t job q a d.
@@ -133,7 +141,7 @@ module _ {c : Catalogue} {l : Limits} {n : Counters} {st : ℕ → List ℕ} {cl
         over x y f = elim (dec_lt x y) [ yes g ↦ g | no g ↦ absurd (f (omega arith)) ]
 
     pub printed_out : {r : ℕ} {out₁ out' : List ℕ} → m ≤ room → out₁ ≡ out → Lists c l n st cl wt room r out₁ out'
-        → Prints c l n st cl wt (Accepted m n.variables n.clauses) out out'
+        → Prints c l n st cl wt (Ok (record { length = m; variables = n.variables; clauses = n.clauses })) out out'
     printed_out {r} {out₁} {out'} h same v =
         record {
           is = λ s k t job q a d.
@@ -142,8 +150,3 @@ module _ {c : Catalogue} {l : Limits} {n : Counters} {st : ℕ → List ℕ} {cl
               rw (measured room (listing c s) [] [] m (wrote_is k w) g, variables_count k, clauses_count k)
               (printed_whole c s t job a d (omega (arith, q, e)) (written out (listing c s) out' r (rw (e, same) at (wrote_is k v)) z));
         }
-
--- a pass that is lent nothing writes nothing
-pub lent_none : {c : Catalogue} {l : Limits} {n : Counters} {st : ℕ → List ℕ} {cl wt : List ℕ} {room r : ℕ} {x : List ℕ} (out : List ℕ) → length x ≡ 0
-    → Lists c l n st cl wt room r [] x → Lists c l n st cl wt room r [] [] × (x ++ out ≡ out)
-lent_none {x = x} out e w = let z = no_element x e in (rw z at w, rw z)

@@ -1,4 +1,4 @@
-// The end of a job: nothing added or drawn may be left, and its listing is written if it fits; what a job comes to (`Outcome`).
+// The end of a job: nothing added or drawn may be left, and its listing is written if it fits. What a job comes to is `Accepted`, or a refusal.
 // A listing that does not fit leaves the area as it was.
 #![tactic(auto)]
 
@@ -13,22 +13,16 @@ ghost use Rattle.line_fields.specs.Listed.{Lists};
 ghost use Rattle.ending.specs.Ending.{Prints, Finishes};
 
 use encoder::Counters;
-use refusal::Refusal;
+use refusal::{Refusal, RefusedAt};
 use state::Limits;
 use tables::Counts;
 
-// What a job comes to.
-#[derive(Clone, Copy)]
-pub enum Outcome {
-    Accepted {
-        length: usize,
-        variables: usize,
-        clauses: usize,
-    },
-    Refused {
-        refusal: Refusal,
-        at: usize,
-    },
+// How long the listing of a job is, and how many variables and clauses it has.
+#[derive(Clone, Copy, Debug, PartialEq, Eq)]
+pub struct Accepted {
+    pub length: usize,
+    pub variables: usize,
+    pub clauses: usize,
 }
 
 // How long the listing is, or one more than `room` if it is longer than that. Nothing is written.
@@ -42,32 +36,18 @@ fn measure(
     w: &[u8],
     l: Limits,
     n: Counters,
-    out: &mut [u8],
     room: usize,
 ) -> usize
     requires catalogued { Catalogued k marks.now unions.now t.now }
     requires fits { Fits l (length s.now) × Addressable room }
     requires long_enough { LongEnough l (length clauses.now) (length w.now) }
     requires reaches { Reaches (catalogue k marks.now unions.now t.now) l n (held l s.now) clauses.now w.now }
-    ensures lists { Lists (catalogue k marks.now unions.now t.now) l n (held l s.now) clauses.now w.now room result [] [] }
-    ensures out_unchanged { out.new ≡ out.old }
+    ensures { Lists (catalogue k marks.now unions.now t.now) l n (held l s.now) clauses.now w.now room result [] [] }
 {
-    listing::write(
-        marks,
-        unions,
-        t,
-        k,
-        s,
-        clauses,
-        w,
-        l,
-        n,
-        &mut out[..0],
-        room,
-    )
+    listing::write(marks, unions, t, k, s, clauses, w, l, n, &mut [], room)
 }
 
-// The listing is written if it fits into the area, which has this much room.
+// The listing is written if it fits into the area.
 fn print(
     marks: &[u8],
     unions: &[u8],
@@ -79,27 +59,27 @@ fn print(
     l: Limits,
     n: Counters,
     out: &mut [u8],
-    room: usize,
-) -> Outcome
+) -> Result<Accepted, RefusedAt>
     requires catalogued { Catalogued k marks.now unions.now t.now }
-    requires fits { Fits l (length s.now) × Addressable room × (room ≡ length out.old) }
+    requires fits { Fits l (length s.now) }
     requires long_enough { LongEnough l (length clauses.now) (length w.now) }
     requires reaches { Reaches (catalogue k marks.now unions.now t.now) l n (held l s.now) clauses.now w.now }
     ensures { Prints (catalogue k marks.now unions.now t.now) l n (held l s.now) clauses.now w.now result out.old out.new }
 {
-    let length = measure(marks, unions, t, k, s, clauses, w, l, n, out, room);
+    let room = out.len();
+    let length = measure(marks, unions, t, k, s, clauses, w, l, n, room);
     if room < length {
-        return Outcome::Refused {
+        return Err(RefusedAt {
             refusal: Refusal::ListingFull,
             at: 0,
-        };
+        });
     }
     listing::write(marks, unions, t, k, s, clauses, w, l, n, out, room);
-    Outcome::Accepted {
+    Ok(Accepted {
         length,
         variables: n.variables,
         clauses: n.clauses,
-    }
+    })
 }
 
 // The end of a job: nothing added or drawn may be left, and the listing must fit.
@@ -114,25 +94,18 @@ pub fn finish(
     l: Limits,
     n: Counters,
     out: &mut [u8],
-) -> Outcome
+) -> Result<Accepted, RefusedAt>
     requires catalogued { Catalogued k marks.now unions.now t.now }
     requires fits { Fits l (length s.now) }
     requires long_enough { LongEnough l (length clauses.now) (length w.now) }
     requires reaches { Reaches (catalogue k marks.now unions.now t.now) l n (held l s.now) clauses.now w.now }
     ensures { Finishes (catalogue k marks.now unions.now t.now) l n (held l s.now) clauses.now w.now result out.old out.new }
 {
-    if n.added != 0 {
-        return Outcome::Refused {
+    if n.added != 0 || n.drawn != 0 {
+        return Err(RefusedAt {
             refusal: Refusal::NotRun,
             at: 0,
-        };
+        });
     }
-    if n.drawn != 0 {
-        return Outcome::Refused {
-            refusal: Refusal::NotRun,
-            at: 0,
-        };
-    }
-    let room = out.len();
-    print(marks, unions, t, k, s, clauses, w, l, n, out, room)
+    print(marks, unions, t, k, s, clauses, w, l, n, out)
 }

@@ -7,13 +7,14 @@ use native.Mathlib.Omega.{arith}
 use lib.Dec.{ltb, leb}
 use lib.ListN.{length}
 use borrow.Author.Tests.{lt-ltb, le-ltb, leb-true, ltb-true}
+use Rattle.std.specs.Prelude.{Result, Ok, Err}
 use Rattle.rules.proofs.Bools.{and_left, and_right}
 use Rattle.rules.specs.Catalogue.{empty_catalogue}
 use Rattle.rules.specs.Refusals.{unless_any, number_and_place}
 use Rattle.rules.specs.Limits as rules
 use Rattle.rules.specs.Limits.{within, allowed, marks_area, unions_area, catalogue_area, clauses_area, growing_state, fixed_state, state_area, waiting_area, needed, covers, fits}
 use Rattle.rules.specs.Job.{reading, begun_with, progress, accepts, refuses, ended, outcome, answer_of, answer, printed, listing_area}
-use Rattle.refusal.specs.declared.Refusal.{Refusal}
+use Rattle.refusal.specs.declared.RefusedAt.{RefusedAt}
 use Rattle.refusal.specs.declared.Refusal.TheVariants.{Unfit, Overlong}
 use Rattle.refusal.specs.Refusing.{refusal_of}
 use Rattle.state.specs.declared.Limits as state
@@ -21,8 +22,7 @@ use Rattle.state.specs.Layout.{Fits}
 use Rattle.encoder.specs.Held.{LongEnough}
 use Rattle.encoder.specs.Did as encoder
 use Rattle.carried.specs.Carrying.{end_from}
-use Rattle.ending.specs.declared.Outcome.{Outcome}
-use Rattle.ending.specs.declared.Outcome.TheVariants.{Accepted, Refused}
+use Rattle.ending.specs.declared.Accepted.{Accepted}
 use Rattle.ending.specs.Ending.{told}
 use Rattle.outcome.specs.Outcomes.{RunsFrom}
 use Rattle.terms.specs.declared.Answer.{Answer}
@@ -83,12 +83,12 @@ enough l x m u t c s w b h e f =
 
 -- ---- answers
 
-pub accepted_told : (n : ℕ) {l v c : ℕ} {o : Outcome} {r : Answer} → o ≡ Accepted l v c → Gives r (accepts l v c) → Gives r (told n o)
+pub accepted_told : (n : ℕ) {a : Accepted} {o : Result Accepted RefusedAt} {r : Answer} → o ≡ Ok a → Gives r (accepts a.length a.variables a.clauses) → Gives r (told n o)
 unfolding told
 accepted_told n e g = rw e g
 
-pub refused_told : (n : ℕ) {o : Outcome} {f : Refusal} {at : ℕ} {r : Answer} → o ≡ Refused f at
-    → Gives r (refuses (number_and_place n at (refusal_of f)).0 (number_and_place n at (refusal_of f)).1) → Gives r (told n o)
+pub refused_told : (n : ℕ) {o : Result Accepted RefusedAt} {f : RefusedAt} {r : Answer} → o ≡ Err f
+    → Gives r (refuses (number_and_place n f.at (refusal_of f.refusal)).0 (number_and_place n f.at (refusal_of f.refusal)).1) → Gives r (told n o)
 unfolding told
 refused_told n e g = rw e g
 
@@ -110,7 +110,7 @@ module _ (job : List ℕ) (l : Limits) (x : Lent) (out : List ℕ) (b : Bool) (e
   unfolding answer outcome ended answer_of listing_area printed progress begun_with unless_any refusal_of
   run_overlong h k g = record { answer = rw (← fitting, h, lt-ltb 65536 (length job) k, unless_any) g; listing = rw (← fitting, h, lt-ltb 65536 (length job) k, unless_any) }
 
-  pub run_carried : {y : Outcome} {out' : List ℕ} → b ≡ true → length job ≤ 65536 → RunsFrom (state_limits l) job 0 (reading empty_catalogue) y out out' → Gives r (told (length job) y)
+  pub run_carried : {y : Result Accepted RefusedAt} {out' : List ℕ} → b ≡ true → length job ≤ 65536 → RunsFrom (state_limits l) job 0 (reading empty_catalogue) y out out' → Gives r (told (length job) y)
       → Runs job terms r out out'
   unfolding answer outcome listing_area progress begun_with unless_any end_from limits_of terms_of encoder.limits_of
   run_carried h k d g =

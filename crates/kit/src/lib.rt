@@ -9,8 +9,8 @@ ghost use Rattle.kit.specs.Checking.{Served};
 ghost use Rattle.kit.specs.Running.{LendsAll, Runs, Ran};
 ghost use Rattle.ending.specs.Ending as endings;
 
-use ending::Outcome;
-use refusal::Refusal;
+use ending::Accepted;
+use refusal::{Refusal, RefusedAt};
 use terms::{Answer, Lent, Limits};
 
 // ---- check
@@ -54,16 +54,12 @@ pub fn kit_check(
 // ---- run
 
 // What is answered of a job's outcome.
-fn told_outcome(length: usize, outcome: Outcome) -> Answer
+fn told_outcome(length: usize, outcome: Result<Accepted, RefusedAt>) -> Answer
     ensures { Gives result (endings.told length outcome) }
 {
     match outcome {
-        Outcome::Accepted {
-            length: bytes,
-            variables,
-            clauses,
-        } => terms::accepted(bytes, variables, clauses),
-        Outcome::Refused { refusal, at } => terms::refused(length, at, refusal),
+        Ok(job) => terms::accepted(job.length, job.variables, job.clauses),
+        Err(refused) => terms::refused(length, refused.at, refused.refusal),
     }
 }
 

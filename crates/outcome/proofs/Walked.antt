@@ -6,6 +6,7 @@ use Prim.Native.Nat.{ℕ, ◌+◌}
 use native.Mathlib.Omega.{arith}
 use native.Mathlib.Decide.{dec_lt}
 use lib.ListN.{length, get_or, drop}
+use Rattle.std.specs.Prelude.{Result, Ok, Err}
 use Rattle.rules.specs.Catalogue.{Catalogue, empty_catalogue}
 use Rattle.rules.specs.Refusals.{number_and_place}
 use Rattle.rules.specs.State.{start}
@@ -15,6 +16,7 @@ use Rattle.rules.proofs.Reached.{Given, checked_given}
 use Rattle.rules.proofs.WellFormed.{well_formed}
 use Rattle.rules.proofs.WalkLaws.{walk_record, walk_end, walk_still, run_reads, check_sheet, check_carries}
 use Rattle.refusal.specs.declared.Refusal.{Refusal}
+use Rattle.refusal.specs.declared.RefusedAt.{RefusedAt}
 use Rattle.refusal.specs.Refusing.{refusal_of}
 use Rattle.tables.specs.declared.Counts.{Counts}
 use Rattle.cache.specs.Areas.{catalogue, Held}
@@ -31,18 +33,16 @@ use Rattle.state.specs.declared.Limits.{Limits}
 use Rattle.encoder.specs.declared.Counters.{Counters}
 use Rattle.encoder.specs.Held.{LongEnough}
 use Rattle.goals.specs.Goals.{Catalogued}
-use Rattle.carried.specs.declared.Sheet.{Sheet}
 use Rattle.carried.specs.Carrying.{end_from, Came, SheetDid}
 use Rattle.beginning.specs.Beginning.{Reaches}
-use Rattle.ending.specs.declared.Outcome.{Outcome}
-use Rattle.ending.specs.declared.Outcome.TheVariants.{Refused}
+use Rattle.ending.specs.declared.Accepted.{Accepted}
 use Rattle.ending.specs.Ending.{told, Comes, Finishes}
 use Rattle.outcome.specs.Outcomes.{RunsFrom, ReadWhole}
 
 -- a refusal leaves the listing area
-refused_comes : (job out : List ℕ) (f : Refusal) (at : ℕ) → Comes job (refused (number_and_place (length job) at (refusal_of f))) (Refused f at) out out
+refused_comes : (job out : List ℕ) (e : RefusedAt) → Comes job (refused (number_and_place (length job) e.at (refusal_of e.refusal))) (Err e) out out
 unfolding answer_of printed told
-refused_comes job out f at = record { answer = refl; listing = refl }
+refused_comes job out e = record { answer = refl; listing = refl }
 
 -- ---- the catalogue
 
@@ -111,7 +111,7 @@ module _ {job : List ℕ} {at : ℕ} {k : Counts} {m u t : List ℕ} {x : Read} 
       )
 
   -- what comes of the job is what comes of it from the sheet on
-  pub from_sheet : {l : Limits} {r : Outcome} {out out' : List ℕ} → RunsFrom l job at (reading (catalogue k m u t)) r out out' → RunsFrom l job 0 (reading empty_catalogue) r out out'
+  pub from_sheet : {l : Limits} {r : Result Accepted RefusedAt} {out out' : List ℕ} → RunsFrom l job at (reading (catalogue k m u t)) r out out' → RunsFrom l job 0 (reading empty_catalogue) r out out'
   unfolding end_from place_of progress_of
   from_sheet g = record { is = λ z e f. rw (read_up.same.run z) (g.is z e f) }
 
@@ -125,31 +125,31 @@ not_read h e = record { read = rw e at h; chains = tt }
 
 -- the catalogue is refused
 pub from_refused : {l : Limits} {job : List ℕ} {f : Refusal} {at : ℕ} {m u t : List ℕ} {x : Read} (out : List ℕ) → ReadUp job x m u t → x ≡ Read.Refused f at
-    → RunsFrom l job 0 (reading empty_catalogue) (Refused f at) out out
+    → RunsFrom l job 0 (reading empty_catalogue) (Err (record { refusal = f; at = at })) out out
 unfolding end_from place_of progress_of ended
 from_refused {job = job} {f = f} {at = at} out h k =
     let r = rw k at h in
     record {
       is = λ z e g.
           rw (r.same.run z ∙ walk_still (run_step z job) (stopped (number_and_place (length job) at (refusal_of f))) ((run_reads z job).over _) 0 at (drop at job))
-          (refused_comes job out f at);
+          (refused_comes job out (record { refusal = f; at = at }));
     }
 
 -- ---- the sheet
 
 module _ {c : Catalogue} {l : Limits} {job : List ℕ} {from : ℕ} {st' : ℕ → List ℕ} {cl' wt' : List ℕ} where
-  module _ {x : Sheet} (d : SheetDid c l job from x st' cl' wt') where
-    pub sheet_refused : {f : Refusal} {at : ℕ} (out : List ℕ) → x ≡ Sheet.Refused f at → RunsFrom l job from (reading c) (Refused f at) out out
-    sheet_refused {f} {at} out k = record { is = λ z e g. rw (d.refused f at k z e) (refused_comes job out f at) }
+  module _ {x : Result Counters RefusedAt} (d : SheetDid c l job from x st' cl' wt') where
+    pub sheet_refused : {e : RefusedAt} (out : List ℕ) → x ≡ Err e → RunsFrom l job from (reading c) (Err e) out out
+    sheet_refused {e} out k = record { is = λ z i g. rw (d.refused e k z i) (refused_comes job out e) }
 
-    module _ {m : Counters} (k : x ≡ Sheet.Carried m) where
+    module _ {m : Counters} (k : x ≡ Ok m) where
       abbrev came : Came c l job from m st' cl' wt'
       came = d.carried m k
 
       pub sheet_reaches : Given c → Reaches c l m st' cl' wt'
       sheet_reaches g = record { state = came.state; given = g; reached = came.reached; holds = came.holds }
 
-      pub sheet_finished : {r : Outcome} {out out' : List ℕ} → Finishes c l m st' cl' wt' r out out' → RunsFrom l job from (reading c) r out out'
+      pub sheet_finished : {r : Result Accepted RefusedAt} {out out' : List ℕ} → Finishes c l m st' cl' wt' r out out' → RunsFrom l job from (reading c) r out out'
       sheet_finished h = record { is = λ z e g. rw (came.alike z e) (unfold ended in h.is came.state came.holds z job g) }
 
 -- ---- lengths

@@ -1,7 +1,8 @@
 -- What a whole job comes to, against the definitions' outcome.
-use Rattle.std.specs.Prelude.{◌≡◌, List, ℕ, length}
+use Rattle.std.specs.Prelude.{◌≡◌, List, ℕ, length, Result}
 use Rattle.rules.specs.Limits.{Terms}
 use Rattle.rules.specs.Job.{Progress}
+use Rattle.refusal.specs.declared.RefusedAt.{RefusedAt}
 use Rattle.words.specs.Words.{words}
 use Rattle.unions.specs.Unions.{rows}
 use Rattle.catalogue.specs.declared.Read.{Read}
@@ -11,11 +12,11 @@ use Rattle.index.specs.Members.{Threaded}
 use Rattle.state.specs.declared.Limits.{Limits}
 use Rattle.encoder.specs.Did.{limits_of}
 use Rattle.carried.specs.Carrying.{end_from}
-use Rattle.ending.specs.declared.Outcome.{Outcome}
+use Rattle.ending.specs.declared.Accepted.{Accepted}
 use Rattle.ending.specs.Ending.{Comes}
 
 -- a job from byte `at` on, where the definitions' walk has come to p
-pub record RunsFrom (l : Limits) (job : List ℕ) (at : ℕ) (p : Progress) (r : Outcome) (out out' : List ℕ) : Type 0 where
+pub record RunsFrom (l : Limits) (job : List ℕ) (at : ℕ) (p : Progress) (r : Result Accepted RefusedAt) (out out' : List ℕ) : Type 0 where
   pub is : (t : Terms) → t.limits ≡ limits_of l → t.listing ≡ length out → Comes job (end_from t job at p) r out out'
 
 -- the chains of a catalogue that was read whole

@@ -13,9 +13,9 @@ ghost use Rattle.encoder.specs.Held.{LongEnough};
 ghost use Rattle.goals.specs.Goals.{Catalogued};
 ghost use Rattle.outcome.specs.Outcomes.{ReadWhole, RunsFrom};
 
-use carried::Sheet;
 use catalogue::Read;
-use ending::Outcome;
+use ending::Accepted;
+use refusal::RefusedAt;
 use state::Limits;
 use tables::Counts;
 
@@ -32,7 +32,7 @@ fn run_sheet(
     w: &mut [u8],
     l: Limits,
     out: &mut [u8],
-) -> Outcome
+) -> Result<Accepted, RefusedAt>
     requires job_len_bound { length job.now ≤ 65536 }
     requires catalogued { Catalogued k marks.now unions.now t.now }
     requires up_to_sheet { UpToSheet job.now from k marks.now unions.now t.now }
@@ -44,10 +44,8 @@ fn run_sheet(
 {
     state::clear(s, l);
     let n = carried::start(s, clauses, l);
-    match carried::carry_sheet(job, from, marks, unions, t, k, s, clauses, w, l, n) {
-        Sheet::Carried(m) => ending::finish(marks, unions, t, k, s, clauses, w, l, m, out),
-        Sheet::Refused { refusal, at } => Outcome::Refused { refusal, at },
-    }
+    let m = carried::carry_sheet(job, from, marks, unions, t, k, s, clauses, w, l, n)?;
+    ending::finish(marks, unions, t, k, s, clauses, w, l, m, out)
 }
 
 // The catalogue is read, and its chains are made.
@@ -74,7 +72,7 @@ pub fn run(
     w: &mut [u8],
     l: Limits,
     out: &mut [u8],
-) -> Outcome
+) -> Result<Accepted, RefusedAt>
     requires in_bounds { (65536 ≤ length marks.old) × (52428 ≤ length unions.old) × (50696 ≤ length t.old) × (length job.now ≤ 65536) }
     requires fits { Fits l (length s.old) }
     requires long_enough { LongEnough l (length clauses.old) (length w.old) }
@@ -85,6 +83,6 @@ pub fn run(
         Read::Sheet { at, counts } => run_sheet(
             job, at, marks, unions, t, counts, s, clauses, w, l, out,
         ),
-        Read::Refused { refusal, at } => Outcome::Refused { refusal, at },
+        Read::Refused { refusal, at } => Err(RefusedAt { refusal, at }),
     }
 }

@@ -15,7 +15,10 @@ use Rattle.rules.specs.Job.{Outcome, accepted, refused, outcome, begun_with, pro
 use Rattle.rules.specs.Job as job
 use Rattle.rules.proofs.Digits.{by_ten, decimal_digit, decimal_digits}
 use Rattle.text.specs.Text.{Wrote}
-use Rattle.text.proofs.Written.{fields_one, fields_first, line_is, measured, written}
+use Rattle.text.specs.declared.Writer.{Writer}
+use Rattle.text.specs.Writing.{Writes}
+use Rattle.text.proofs.Written.{measured, written}
+use Rattle.text.proofs.Writing.{wrote, fields_one, fields_first, line_is}
 use Rattle.terms.specs.declared.Answer.{Answer}
 use Rattle.terms.specs.Terms.{terms_of, four_limits}
 use Rattle.terms.specs.Answers.{numbers_of, answer_by, Gives}
@@ -55,17 +58,17 @@ module _ (number place : ℕ) (h : number < 2 ^ 64) (k : place < 2 ^ 64) where
         decimal_short 19 place (omega arith),
       )
 
-  pub refusal_is : {out o1 o2 o3 out' : List ℕ} {a b c r : ℕ} → 50 ≤ length out
-      → Wrote 0 a (114 ∷ 101 ∷ 102 ∷ 117 ∷ 115 ∷ 101 ∷ 100 ∷ []) (length out) out o1
-      → Wrote a b (32 ∷ decimal number) (length out) o1 o2
-      → Wrote b c (32 ∷ decimal place) (length out) o2 o3
-      → Wrote c r (10 ∷ []) (length out) o3 out'
-      → Holds (shown (refused (number, place))) r out'
+  pub refusal_is : {w w1 w2 w3 w4 : Writer} (out : List ℕ) {out' : List ℕ} → 50 ≤ length out → w.at ≡ 0 → w.room ≡ length out → w.out.now ≡ out → w4.out.now ≡ out'
+      → Writes w w1 (114 ∷ 101 ∷ 102 ∷ 117 ∷ 115 ∷ 101 ∷ 100 ∷ [])
+      → Writes w1 w2 (32 ∷ decimal number)
+      → Writes w2 w3 (32 ∷ decimal place)
+      → Writes w3 w4 (10 ∷ [])
+      → Holds (shown (refused (number, place))) w4.at out'
   unfolding ascii shown
-  refusal_is {out} {o1} {o2} {o3} {out'} {a} {b} {c} {r} room e f g d =
+  refusal_is {w4 = w4} out {out'} room start l i j e f g d =
       let fits : length line_of ≤ length out = omega (arith, short) in
-      let all = line_is (decimal number ∷ decimal place ∷ []) e (fields_first (decimal place ∷ []) f (fields_one g)) d in
-      holds line_of out out' r (measured (length out) line_of out out' r all fits) (written out line_of out' r all fits) fits
+      let all : Wrote 0 w4.at line_of (length out) out out' = rw (start, l, i, j) at (wrote (line_is (decimal number ∷ decimal place ∷ []) e (fields_first (decimal place ∷ []) f (fields_one g)) d)) in
+      holds line_of out out' w4.at (measured (length out) line_of out out' w4.at all fits) (written out line_of out' w4.at all fits) fits
 
 -- the listing area has room for it
 pub line_fits : (n n' : ℕ) → n ≡ 65536 → n' ≡ n → 50 ≤ n'

@@ -5,16 +5,20 @@ ghost use Rattle.std.specs.Prelude.{◌≡◌, ◌≤◌, length};
 ghost use Rattle.rules.specs.Job.{refused, shown, kitlist};
 ghost use Rattle.shown.specs.Shown.{Holds};
 
+use text::Writer;
+
 // `refused NUMBER PLACE`; no such line has more than 50 bytes.
 fn refusal_line(out: &mut [u8], number: u64, place: u64) -> usize
     requires { 50 ≤ length out.old }
     ensures { Holds (shown (refused (number, place))) result out.new }
 {
     let room = out.len();
-    let a = text::word(out, room, 0, b"refused");
-    let b = text::field_number(out, room, a, number as usize);
-    let c = text::field_number(out, room, b, place as usize);
-    text::line_feed(out, room, c)
+    let mut writer = Writer::new(out, room);
+    writer.word(b"refused");
+    writer.field_number(number as usize);
+    writer.field_number(place as usize);
+    writer.line_feed();
+    writer.at
 }
 
 // The job is run with kitlist's limits, in areas of the lengths that these need (docs/LIMITS.md). How many bytes of `out` it takes.

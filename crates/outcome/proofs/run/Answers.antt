@@ -3,9 +3,6 @@ use borrow.Author.Rules.{rules}
 use Rattle.outcome.proofs.Walked.{whole_asks, from_sheet, from_refused}
 use Rattle.outcome.proofs.run.Goals as goal
 
-pub run_sheet-requires-clause-job_len_bound : goal.run_sheet-requires-clause-job_len_bound
-run_sheet-requires-clause-job_len_bound c = c.requires.in_bounds.3
-
 pub run_sheet-requires-clause-catalogued : goal.run_sheet-requires-clause-catalogued
 run_sheet-requires-clause-catalogued c = (whole_asks {at = c.in-Sheet.at} {A = Unit {0}} c.read_whole.ensures (search rules) tt).0
 
