@@ -1,104 +1,81 @@
 // A reader's bytes into a lent area. Where the bytes of the reader are known, the contracts say which ones came.
 #![tactic(auto)]
 
-ghost use Rattle.std.specs.Prelude.{◌≡◌, ◌+◌, ◌<◌, ◌≤◌, false, IfSome, length, take, drop};
+ghost use Rattle.std.specs.Prelude.{◌≡◌, ◌+◌, ◌<◌, ◌≤◌, IfOk, IfSome, OnOk, MatchResult, List, [], length, take, drop};
 ghost use Rattle.std.specs.Io.KnownBytes.{Consumes, IsAtEnd};
 
+use std::io;
 use std::io::Read;
 
-// How many bytes of an area were read, and whether a read failed.
+// A read failed, after so many bytes.
 #[derive(Drop)]
-pub struct Filled {
+pub struct Failed {
     pub length: usize,
-    pub failed: bool,
 }
 
 // One read into the area, from `at` on: how many bytes came, 0 at the input's end.
-fn read_behind<R: Read>(reader: &mut R, area: &mut [u8], at: usize) -> Filled
+fn read_behind<R: Read>(reader: &mut R, area: &mut [u8], at: usize) -> io::Result<usize>
     requires { at ≤ length area.old }
-    ensures within { at + result.length ≤ length area.old }
+    ensures within { IfOk result (λ n. at + n ≤ length area.old) }
     ensures front { take at area.new ≡ take at area.old }
-    ensures bytes { Consumes (R.remaining reader.old) (R.remaining reader.new) (take result.length (drop at area.new)) }
-    ensures end { result.failed ≡ false → result.length ≡ 0 → at < length area.old → IsAtEnd (R.remaining reader.new) }
+    ensures bytes { MatchResult result
+        (λ n. Consumes (R.remaining reader.old) (R.remaining reader.new) (take n (drop at area.new)))
+        (λ _. Consumes (R.remaining reader.old) (R.remaining reader.new) []) }
+    ensures end { IfOk result (λ n. n ≡ 0 → at < length area.old → IsAtEnd (R.remaining reader.new)) }
 {
-    match reader.read(&mut area[at..]) {
-        Ok(length) => Filled {
-            length,
-            failed: false,
-        },
-        Err(_) => Filled {
-            length: 0,
-            failed: true,
-        },
-    }
+    reader.read(&mut area[at..])
 }
 
-// Reads until the area is full, the input ends or a read fails.
-pub fn fill<R: Read>(reader: &mut R, area: &mut [u8]) -> Filled
-    ensures within { result.length ≤ length area.new }
-    ensures bytes { Consumes (R.remaining reader.old) (R.remaining reader.new) (take result.length area.new) }
-    ensures end { result.failed ≡ false → result.length < length area.new → IsAtEnd (R.remaining reader.new) }
+// Reads until the area is full, the input ends or a read fails; how many bytes came.
+pub fn fill<R: Read>(reader: &mut R, area: &mut [u8]) -> Result<usize, Failed>
+    ensures within { MatchResult result (λ n. n ≤ length area.new) (λ e. e.length ≤ length area.new) }
+    ensures bytes { MatchResult result
+        (λ n. Consumes (R.remaining reader.old) (R.remaining reader.new) (take n area.new))
+        (λ e. Consumes (R.remaining reader.old) (R.remaining reader.new) (take e.length area.new)) }
+    ensures end { IfOk result (λ n. n < length area.new → IsAtEnd (R.remaining reader.new)) }
 {
     let mut at = 0;
     while at < area.len() {
-        let got = read_behind(reader, area, at);
-        if got.length == 0 {
-            return Filled {
-                length: at,
-                failed: got.failed,
-            };
+        match read_behind(reader, area, at) {
+            Ok(0) => return Ok(at),
+            Ok(length) => at += length,
+            Err(_) => return Err(Failed { length: at }),
         }
-        at += got.length;
     }
-    Filled {
-        length: at,
-        failed: false,
-    }
+    Ok(at)
 }
 
-// One read of bytes that nobody keeps.
-fn pass_some<R: Read>(reader: &mut R) -> Filled
-    ensures end { result.failed ≡ false → result.length ≡ 0 → IsAtEnd (R.remaining reader.new) }
+// Reads what is left of the input. Nothing says that the input ends, so the loop's turns are counted, up to a number that no run uses up.
+fn pass_rest<R: Read>(reader: &mut R) -> Result<(), Failed>
+    ensures end { OnOk result (IsAtEnd (R.remaining reader.new)) }
 {
     let mut space = [0u8; 4096];
-    read_behind(reader, &mut space, 0)
-}
-
-// Reads what is left of the input; whether a read failed. Nothing says that the input ends, so the loop's turns are counted,
-// up to a number that no run uses up.
-fn pass_rest<R: Read>(reader: &mut R) -> bool
-    ensures end { result ≡ false → IsAtEnd (R.remaining reader.new) }
-{
     for _ in 0..u64::MAX {
-        let got = pass_some(reader);
-        if got.length == 0 {
-            return got.failed;
+        match reader.read(&mut space) {
+            Ok(0) => return Ok(()),
+            Ok(_) => {}
+            Err(_) => break,
         }
     }
-    true
+    Err(Failed { length: 0 })
 }
 
-// Reads the whole input and keeps as much of it as the area holds.
-pub fn read_to_end<R: Read>(reader: &mut R, area: &mut [u8]) -> Filled
-    ensures within { result.length ≤ length area.new }
-    ensures kept { result.failed ≡ false → IfSome (R.remaining reader.old)
-        (λ input. take result.length area.new ≡ take (length area.new) input) }
-    ensures end { result.failed ≡ false → IsAtEnd (R.remaining reader.new) }
+// Reads the whole input and keeps as much of it as the area holds; how many bytes are kept.
+pub fn read_to_end<R: Read>(reader: &mut R, area: &mut [u8]) -> Result<usize, Failed>
+    ensures within { MatchResult result (λ n. n ≤ length area.new) (λ e. e.length ≤ length area.new) }
+    ensures kept { IfOk result (λ n. IfSome (R.remaining reader.old) (λ input. take n area.new ≡ take (length area.new) input)) }
+    ensures end { OnOk result (IsAtEnd (R.remaining reader.new)) }
 {
-    let kept = fill(reader, area);
-    if kept.length < area.len() {
-        return kept;
+    let length = fill(reader, area)?;
+    if length == area.len() {
+        pass_rest(reader).map_err(|_| Failed { length })?;
     }
-    Filled {
-        length: kept.length,
-        failed: pass_rest(reader),
-    }
+    Ok(length)
 }
 
 #[cfg(test)]
 mod tests {
     use super::*;
-    use std::io;
     use std::test::Fail;
 
     // Gives a byte at a time, and fails in place of the fourth.
@@ -125,9 +102,10 @@ mod tests {
     fn keeps_what_the_area_holds(rt: HostRuntime) -> Result<(), Fail> {
         let mut reader = b"abcdef".as_slice();
         let mut area = [0u8; 4];
-        let read = read_to_end(&mut reader, &mut area);
-        assert!(rt; !read.failed);
-        assert_eq!(rt; read.length, 4);
+        let kept = read_to_end(&mut reader, &mut area)
+            .ok()
+            .ok_or("no read fails")?;
+        assert_eq!(rt; kept, 4);
         assert_eq!(rt; area, *b"abcd");
         assert!(rt; reader.is_empty());
         Ok(())
@@ -137,11 +115,9 @@ mod tests {
     fn tells_a_read_that_fails(rt: HostRuntime) -> Result<(), Fail> {
         let mut reader = Failing { given: 0 };
         let mut area = [0u8; 2];
-        let first = fill(&mut reader, &mut area);
-        assert!(rt; !first.failed);
-        assert_eq!(rt; first.length, 2);
-        let second = fill(&mut reader, &mut area);
-        assert!(rt; second.failed);
+        let first = fill(&mut reader, &mut area).ok().ok_or("no read fails")?;
+        assert_eq!(rt; first, 2);
+        let second = fill(&mut reader, &mut area).err().ok_or("a read fails")?;
         assert_eq!(rt; second.length, 1);
         assert_eq!(rt; area, [3, 2]);
         Ok(())
@@ -151,9 +127,10 @@ mod tests {
     fn tells_a_rest_that_cannot_be_read(rt: HostRuntime) -> Result<(), Fail> {
         let mut reader = Failing { given: 0 };
         let mut area = [0u8; 2];
-        let read = read_to_end(&mut reader, &mut area);
-        assert!(rt; read.failed);
-        assert_eq!(rt; read.length, 2);
+        let failed = read_to_end(&mut reader, &mut area)
+            .err()
+            .ok_or("a read fails")?;
+        assert_eq!(rt; failed.length, 2);
         Ok(())
     }
 }

@@ -31,12 +31,11 @@ fn print_job<R: Read, W: Write>(reader: &mut R, writer: &mut W) -> Result<(), Fa
         (λ job. Appends (W.contents writer.old) (W.contents writer.new) (kitlist job))) }
 {
     let mut job = [0u8; 65537];
-    let read = input::read_to_end(reader, &mut job);
-    if read.failed {
+    let Ok(length) = input::read_to_end(reader, &mut job) else {
         return Err(Failure::Input);
-    }
+    };
     let mut out = [0u8; 65536];
-    let shown = shown::shown_in(&job[..read.length], &mut out);
+    let shown = shown::shown_in(&job[..length], &mut out);
     match writer.write_all(&out[..shown]) {
         Ok(()) => Ok(()),
         Err(_) => Err(Failure::Output),

@@ -5,7 +5,6 @@
 ghost use Rattle.std.specs.Prelude.{◌≡◌, ◌+◌, ◌*◌, IfSome, OnOk, get_or, take};
 ghost use Rattle.std.specs.Io.KnownBytes.{Appends};
 ghost use Rattle.rules.specs.Job.{kitlist};
-ghost use Rattle.words.specs.Words.{words};
 
 use std::fmt;
 use std::io::{Read, Write};
@@ -32,15 +31,6 @@ impl fmt::Display for Failure {
     }
 }
 
-// The number that four bytes hold.
-fn length_in(head: &[u8]) -> usize
-    ensures { result ≡ get_or (words head.now) 0 0 + 65536 * get_or (words head.now) 1 0 }
-{
-    let low = words::at(head, 0);
-    let high = words::at(head, 1);
-    low as usize + 65536 * (high as usize)
-}
-
 // Says why the jobs that follow are not replayed.
 fn stop(rt: &impl Eprint, why: Failure) {
     let _ = eprintln!(rt; "replay: {why}");
@@ -59,34 +49,27 @@ fn replay_job<R: Read, W: Write>(
     if area.len() < length {
         return Err(Failure::LongJob);
     }
-    let read = input::fill(reader, &mut area[..length]);
-    if read.length < length {
+    let read = input::fill(reader, &mut area[..length]).map_err(|_| Failure::CutJob)?;
+    if read < length {
         return Err(Failure::CutJob);
     }
     let mut out = [0u8; 65536];
     let shown = shown::shown_in(&area[..length], &mut out);
-    match writer.write_all(&out[..shown]) {
-        Ok(()) => Ok(()),
-        Err(_) => Err(Failure::Unwritten),
-    }
+    writer
+        .write_all(&out[..shown])
+        .map_err(|_| Failure::Unwritten)
 }
 
 // The next recorded job, if there is one; whether another may follow.
 fn replay_next<R: Read, W: Write>(reader: &mut R, writer: &mut W) -> Result<bool, Failure> {
     let mut head = [0u8; 4];
-    let read = input::fill(reader, &mut head);
-    if read.failed {
-        return Err(Failure::Unread);
+    match input::fill(reader, &mut head).map_err(|_| Failure::Unread)? {
+        0 => return Ok(false),
+        4 => {}
+        _ => return Err(Failure::CutLength),
     }
-    if read.length == 0 {
-        return Ok(false);
-    }
-    if read.length < 4 {
-        return Err(Failure::CutLength);
-    }
-    let length = length_in(&head);
     let mut area = [0u8; 65537];
-    replay_job(reader, writer, &mut area, length)?;
+    replay_job(reader, writer, &mut area, u32::from_le_bytes(head) as usize)?;
     Ok(true)
 }
 

@@ -12,6 +12,6 @@ printed None a b kept out room long e f h = tt
 printed (Some input) a b kept out room long e f h =
     subst (Appends a b) (f ∙ ap kitlist (e ∙ ap (λ n. take n input) long) ∙ kitlist_cut input) h
 
-pub returns-in-Ok : goal.returns-in-Ok
-returns-in-Ok g c =
-    printed _ _ _ _ _ _ (search rules) (c.read_to_end-read.ensures.kept c.if-read.false) c.shown_in-shown.ensures.is c.in-Ok.ensures.bytes
+pub returns-in-Ok-write_all : goal.returns-in-Ok-write_all
+returns-in-Ok-write_all g c =
+    printed _ _ _ _ _ _ (search rules) c.in-Ok.ensures.kept c.shown_in-shown.ensures.is c.in-Ok-write_all.ensures.bytes
