@@ -135,9 +135,6 @@ module _ {l : Limits} {n₀ n : Counters} {b₀ b : List ℕ} {i : ℕ} (x : Ope
   marked_start : Marked 6 7 n₀.added (held l b₀)
   marked_start = x.start.good.good.state.added
 
-  pub opened_few : n₀.added ≤ 1025
-  opened_few = omega (arith, marked_start.most, marked_start.short)
-
   marked_now : Marked 6 7 n.added (held l b)
   marked_now = good_now.good.state.added
 

@@ -35,7 +35,8 @@ use Rattle.line.proofs.Tasks.{task_drawn}
 use Rattle.entries.specs.Entries.{drawn_in}
 use Rattle.encoder.specs.declared.Counters.{Counters}
 use Rattle.encoder.specs.Held.{Reading, drawn_task, no_such, task_from, task_in, opening_of, state_of, Good, GoodAlone}
-use Rattle.encoder.specs.Did.{limits_of, room_of, beyond, on_opening, Did, StateDid, PlainDid, is_full}
+use Rattle.encoder.specs.Did.{room_of, beyond, on_opening, Did, StateDid, PlainDid, is_full}
+use Rattle.state.specs.Limits.{limits_of}
 use Rattle.encoder.proofs.Did.{beside_kept, did_made, did_then}
 use Rattle.encoder.proofs.Frames.{good_kept, list_kept, line_kept}
 use Rattle.encoder.proofs.Widening.{Lengthens, widens_opening}

@@ -22,7 +22,7 @@ use Rattle.entries.specs.Entries.{no_entry, entry_of, row_at_index, drawn_in}
 use Rattle.encoder.specs.declared.Counters.{Counters}
 use Rattle.encoder.specs.Held.{Reading, task_in, GoodAlone}
 use Rattle.encoder.specs.Did.{on_opening, StateDid}
-use Rattle.encoder.proofs.Steps.{state_same, state_none, state_then, alone_after}
+use Rattle.encoder.proofs.Steps.{state_same, state_none, state_then}
 use Rattle.goals.specs.Goals.{AllGiven}
 use Rattle.firing.specs.Firing.{queued}
 use Rattle.beginning.specs.Beginning.{fire_from, fire_drawn}
@@ -71,9 +71,6 @@ pub fired_start : {c : Catalogue} {l : Limits} (ds : List (ℕ × ℕ)) {n : Cou
 fired_start {c} ds f g = record { fits = f; same = refl; start = g; did = state_none (λ v s. unfold on_opening in rw (drawn_none c v s.opening)) }
 
 module _ {c : Catalogue} {l : Limits} {ds : List (ℕ × ℕ)} {n₀ n : Counters} {b₀ b : List ℕ} {e : ℕ} (x : Fired c l ds n₀ b₀ n b e) where
-  pub fired_good : GoodAlone c l n (held l b)
-  fired_good = alone_after x.did x.start
-
   module _ (it : Entry) (h : e < length ds) (is : entry_of it ≡ get_or ds e no_entry) where
     next_is : (v : Reading) (s : State)
         → on_opening (queued c it.requirement (task_in c v (3649 + e))) (on_opening (fire_drawn c v (take e ds)) s) ≡ on_opening (fire_drawn c v (take (e + 1) ds)) s

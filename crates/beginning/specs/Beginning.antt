@@ -12,7 +12,8 @@ use Rattle.state.specs.declared.Limits.{Limits}
 use Rattle.marked.specs.Marked.{Marked}
 use Rattle.encoder.specs.declared.Counters.{Counters}
 use Rattle.encoder.specs.Held.{Reading, task_in, state_of, Good, GoodAlone}
-use Rattle.encoder.specs.Did.{limits_of, is_full}
+use Rattle.encoder.specs.Did.{is_full}
+use Rattle.state.specs.Limits.{limits_of}
 use Rattle.firing.specs.Firing.{queued}
 
 -- a run's tasks are read by what is decided true and drawn in the state in which it begins

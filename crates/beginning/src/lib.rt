@@ -9,12 +9,15 @@ ghost use Rattle.marked.specs.Marked.{Marked};
 ghost use Rattle.entries.specs.Entries.{Long, drawn_in};
 ghost use Rattle.encoder.specs.Held.{LongEnough, GoodAlone};
 ghost use Rattle.encoder.specs.Did.{on_opening, StateDid, PlainDid};
-ghost use Rattle.goals.specs.Goals.{Catalogued, AllGiven};
+ghost use Rattle.goals.specs.Goals.{AllGiven};
 ghost use Rattle.beginning.specs.Beginning.{Reaches, GoodSome, open_added, forget_added, fire_drawn, emptied, Begins};
+ghost use Rattle.index.specs.Views.{catalogue_of};
 
 use encoder::Counters;
+use index::Catalogue;
+use line::Task;
+use marked::MarkedList;
 use state::Limits;
-use tables::Counts;
 
 // ---- a run begins
 
@@ -23,12 +26,13 @@ fn emptied(n: Counters) -> Counters
     requires { n.runs < 65535 }
     ensures { result ≡ emptied n }
 {
-    let mut a = n;
-    a.first = 0;
-    a.tail = 0;
-    a.drawn = 0;
-    a.runs = n.runs + 1;
-    a
+    Counters {
+        first: 0,
+        tail: 0,
+        drawn: 0,
+        runs: n.runs + 1,
+        ..n
+    }
 }
 
 // The added owners are opened, in order.
@@ -38,14 +42,12 @@ fn open_added(s: &mut [u8], l: Limits, n: Counters) -> Counters
     ensures { PlainDid l (λ c v. on_opening open_added) n (held l s.old) result (held l s.new) }
 {
     let mut m = n;
-    let mut i = 0;
-    while i < n.added {
+    for i in 0..n.added {
         if m.full != 0 {
             return m;
         }
-        let o = marked::at(s, l, state::ADDED, n.added, i);
+        let o = marked::at(s, l, MarkedList::Added, n.added, i);
         m = opening::open_owner(s, l, m, o);
-        i += 1;
     }
     m
 }
@@ -56,70 +58,55 @@ fn forget_added(s: &mut [u8], l: Limits, n: Counters) -> Counters
     requires marked { Marked 6 7 n.added (held l s.old) }
     ensures { PlainDid l (λ c v. on_opening forget_added) n (held l s.old) result (held l s.new) }
 {
-    marked::clear(s, l, state::ADDED, state::ADDED_MARKS, n.added);
-    let mut m = n;
-    m.added = 0;
-    m
+    marked::clear(s, l, MarkedList::Added, n.added);
+    Counters { added: 0, ..n }
 }
 
 // The `drawn` entries fire, each a task of its own.
 fn fire_drawn(
-    marks: &[u8],
-    unions: &[u8],
-    t: &[u8],
-    k: Counts,
+    catalogue: &Catalogue,
     s: &mut [u8],
     w: &[u8],
     l: Limits,
     n: Counters,
     drawn: usize,
 ) -> Counters
-    requires catalogued { Catalogued k marks.now unions.now t.now }
     requires fits { Fits l (length s.old) }
-    requires good_alone { GoodAlone (catalogue k marks.now unions.now t.now) l n (held l s.old) }
+    requires good_alone { GoodAlone (catalogue_of catalogue.now) l n (held l s.old) }
     requires long { Long l (length w.now) × (drawn ≤ l.waiting) }
-    requires all_given { AllGiven (catalogue k marks.now unions.now t.now) (drawn_in l drawn w.now) }
-    ensures { StateDid (catalogue k marks.now unions.now t.now) l (λ v. on_opening (fire_drawn (catalogue k marks.now unions.now t.now) v (drawn_in l drawn w.now))) n (held l s.old) result (held l s.new) }
+    requires all_given { AllGiven (catalogue_of catalogue.now) (drawn_in l drawn w.now) }
+    ensures { StateDid (catalogue_of catalogue.now) l (λ v. on_opening (fire_drawn (catalogue_of catalogue.now) v (drawn_in l drawn w.now))) n (held l s.old) result (held l s.new) }
 {
     let mut m = n;
-    let mut e = 0;
-    while e < drawn {
+    for e in 0..drawn {
         let entry = entries::drawn_at(w, l, drawn, e);
         m = firing::fire(
-            marks,
-            unions,
-            t,
-            k,
+            catalogue,
             s,
             l,
             m,
             entry.requirement as usize,
-            3649 + e as u16,
+            Task::Drawn(e as u16),
         );
-        e += 1;
     }
     m
 }
 
 // The added owners are opened, then the drawn entries fire.
 pub fn begin_run(
-    marks: &[u8],
-    unions: &[u8],
-    t: &[u8],
-    k: Counts,
+    catalogue: &Catalogue,
     s: &mut [u8],
     clauses: &[u8],
     w: &[u8],
     l: Limits,
     n: Counters,
 ) -> Counters
-    requires catalogued { Catalogued k marks.now unions.now t.now }
     requires fits { Fits l (length s.old) }
-    requires reaches { Reaches (catalogue k marks.now unions.now t.now) l n (held l s.old) clauses.now w.now }
+    requires reaches { Reaches (catalogue_of catalogue.now) l n (held l s.old) clauses.now w.now }
     requires long_enough { LongEnough l (length clauses.now) (length w.now) × (n.runs < 65535) }
-    ensures { Begins (catalogue k marks.now unions.now t.now) l n (held l s.old) clauses.now w.now result (held l s.new) }
+    ensures { Begins (catalogue_of catalogue.now) l n (held l s.old) clauses.now w.now result (held l s.new) }
 {
     let a = open_added(s, l, emptied(n));
     let b = forget_added(s, l, a);
-    fire_drawn(marks, unions, t, k, s, w, l, b, n.drawn)
+    fire_drawn(catalogue, s, w, l, b, n.drawn)
 }

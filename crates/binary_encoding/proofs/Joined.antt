@@ -1,6 +1,6 @@
 -- The named parts join: their names are at hand while they do, and then none is named any more.
 use mathlib.Core.Path.{◌≡◌, refl, sym, ◌∙◌, ap}
-use mathlib.Core.Bool.{false, not}
+use mathlib.Core.Bool.{Bool, false, not}
 use mathlib.Core.List.{List, [], ◌∷◌, map}
 use Prim.Native.Nat.{ℕ}
 use native.Mathlib.Decide.{dec_lt}
@@ -57,7 +57,7 @@ module _ (k : Counts) (m u t : List ℕ) where
   all_held [] = refl
   all_held (p ∷ ps) = rw (name_held k m u t p, all_held ps)
 
-  names_held : (flags ps : List ℕ) → flagged_names k t flags ps ≡ distinct (filter (flagged flags) (map (name_of (catalogue k m u t)) ps))
+  names_held : (flags : List Bool) (ps : List ℕ) → flagged_names k t flags ps ≡ distinct (filter (flagged flags) (map (name_of (catalogue k m u t)) ps))
   unfolding flagged_names
   names_held flags ps = ap (λ (ns : List ℕ). distinct (filter (flagged flags) ns)) (all_held ps)
 
@@ -93,7 +93,7 @@ join_all_widens c r s =
     let o = join_all_opening c r s in
     record { grows = join_all_grows c r s; line = rw o (omega arith); several = rw o (omega arith) }
 
-module _ (k : Counts) (m u t : List ℕ) {l : Limits} (r : code.Run) {n a n' : Counters} {st st₁ st₂ st₃ st₄ : ℕ → List ℕ} {cl cl' flags : List ℕ} {names : ℕ} (z : Marked 14 15 0 st)
+module _ (k : Counts) (m u t : List ℕ) {l : Limits} (r : code.Run) {n a n' : Counters} {st st₁ st₂ st₃ st₄ : ℕ → List ℕ} {cl cl' : List ℕ} {flags : List Bool} {names : ℕ} (z : Marked 14 15 0 st)
     (j : JoinersNoted k t n.named st n.named flags)
     (x : Gathers (flagged_names k t flags (listed n.named 8 st)) st names st₁) (d : MakesOf k t l (join_names (run_of r) (listed names 14 st₁)) n st₁ cl a st₂ cl')
     (y : Emptied 14 15 st₂ st₃) (f : Forgets l a st₃ n' st₄) where

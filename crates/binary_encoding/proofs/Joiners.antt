@@ -2,12 +2,12 @@
 use mathlib.Core.Path.{◌≡◌, refl, sym, ◌∙◌, ap}
 use mathlib.Core.Bool.{Bool, true, false, cond, not, false≢true}
 use mathlib.Core.List.{List, [], ◌∷◌, ◌++◌, append-nil}
-use Prim.Native.Nat.{ℕ, suc, ◌+◌, ◌<◌, ◌≤◌}
+use Prim.Native.Nat.{ℕ, suc, ◌<◌}
 use native.Mathlib.Omega.{arith}
 use lib.Dec.{eqb}
 use lib.ListN.{length, get_or, set}
 use lib.Seq.{get_or-set_same, get_or-set_other}
-use borrow.Author.Tests.{eqb-true, eqb-false, ne_eqb}
+use borrow.Author.Tests.{eqb-true, eqb-false}
 use Rattle.rules.specs.Lists.{filter, elem, snoc, any, concat_map, fold, distinct}
 use Rattle.rules.specs.Catalogue.{no_part}
 use Rattle.rules.proofs.Bools.{by_cases}
@@ -22,57 +22,32 @@ use Rattle.binary_encoding.specs.Joiners.{flagged, NotesJoiner, JoinersNoted, No
 
 -- ---- a flag is set
 
-pub joiner_passed : (k : Counts) (t : List ℕ) (st : ℕ → List ℕ) (p : ℕ) (flags : List ℕ) (b : Bool) → b ≡ is_marked 11 p st → b ≡ true → NotesJoiner k t st p flags flags
-joiner_passed k t st p flags b e f = record { still = λ n h. h; new = λ z. absurd (false≢true (sym z ∙ (sym e ∙ f))) }
-
-pub joiner_low : (k : Counts) (t : List ℕ) (p a : ℕ) (flags : List ℕ) → NamesLow k t → length flags ≡ 64 → a ≡ (get_or (tables k t).parts p no_part).name → a < length flags
+pub joiner_low : (k : Counts) (t : List ℕ) (p a : ℕ) (flags : List Bool) → NamesLow k t → length flags ≡ 64 → a ≡ (get_or (tables k t).parts p no_part).name → a < length flags
 joiner_low k t p a flags w h e = let low = w.low p in let q : a ≡ part_name k t p = unfold part_name in e in omega arith
 
-pub joiner_flagged : (k : Counts) (t : List ℕ) (st : ℕ → List ℕ) (p a : ℕ) (flags : List ℕ) → NamesLow k t → length flags ≡ 64 → a ≡ (get_or (tables k t).parts p no_part).name
-    → NotesJoiner k t st p flags (set flags a 1)
+pub joiner_flagged : (k : Counts) (t : List ℕ) (st : ℕ → List ℕ) (p a : ℕ) (flags : List Bool) → NamesLow k t → length flags ≡ 64 → a ≡ (get_or (tables k t).parts p no_part).name
+    → NotesJoiner k t st p flags (set flags a true)
 unfolding flagged
 joiner_flagged k t st p a flags w h e =
     let low = joiner_low k t p a flags w h e in
     let q : a ≡ part_name k t p = unfold part_name in e in
     record {
-      still = λ n y. by_cases (eqb n a) (λ z. rw (eqb-true n a z, get_or-set_same flags a 1 0 low)) (λ z. rw (get_or-set_other flags a n 1 0 (eqb-false n a z)) y);
-      new = λ z. rw (← q, get_or-set_same flags a 1 0 low);
+      still = λ n y. by_cases (eqb n a) (λ z. rw (eqb-true n a z, get_or-set_same flags a true false low)) (λ z. rw (get_or-set_other flags a n true false (eqb-false n a z)) y);
+      new = λ z. rw (← q, get_or-set_same flags a true false low);
     }
 
 -- ---- the loop over the named parts
 
-pub joiners_none : (k : Counts) (t : List ℕ) (named : ℕ) (st : ℕ → List ℕ) (flags : List ℕ) → JoinersNoted k t named st 0 flags
-joiners_none k t named st flags = record { is = λ j h. absurd (not_below h) }
-  where
-    not_below : {j : ℕ} → j < 0 → ⊥
-    not_below h = omega arith
-
-pub joiners_more : {k : Counts} {t : List ℕ} {named : ℕ} {st : ℕ → List ℕ} {i p : ℕ} {flags flags' : List ℕ} → JoinersNoted k t named st i flags
-    → p ≡ get_or (listed named 8 st) i 0 → NotesJoiner k t st p flags flags' → JoinersNoted k t named st (i + 1) flags'
-joiners_more {k} {t} {named} {st} {i} {p} x e y =
-    record {
-      is = λ j h z.
-          by_cases (eqb j i) (λ w. let here : get_or (listed named 8 st) j 0 ≡ p = rw (eqb-true j i w) (sym e) in rw here (y.new (rw here at z)))
-          (λ w. let apart = eqb-false j i w in y.still _ (x.is j (omega arith) z));
-    }
-
--- what is flagged of the first i stays so
-pub joiners_up : {k : Counts} {t : List ℕ} {named : ℕ} {st : ℕ → List ℕ} {i : ℕ} {flags : List ℕ} → JoinersNoted k t named st i flags → named ≤ i
-    → JoinersNoted k t named st named flags
-joiners_up x h = record { is = λ j l z. x.is j (omega arith) z }
-
 -- ---- a name is noted if it is flagged
 
-module _ (flags : List ℕ) (name m : ℕ) (st : ℕ → List ℕ) where
-  pub name_passed : get_or flags name 0 ≡ 0 → NotesIf (flagged flags name) name m st m st
+module _ (flags : List Bool) (name m : ℕ) (st : ℕ → List ℕ) where
+  pub name_passed : get_or flags name false ≡ false → NotesIf (flagged flags name) name m st m st
   unfolding flagged
   name_passed e = record { noted = λ z. absurd (false≢true (rw e at z)); same = λ z. refl; kept = λ z. refl }
 
-  pub name_noted : {r : ℕ} {st' : ℕ → List ℕ} → (get_or flags name 0 ≡ 0 → ⊥) → Notes name m st r st' → NotesIf (flagged flags name) name m st r st'
+  pub name_noted : {r : ℕ} {st' : ℕ → List ℕ} → get_or flags name false ≡ true → Notes name m st r st' → NotesIf (flagged flags name) name m st r st'
   unfolding flagged
-  name_noted e y =
-      let so : eqb (get_or flags name 0) 0 ≡ false = ne_eqb (get_or flags name 0) 0 e in
-      record { noted = λ z. y; same = λ z. absurd (false≢true (sym (rw so at z))); kept = λ z. absurd (false≢true (sym (rw so at z))) }
+  name_noted e y = record { noted = λ z. y; same = λ z. absurd (false≢true (sym (rw e at z))); kept = λ z. absurd (false≢true (sym (rw e at z))) }
 
 -- ---- lists
 
@@ -127,7 +102,7 @@ places : {P : ℕ → Type 0} (xs : List ℕ) → ((i : ℕ) → i < length xs �
 places [] h = Each.nil
 places (x ∷ xs) h = Each.cons (h 0 (omega arith)) (places xs (λ i l. h (suc i) (omega arith)))
 
-module _ (k : Counts) (t flags tracked : List ℕ) where
+module _ (k : Counts) (t : List ℕ) (flags : List Bool) (tracked : List ℕ) where
   nothing_new : (n : ℕ) → flagged flags n ≡ false → (ps : List ℕ) → Each (λ p. elem p tracked ≡ false → flagged flags (part_name k t p) ≡ true) ps
       → filter (λ p. not (elem p tracked)) (filter (λ p. eqb (part_name k t p) n) ps) ≡ []
   unfolding filter

@@ -1,17 +1,15 @@
 -- New one-of-name variables are linked, variable by variable.
 use mathlib.Core.Path.{◌≡◌, refl, sym, ◌∙◌, ap}
-use mathlib.Core.Bool.{Bool, true, false, cond}
+use mathlib.Core.Bool.{true, false}
 use mathlib.Core.List.{List, [], ◌∷◌, map, map-map, append-nil}
 use Prim.Native.Nat.{ℕ, ◌+◌, ◌<◌, ◌≤◌}
 use native.Mathlib.Numerals.{add-one}
 use native.Mathlib.Omega.{arith}
-use lib.Dec.{eqb}
 use lib.ListN.{length, get_or, drop, drop_of_length-le}
 use lib.Seq.{drop-cons}
-use borrow.Author.Tests.{ne_eqb}
 use Rattle.rules.specs.Lists.{concat_map, fold}
 use Rattle.rules.specs.Clause.{Clause, any_one}
-use Rattle.rules.specs.Catalogue.{root, part, range, union, Catalogue}
+use Rattle.rules.specs.Catalogue.{root, Catalogue}
 use Rattle.rules.specs.Variables.{Origin, chosen, forbid, one, violation, gate, known, variable_of, with_variables, part_origin, part_variable}
 use Rattle.rules.specs.Opening.{tracked_of}
 use Rattle.rules.specs.Encoding.{links, origins, clauses}
@@ -28,7 +26,8 @@ use Rattle.cache.specs.Areas.{catalogue}
 use Rattle.state.specs.declared.Limits.{Limits}
 use Rattle.state.specs.Layout.{held, Fits}
 use Rattle.variable_map.specs.declared.Origin as variable_map
-use Rattle.variable_map.specs.Mapping.{origin_by, origin_of, variables, AllKnown}
+use Rattle.variable_map.specs.declared.Origin.TheVariants.{Root, Part, Forbid, One, Violation, Gate}
+use Rattle.variable_map.specs.Mapping.{origin_of, variables, AllKnown}
 use Rattle.variable_map.proofs.Laws as variables
 use Rattle.marked.specs.Marked.{listed}
 use Rattle.encoder.specs.declared.Counters.{Counters}
@@ -44,34 +43,25 @@ use Rattle.binary_encoding.proofs.All.{link_step, link_if, all_linked}
 
 -- ---- the clauses of a variable, by its origin
 
-no_name : (number bit : ℕ) (b₀ b₁ b₂ b₄ b₅ : Bool)
-    → name_if_one (cond b₀ (chosen root) (cond b₁ (chosen (part number)) (cond b₂ (forbid number bit) (cond b₄ (violation number) (cond b₅ (gate (range number)) (gate (union number))))))) ≡ []
+other_none : (o : variable_map.Origin) → ((name : ℕ) → o ≡ One name → ⊥) → name_if_one (origin_of o) ≡ []
 unfolding name_if_one
-no_name number bit true b₁ b₂ b₄ b₅ = refl
-no_name number bit false true b₂ b₄ b₅ = refl
-no_name number bit false false true b₄ b₅ = refl
-no_name number bit false false false true b₅ = refl
-no_name number bit false false false false true = refl
-no_name number bit false false false false false = refl
-
-other_none : (kind number bit : ℕ) → (kind ≡ 3 → ⊥) → name_if_one (origin_by kind number bit) ≡ []
-unfolding origin_by
-other_none kind number bit q = rw (ne_eqb kind 3 q) (no_name number bit (eqb kind 0) (eqb kind 1) (eqb kind 2) (eqb kind 4) (eqb kind 5))
-
-is_one : (o : variable_map.Origin) → o.kind ≡ 3 → name_if_one (origin_of o) ≡ o.number ∷ []
-unfolding origin_of origin_by name_if_one
-is_one o e = rw e
+other_none Root q = refl
+other_none (Part p) q = refl
+other_none (Forbid name bit) q = refl
+other_none (One name) q = absurd (q name refl)
+other_none (Violation range) q = refl
+other_none (Gate goal) q = refl
 
 module _ (k : Counts) (t : List ℕ) (l : Limits) (r : code.Run) (n : Counters) (st : ℕ → List ℕ) (cl : List ℕ) (y : ℕ) (o : variable_map.Origin)
     (e : origin_of o ≡ get_or (variables n.variables st) y (chosen root)) where
-  pub link_one : {n' : Counters} {st' : ℕ → List ℕ} {cl' : List ℕ} → o.kind ≡ 3 → AddsAll l r (any_clauses y (variables_of k t n st o.number)) n st cl n' st' cl'
+  pub link_one : {n' : Counters} {st' : ℕ → List ℕ} {cl' : List ℕ} {name : ℕ} → o ≡ One name → AddsAll l r (any_clauses y (variables_of k t n st name)) n st cl n' st' cl'
       → AddsAll l r (link_clauses k t (variables n.variables st) y (listed n.tracked 10 st)) n st cl n' st' cl'
-  unfolding link_clauses variables_of concat_map
-  link_one q a = adds_as a (rw (← e, is_one o q) (sym (append-nil _)))
+  unfolding link_clauses variables_of concat_map name_if_one any_clauses
+  link_one q a = adds_as a (rw (← e, q) (sym (append-nil _)))
 
-  pub link_none : (o.kind ≡ 3 → ⊥) → AddsAll l r (link_clauses k t (variables n.variables st) y (listed n.tracked 10 st)) n st cl n st cl
-  unfolding link_clauses concat_map origin_of
-  link_none q = adds_as adds_none (rw (← e, other_none o.kind o.number o.bit q))
+  pub link_none : ((name : ℕ) → o ≡ One name → ⊥) → AddsAll l r (link_clauses k t (variables n.variables st) y (listed n.tracked 10 st)) n st cl n st cl
+  unfolding link_clauses concat_map
+  link_none q = adds_as adds_none (rw (← e, other_none o q))
 
 -- ---- the rules' step, by its clauses
 

@@ -140,26 +140,27 @@ parting_start k t l r name n b cl f h g c =
 
 module _ {k : Counts} {t : List ℕ} {l : Limits} {r : code.Run} {name : ℕ} {n₀ : Counters} {b₀ cl₀ b cl : List ℕ} {n : Counters} {i : ℕ}
     (x : Parting k t l r name n₀ b₀ cl₀ b cl n i) where
-  pub parting_low : (p : ℕ) → i < n.named → p ≡ get_or (listed n.named 8 (held l b)) i 0 → p < 1024
-  parting_low p h e = omega (arith, at_low (of_named x.ready.good) i p h e, length_fixed l b 9 (omega arith) x.ready.areas.fits)
+  pub parting_low : (p : ℕ) → i < n₀.named → p ≡ get_or (listed n₀.named 8 (held l b)) i 0 → p < 1024
+  parting_low p h e = omega (arith, at_low (of_named x.ready.good) i p (rw x.count h) (rw x.count e), length_fixed l b 9 (omega arith) x.ready.areas.fits)
 
   name_makes : {n' : Counters} {st' : ℕ → List ℕ} {cl' : List ℕ}
       → ((m u : List ℕ) → Makes (catalogue k m u t) l (fold (λ p. join_if (run_of r) name p (catalogue k m u t)) (listed n₀.named 8 (held l b₀))) n₀ (held l b₀) cl₀ n' st' cl')
       → MakesOf k t l (join_name (run_of r) name) n₀ (held l b₀) cl₀ n' st' cl'
   name_makes y = record { is = λ m u. makes_as (y m u) (join_name_widens (run_of r) name (catalogue k m u t)) (λ g e v wt. unfold join_name state_of opening_of in refl) }
 
-  pub parting_end : n.named ≤ i → MakesOf k t l (join_name (run_of r) name) n₀ (held l b₀) cl₀ n (held l b) cl
+  pub parting_end : n₀.named ≤ i → MakesOf k t l (join_name (run_of r) name) n₀ (held l b₀) cl₀ n (held l b) cl
   parting_end h =
-      let none : drop i (listed n.named 8 (held l b)) ≡ [] = drop_of_length-le (listed n.named 8 (held l b)) {i = i} (omega (arith, length_listed (of_named x.ready.good))) in
+      let none : drop i (listed n.named 8 (held l b)) ≡ [] = drop_of_length-le (listed n.named 8 (held l b)) {i = i} (omega (arith, x.count, length_listed (of_named x.ready.good))) in
       name_makes (λ m u. folded_end (rw none at (x.did m u)))
 
-  module _ {n' : Counters} (b' : List ℕ) {cl' : List ℕ} {p : ℕ} (h : i < n.named) (e : p ≡ get_or (listed n.named 8 (held l b)) i 0)
+  module _ {n' : Counters} (b' : List ℕ) {cl' : List ℕ} {p : ℕ} (h : i < n₀.named) (e : p ≡ get_or (listed n₀.named 8 (held l b)) i 0)
       (d : MakesOf k t l (join_if (run_of r) name p) n (held l b) cl n' (held l b') cl') where
     stepped : (m u : List ℕ) → Folded (catalogue k m u t) l (λ q. join_if (run_of r) name q (catalogue k m u t)) (listed n₀.named 8 (held l b₀)) (drop (i + 1) (listed n.named 8 (held l b)))
         n₀ (held l b₀) cl₀ n' (held l b') cl'
     stepped m u =
         let ps = listed n.named 8 (held l b) in
-        let left : drop i ps ≡ p ∷ drop (i + 1) ps = drop-cons ps i 0 (omega (arith, length_listed (of_named x.ready.good))) ∙ rw (add-one i, ← e) in
+        let here : p ≡ get_or ps i 0 = rw x.count e in
+        let left : drop i ps ≡ p ∷ drop (i + 1) ps = drop-cons ps i 0 (omega (arith, x.count, length_listed (of_named x.ready.good))) ∙ rw (add-one i, ← here) in
         folded_step (rw left at (x.did m u)) (d.is m u)
 
     pub parting_stop : is_full n' ≡ true → MakesOf k t l (join_name (run_of r) name) n₀ (held l b₀) cl₀ n' (held l b') cl'

@@ -1,7 +1,7 @@
 -- A part is tracked; the parts named for tracking are forgotten; their names become the list at hand.
 use mathlib.Core.Path.{◌≡◌, refl, sym, ◌∙◌, ap}
 use mathlib.Core.Logic.{⊎_elim}
-use mathlib.Core.Bool.{true, false}
+use mathlib.Core.Bool.{Bool, true, false}
 use mathlib.Core.List.{List, [], ◌∷◌, ◌++◌, map}
 use Prim.Native.Nat.{ℕ, ◌+◌, ◌<◌, ◌≤◌}
 use native.Mathlib.Numerals.{add-one}
@@ -173,7 +173,7 @@ module _ (l : Limits) (n : Counters) {st st' : ℕ → List ℕ} (x : Emptied 8 
 -- ---- the flagged names of the named parts
 
 -- the loop at part i: what is left of the list's making is the whole of it
-pub record Gathering (k : Counts) (t flags : List ℕ) (l : Limits) (n : Counters) (b₀ b : List ℕ) (m i : ℕ) : Type 0 where
+pub record Gathering (k : Counts) (t : List ℕ) (flags : List Bool) (l : Limits) (n : Counters) (b₀ b : List ℕ) (m i : ℕ) : Type 0 where
   pub fits : Fits l (length b)
   pub same : length b ≡ length b₀
   pub marked : Marked 14 15 m (held l b)
@@ -182,12 +182,12 @@ pub record Gathering (k : Counts) (t flags : List ℕ) (l : Limits) (n : Counter
   pub is : fold noted (filter (flagged flags) (map (part_name k t) (drop i (listed n.named 8 (held l b))))) (listed m 14 (held l b))
       ≡ flagged_names k t flags (listed n.named 8 (held l b₀))
 
-pub gather_start : (k : Counts) (t flags : List ℕ) (l : Limits) (n : Counters) (b : List ℕ) → Fits l (length b) → Marked 8 9 n.named (held l b) → Marked 14 15 0 (held l b)
+pub gather_start : (k : Counts) (t : List ℕ) (flags : List Bool) (l : Limits) (n : Counters) (b : List ℕ) → Fits l (length b) → Marked 8 9 n.named (held l b) → Marked 14 15 0 (held l b)
     → Gathering k t flags l n b b 0 0
 unfolding flagged_names distinct noted listed
 gather_start k t flags l n b f w d = record { fits = f; same = refl; marked = d; named = w; others = changed_none (14 ∷ 15 ∷ []) (held l b); is = refl }
 
-module _ {k : Counts} {t flags : List ℕ} {l : Limits} {n : Counters} {b₀ b : List ℕ} {m i : ℕ} (x : Gathering k t flags l n b₀ b m i) where
+module _ {k : Counts} {t : List ℕ} {flags : List Bool} {l : Limits} {n : Counters} {b₀ b : List ℕ} {m i : ℕ} (x : Gathering k t flags l n b₀ b m i) where
   module _ {p a : ℕ} (h : i < n.named) (e : p ≡ get_or (listed n.named 8 (held l b)) i 0) (d : a ≡ (get_or (tables k t).parts p no_part).name) where
     left : map (part_name k t) (drop i (listed n.named 8 (held l b))) ≡ a ∷ map (part_name k t) (drop (i + 1) (listed n.named 8 (held l b)))
     left =

@@ -7,9 +7,10 @@ use mathlib.Core.List.{List, [], ◌∷◌}
 use Prim.Native.Nat.{ℕ, zero, suc, ◌+◌, ◌<◌, ◌≤◌}
 use native.Mathlib.Omega.{arith}
 use lib.Dec.{eqb}
-use lib.ListN.{length, get_or}
+use lib.ListN.{length, get_or, take, length-take}
 use lib.Seq.{get_or-take}
 use borrow.Author.Tests.{eqb-true, eqb-false, not-false}
+use Rattle.std.proofs.lemmas.List.{get_or_default}
 use Rattle.rules.specs.Lists.{any}
 use Rattle.rules.specs.Called.{◌∈◌}
 use Rattle.rules.specs.Catalogue.{Catalogue, Condition, and, or, leaf, joined, no_condition}
@@ -18,17 +19,19 @@ use Rattle.rules.proofs.Bools.{by_cases}
 use Rattle.rules.proofs.Member.{any_in, at_member}
 use Rattle.rules.proofs.WellFormed.{WellFormed, ConditionFits}
 use Rattle.tables.specs.declared.Counts.{Counts}
+use Rattle.tables.specs.declared.Tables as read
 use Rattle.tables.specs.Tables.{tables}
 use Rattle.conditions.specs.declared.Disjunct as code
-use Rattle.conditions.specs.Sizes.{Counted, ranges_of, Carries}
+use Rattle.conditions.specs.Sizes.{Counted}
+use Rattle.conditions.specs.Disjuncts.{ranges_of, Carries}
 use Rattle.cache.specs.Areas.{catalogue}
 use Rattle.cache.proofs.Laws.{ranges_held, conditions_held, conditions_same}
-use Rattle.state.specs.declared.Limits.{Limits}
+use Rattle.index.specs.Catalogued.{Catalogued}
 use Rattle.blocking.specs.declared.Listing.{Listing}
 use Rattle.blocking.specs.declared.Verdict.{Verdict}
 use Rattle.blocking.specs.declared.Known.{Known}
 use Rattle.blocking.specs.declared.Blocking.{Blocking}
-use Rattle.blocking.specs.Blocking.{range_blocked, Sees, Right, Grows, RangeJudged, disjunct_in, AllStand, Row, RowBarred, DisjunctBars, EachBars}
+use Rattle.blocking.specs.Blocking.{range_blocked, Right, Grows, RangeJudged, disjunct_in, AllStand, Row, no_disjunct, RowBarred, RowBars, DisjunctBars, EachBars}
 use Rattle.blocking.proofs.Barring.{halves}
 use Rattle.blocking.proofs.Verdicts.{grows_same, grows_then}
 
@@ -64,15 +67,19 @@ module _ (c : Catalogue) (w : WellFormed c) where
 
 -- ---- a disjunct of the listing
 
+-- one that has a place
+stands : (listing : Listing) (i : ℕ) (o : code.Disjunct) → i < length listing.disjuncts → get_or listing.disjuncts i o ≡ disjunct_in listing i
+stands listing i o h = get_or_default listing.disjuncts i o no_disjunct h
+
 -- its range at place j
 carried : {d : code.Disjunct} {xs : List ℕ} → Carries d xs → (j : ℕ) → j < d.len → get_or d.ranges j 0 ≡ get_or xs j 0
 unfolding ranges_of
 carried {d} c j h = sym (get_or-take d.len d.ranges j 0 h) ∙ ap (λ (u : List ℕ). get_or u j 0) c.is
 
-module _ (k : Counts) (m u t : List ℕ) {l : Limits} {nv nd : ℕ} {s : List ℕ} (y : Sees k m u t l nv nd s) where
+module _ (k : Counts) (m u t : List ℕ) (y : Catalogued k m u t) where
   module _ {listing : Listing} {x a i : ℕ} (g : x < k.conditions) (z : AllStand (tables k t).conditions listing x) (c : Counted (tables k t).conditions x a) (h : i < a) where
-    pub row_of : Row k.ranges (disjunct_in listing i)
-    row_of = record { short = (z.each i inside).is.room; given = given }
+    pub row_of : (o : code.Disjunct) → i < length listing.disjuncts → Row k.ranges (get_or listing.disjuncts i o)
+    row_of o n = rw (stands listing i o n) (record { short = (z.each i inside).is.room; given = given })
       where
         inside : i < length (disjuncts (tables k t).conditions x)
         inside = omega (arith, c.is)
@@ -84,9 +91,23 @@ module _ (k : Counts) (m u t : List ℕ) {l : Limits} {nv nd : ℕ} {s : List �
         given j b =
             let p = (z.each i inside).is in
             let d : Disjunct = get_or (disjuncts (tables k t).conditions x) i [] in
-            let q = ranges_given (catalogue k m u t) y.catalogued.formed x (rw (conditions_held k m u t) g) d
+            let q = ranges_given (catalogue k m u t) y.formed x (rw (conditions_held k m u t) g) d
             (rw same (at_member (disjuncts (tables k t).conditions x) i [] inside)) (get_or d j 0) (at_member d j 0 (omega (arith, p.len))) in
             omega (arith, carried p j b, ranges_held k m u t, q)
+
+-- place j of its ranges
+pub range_in : (d : code.Disjunct) {rs : List ℕ} {j : ℕ} → rs ≡ ranges_of d → j < length rs → (j < d.len) × (get_or rs j 0 ≡ get_or d.ranges j 0)
+unfolding ranges_of
+range_in d {rs} {j} e h =
+    let g : j < length (take d.len d.ranges) = rw e at h in
+    let inside : j < d.len = omega (arith, length-take d.len d.ranges) in
+    (inside, rw e (get_or-take d.len d.ranges j 0 inside))
+
+pub range_low : {most : ℕ} {d : code.Disjunct} {rs : List ℕ} {j : ℕ} → Row most d → rs ≡ ranges_of d → j < length rs → get_or rs j 0 < most
+range_low {d = d} y e h = let p = range_in d e h in rw p.1 (y.given _ p.0)
+
+pub row_barred : {d : code.Disjunct} {s : Blocking} {rs : List ℕ} {j : ℕ} → rs ≡ ranges_of d → j < length rs → range_blocked s (get_or rs j 0) ≡ true → RowBars d s true
+row_barred {d} {j = j} e h i = let p = range_in d e h in record { is = λ _. record { place = j; inside = p.0; is = rw p.1 at i } }
 
 row_more : {d : code.Disjunct} {s s' : Blocking} → ((r : ℕ) → range_blocked s r ≡ true → range_blocked s' r ≡ true) → RowBarred d s → RowBarred d s'
 row_more {d} f b = record { place = b.place; inside = b.inside; is = f (get_or d.ranges b.place 0) b.is }
@@ -99,9 +120,11 @@ module _ {c : Catalogue} {f : ℕ → Bool} {vs : Known} {s : Blocking} where
 
   module _ {d : code.Disjunct} where
     module _ {vs₁ : Known} {s₁ : Blocking} (y : Grows c f vs s vs₁ s₁) where
-      pub disjunct_here : {r : ℕ} {v : Verdict} {vs₂ : Known} {s₂ : Blocking} → RangeJudged c f r v vs₁ s₁ vs₂ s₂ → (j : ℕ) → j < d.len → r ≡ get_or d.ranges j 0 → v ≡ Verdict.Barred
-          → DisjunctBars c f d true vs s vs₂ s₂
-      disjunct_here b j h q e = record { grows = some_step y b; is = λ _ z. record { place = j; inside = h; is = rw q at ((b.says (y.keeps z)).barred e) } }
+      pub disjunct_here : {rs : List ℕ} {j : ℕ} {v : Verdict} {vs₂ : Known} {s₂ : Blocking} → rs ≡ ranges_of d → j < length rs → RangeJudged c f (get_or rs j 0) v vs₁ s₁ vs₂ s₂
+          → v ≡ Verdict.Barred → DisjunctBars c f d true vs s vs₂ s₂
+      disjunct_here {j = j} q h b e =
+          let p = range_in d q h in
+          record { grows = some_step y b; is = λ _ z. record { place = j; inside = p.0; is = rw p.1 at ((b.says (y.keeps z)).barred e) } }
 
 -- ---- condition x
 
@@ -120,7 +143,10 @@ each_in P o (y ∷ xs) h x (Memᴰ.head q) = rw q (h 0 (omega arith))
 each_in P o (y ∷ xs) h x (Memᴰ.tail m) = each_in P o xs (λ i l. h (suc i) (omega arith)) x m
 
 module _ {c : Catalogue} {f : ℕ → Bool} {listing : Listing} {i : ℕ} {vs vs₁ : Known} {s s₁ : Blocking} (y : Each c f listing i vs s vs₁ s₁) where
-  module _ {a : Bool} {vs₂ : Known} {s₂ : Blocking} (d : DisjunctBars c f (disjunct_in listing i) a vs₁ s₁ vs₂ s₂) where
+  module _ {a : Bool} {vs₂ : Known} {s₂ : Blocking} (o : code.Disjunct) (n : i < length listing.disjuncts) (b : DisjunctBars c f (get_or listing.disjuncts i o) a vs₁ s₁ vs₂ s₂) where
+    d : DisjunctBars c f (disjunct_in listing i) a vs₁ s₁ vs₂ s₂
+    d = rw (stands listing i o n) at b
+
     pub each_step : not a ≡ false → Each c f listing (i + 1) vs s vs₂ s₂
     each_step e =
         record {
@@ -143,3 +169,7 @@ module _ (k : Counts) (m u t : List ℕ) {f : ℕ → Bool} {listing : Listing} 
           let q = y.passed h j (omega (arith, a.is)) in
           let d : Disjunct = get_or (disjuncts (tables k t).conditions x) j [] in
           any_in (range_blocked s₁) d (get_or d q.place 0) (at_member d q.place 0 (omega (arith, p.len, q.inside))) (rw (carried p q.place q.inside) at q.is)
+
+-- by the catalogue's conditions
+pub counted_in : {p t : read.Tables} {x n : ℕ} → p ≡ t → Counted (tables p.counts p.area.now).conditions x n → Counted (tables t.counts t.area.now).conditions x n
+counted_in e c = rw e at c

@@ -13,7 +13,8 @@ use Rattle.rules.specs.Catalogue.{Condition}
 use Rattle.rules.specs.Conditions.{disjuncts}
 use Rattle.rules.proofs.Bools.{by_cases}
 use Rattle.conditions.specs.declared.Disjunct as code
-use Rattle.conditions.specs.Sizes.{Counted, Carries}
+use Rattle.conditions.specs.Sizes.{Counted}
+use Rattle.conditions.specs.Disjuncts.{Carries}
 use Rattle.judging.proofs.Judging.{repeated}
 use Rattle.blocking.specs.declared.Shared.{Shared}
 use Rattle.blocking.specs.declared.Streak.{Streak}
@@ -22,7 +23,7 @@ use Rattle.blocking.specs.Blocking.{no_disjunct, Stands, AllStand, Shares, share
 
 -- ---- nothing is listed at the start
 
-pub nothing_listed : NothingListed (record { listed = None; disjuncts = replicate 64 (record { ranges = replicate 16 0; len = 0 }); judged = None; shared = replicate 256 (record { first = None; second = None }) })
+pub nothing_listed : {ds : List code.Disjunct} → NothingListed (record { listed = None; disjuncts = ds; judged = None; shared = replicate 256 (record { first = None; second = None }) })
 nothing_listed = record { listed = refl; first = λ x. rw (repeated 256 x nothing) refl; second = λ x. rw (repeated 256 x nothing) refl }
   where
     nothing : Shared

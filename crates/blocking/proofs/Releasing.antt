@@ -88,23 +88,23 @@ module _ {m : List ℕ} {p j r : ℕ} {s s' : Blocking} (h : Class m p j r s s')
             (λ q. fewer_not d.fewer i (h.free i (omega (arith, eqb-false i r q, h.of)) o e));
       }
 
-  pub class_end : {k : Counts} → k.ranges ≤ r → ReleasesClass k m p j s s'
+  pub class_end : {ranges : ℕ} → ranges ≤ r → ReleasesClass ranges m p j s s'
   class_end e = record { fewer = h.fewer; free = λ i l. h.free i (omega arith) }
 
 -- ---- the classes that p is watched for
 
 -- the loop where `rest` is left of v
-pub record Classes (k : Counts) (m : List ℕ) (p v rest : ℕ) (s s' : Blocking) : Type 0 where
+pub record Classes (ranges : ℕ) (m : List ℕ) (p v rest : ℕ) (s s' : Blocking) : Type 0 where
   pub low : rest ≤ v
   pub fewer : Fewer s s'
-  pub free : (r : ℕ) → r < k.ranges → bit (r % 16) v ≡ true → bit (r % 16) rest ≡ false → is_marked m r p ≡ true → range_blocked s' r ≡ false
+  pub free : (r : ℕ) → r < ranges → bit (r % 16) v ≡ true → bit (r % 16) rest ≡ false → is_marked m r p ≡ true → range_blocked s' r ≡ false
 
-pub classes_start : {k : Counts} {m : List ℕ} {p v : ℕ} {s : Blocking} → Classes k m p v v s s
+pub classes_start : {ranges : ℕ} {m : List ℕ} {p v : ℕ} {s : Blocking} → Classes ranges m p v v s s
 classes_start = record { low = omega arith; fewer = fewer_same; free = λ r l e d. absurd (true≢false (sym e ∙ d)) }
 
-module _ {k : Counts} {m : List ℕ} {p v rest : ℕ} {s s' : Blocking} (h : Classes k m p v rest s s') where
-  pub classes_step : {s'' : Blocking} → v < 65536 → (rest ≡ 0 → ⊥) → ReleasesClass k m p (count_trailing_zeros 16 rest) s' s''
-      → Classes k m p v (bit_and rest (rest - 1)) s s''
+module _ {ranges : ℕ} {m : List ℕ} {p v rest : ℕ} {s s' : Blocking} (h : Classes ranges m p v rest s s') where
+  pub classes_step : {s'' : Blocking} → v < 65536 → (rest ≡ 0 → ⊥) → ReleasesClass ranges m p (count_trailing_zeros 16 rest) s' s''
+      → Classes ranges m p v (bit_and rest (rest - 1)) s s''
   classes_step w n d =
       record {
         low = omega (arith, h.low, and_le_l rest (rest - 1));
@@ -116,22 +116,22 @@ module _ {k : Counts} {m : List ℕ} {p v rest : ℕ} {s s' : Blocking} (h : Cla
       left : (r : ℕ) → bit (r % 16) (bit_and rest (rest - 1)) ≡ false → (r % 16 ≡ count_trailing_zeros 16 rest → ⊥) → bit (r % 16) rest ≡ false
       left r o q = sym (lowest_gone 16 rest (r % 16) (omega (arith, h.low)) n q) ∙ o
 
-  pub classes_end : rest ≡ 0 → ReleasesWatched k m p v s s'
+  pub classes_end : rest ≡ 0 → ReleasesWatched ranges m p v s s'
   classes_end z = record { fewer = h.fewer; free = λ r l e. h.free r l e (rw z (bit_none (r % 16))) }
 
 -- ---- all of it
 
 -- p is not watched
-pub released_none : {k : Counts} {m : List ℕ} {p : ℕ} {s : Blocking} → get_or s.watched p 0 ≡ 0 → Releases k m p s s
+pub released_none : {ranges : ℕ} {m : List ℕ} {p : ℕ} {s : Blocking} → get_or s.watched p 0 ≡ 0 → Releases ranges m p s s
 released_none {p = p} {s = s} e =
-    record { is = λ u t f h. blocked_still h (λ q i z. f q (λ j. true≢false (sym (rw j at i) ∙ held_none s.watched p e)) ∙ z) }
+    record { is = λ k u t z f h. blocked_still h (λ q i z. f q (λ j. true≢false (sym (rw j at i) ∙ held_none s.watched p e)) ∙ z) }
 
 -- past the parts none is
-pub released_past : {k : Counts} {m : List ℕ} {p : ℕ} {s : Blocking} → length s.watched ≡ 1024 → 1024 ≤ p → Releases k m p s s
+pub released_past : {ranges : ℕ} {m : List ℕ} {p : ℕ} {s : Blocking} → length s.watched ≡ 1024 → 1024 ≤ p → Releases ranges m p s s
 released_past {s = s} l h = released_none (get_or-eq_default s.watched 0 (omega arith))
 
-module _ {k : Counts} {m : List ℕ} {p : ℕ} {s s₁ : Blocking} (b : ReleasesWatched k m p (get_or s.watched p 0) (record s { conditions = replicate 256 false }) s₁) where
-  pub released : p < length s.watched → Releases k m p s (record s₁ { watched = set s₁.watched p 0 })
+module _ {ranges : ℕ} {m : List ℕ} {p : ℕ} {s s₁ : Blocking} (b : ReleasesWatched ranges m p (get_or s.watched p 0) (record s { conditions = replicate 256 false }) s₁) where
+  pub released : p < length s.watched → Releases ranges m p s (record s₁ { watched = set s₁.watched p 0 })
   released inside = record { is = is }
     where
       new : Blocking
@@ -140,9 +140,9 @@ module _ {k : Counts} {m : List ℕ} {p : ℕ} {s s₁ : Blocking} (b : Releases
       same : s₁.watched ≡ s.watched
       same = b.fewer.watched
 
-      is : (u t : List ℕ) {true? now? : ℕ → Bool} → ((q : ℕ) → (q ≡ p → ⊥) → now? q ≡ true? q)
+      is : (k : Counts) (u t : List ℕ) → k.ranges ≡ ranges → {true? now? : ℕ → Bool} → ((q : ℕ) → (q ≡ p → ⊥) → now? q ≡ true? q)
           → Blocked (catalogue k m u t) true? s → Blocked (catalogue k m u t) now? new
-      is u t {true?} {now?} f h =
+      is k u t n {true?} {now?} f h =
           record {
             given = λ x e. absurd (none x e);
             barred = λ x e. absurd (none x e);
@@ -168,7 +168,7 @@ module _ {k : Counts} {m : List ℕ} {p : ℕ} {s s₁ : Blocking} (b : Releases
               let j : p ∈ matching (catalogue k m u t) r = rw z at i in
               let o = all_out (watched_for s.watched r) (matching (catalogue k m u t) r) (unfold all_watched in w) p j in
               let yes : range_blocked s₁ r ≡ true = unfold range_blocked in e in
-              true≢false (sym yes ∙ b.free r l (unfold watched_for in o) (match_marked k m u t r p l j))
+              true≢false (sym yes ∙ b.free r (omega arith) (unfold watched_for in o) (match_marked k m u t r p l j))
 
           watched_still : (r : ℕ) → r < k.ranges → range_blocked new r ≡ true → all_watched (catalogue k m u t) s.watched r ≡ true
               → all_watched (catalogue k m u t) (set s₁.watched p 0) r ≡ true

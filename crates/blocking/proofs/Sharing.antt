@@ -1,5 +1,5 @@
 -- Ranges that each disjunct of a condition has: it has its halves' if it is an `and`. Where one of them is blocked no disjunct holds.
-use mathlib.Core.Path.{◌≡◌, refl, sym, ◌∙◌}
+use mathlib.Core.Path.{◌≡◌, refl, sym}
 use mathlib.Core.Bool.{Bool, true, false, false≢true}
 use mathlib.Core.List.{List}
 use Prim.Native.Nat.{ℕ, ◌<◌, ◌≤◌}
@@ -9,17 +9,16 @@ use lib.ListN.{get_or, set}
 use borrow.Author.Tests.{eq-eqb}
 use Rattle.std.specs.Prelude.{Option, Some, None}
 use Rattle.rules.specs.Called.{◌∈◌}
+use Rattle.rules.specs.Catalogue as rules
 use Rattle.rules.specs.Catalogue.{Catalogue, Condition, and, joined, no_condition}
 use Rattle.rules.specs.Conditions.{Disjunct, combined, disjuncts}
 use Rattle.rules.specs.Opening.{holds_now}
 use Rattle.rules.proofs.Bools.{by_cases}
 use Rattle.rules.proofs.DisjunctLaws.{disjuncts_leaf, disjuncts_joined}
 use Rattle.tables.specs.declared.Counts.{Counts}
-use Rattle.tables.specs.declared.Condition as table
-use Rattle.tables.specs.Tables.{tables, condition_is}
+use Rattle.tables.specs.Tables.{tables}
 use Rattle.tables.proofs.Laws.{conditions_counted}
 use Rattle.conditions.specs.Sizes.{Sized}
-use Rattle.conditions.proofs.Sizing.{row_leaf, row_joined, and_when}
 use Rattle.cache.specs.Areas.{catalogue}
 use Rattle.cache.proofs.Laws.{conditions_same}
 use Rattle.blocking.specs.declared.Listing.{Listing}
@@ -31,45 +30,42 @@ use Rattle.blocking.proofs.Lists.{shares_none, listed_put}
 
 -- ---- what the disjuncts of condition x share
 
-module _ (k : Counts) (t : List ℕ) (z : Sized (tables k t)) {x : ℕ} (g : x < k.conditions) (it : table.Condition) (e : condition_is it ≡ get_or (tables k t).conditions x no_condition) where
+module _ (k : Counts) (t : List ℕ) where
   abbrev cs : List Condition
   cs = (tables k t).conditions
 
-  pub noted_leaf : {l : Listing} → Listed cs l → it.operator ≡ 2 → it.left < 512 → Listed cs (record l { shared = set l.shared x (record { first = Some it.left; second = None }) })
-  noted_leaf y o low = listed_put x (record { first = Some it.left; second = None }) (record { named = record { low = λ r q. let n : r ≡ it.left = cc in rw n low }; is = is }) (shares_none refl) y
+  pub noted_leaf : (x : ℕ) {r : ℕ} {l : Listing} → rules.leaf r ≡ get_or cs x no_condition → Listed cs l → r < 512 → Listed cs (record l { shared = set l.shared x (record { first = Some r; second = None }) })
+  noted_leaf x {r} e y low = listed_put x (record { first = Some r; second = None }) (record { named = record { low = λ i q. let n : i ≡ r = cc in rw n low }; is = is }) (shares_none refl) y
     where
-      is : (r : ℕ) → Some it.left ≡ Some r → Barred cs (eqb r) x
-      is r q =
-          let n : r ≡ it.left = cc in
-          rw n (barred_leaf x it.left (disjuncts_leaf cs x it.left (sym e ∙ row_leaf it o)) (eq-eqb it.left it.left refl))
+      is : (i : ℕ) → Some r ≡ Some i → Barred cs (eqb i) x
+      is i q =
+          let n : i ≡ r = cc in
+          rw n (barred_leaf x r (disjuncts_leaf cs x r (sym e)) (eq-eqb r r refl))
 
-  module _ (o : it.operator ≡ 0) where
-    row : get_or cs x no_condition ≡ joined and it.left it.right
-    row = sym e ∙ row_joined it (λ q. omega (arith, q)) ∙ rw (and_when it.operator o)
-
-    halves : (it.left < x) × (it.right < x)
-    halves = let p = z.earlier x (rw (conditions_counted k t) g) in rw row at p
+  module _ {x left right : ℕ} (z : Sized (tables k t)) (g : x < k.conditions) (e : joined and left right ≡ get_or cs x no_condition) where
+    halves : (left < x) × (right < x)
+    halves = let p = z.earlier x (rw (conditions_counted k t) g) in rw (sym e) at p
 
     -- the halves have places
     module _ (laid : k.conditions ≤ 256) where
-      pub left_low : it.left < 256
+      pub left_low : left < 256
       left_low = omega (arith, halves.0)
 
-      pub right_low : it.right < 256
+      pub right_low : right < 256
       right_low = omega (arith, halves.1)
 
-    all_of : disjuncts cs x ≡ combined and (disjuncts cs it.left) (disjuncts cs it.right)
-    all_of = disjuncts_joined cs x and it.left it.right row halves.0 halves.1
+    all_of : disjuncts cs x ≡ combined and (disjuncts cs left) (disjuncts cs right)
+    all_of = disjuncts_joined cs x and left right (sym e) halves.0 halves.1
 
-    shares_left : {v : Option ℕ} → Shares cs it.left v → Shares cs x v
-    shares_left h = record { named = h.named; is = λ r q. barred_left x it.left it.right all_of (h.is r q) }
+    shares_left : {v : Option ℕ} → Shares cs left v → Shares cs x v
+    shares_left h = record { named = h.named; is = λ r q. barred_left x left right all_of (h.is r q) }
 
-    shares_right : {v : Option ℕ} → Shares cs it.right v → Shares cs x v
-    shares_right h = record { named = h.named; is = λ r q. barred_right x it.left it.right all_of (h.is r q) }
+    shares_right : {v : Option ℕ} → Shares cs right v → Shares cs x v
+    shares_right h = record { named = h.named; is = λ r q. barred_right x left right all_of (h.is r q) }
 
-    pub noted_and : {l : Listing} → Listed cs l → Listed cs (record l { shared = set l.shared x (record { first = (shared_of l it.left).first; second = (shared_of l it.right).first }) })
+    pub noted_and : {l : Listing} → Listed cs l → Listed cs (record l { shared = set l.shared x (record { first = (shared_of l left).first; second = (shared_of l right).first }) })
     noted_and {l} y =
-        listed_put x (record { first = (shared_of l it.left).first; second = (shared_of l it.right).first }) (shares_left (y.first it.left)) (shares_right (y.first it.right)) y
+        listed_put x (record { first = (shared_of l left).first; second = (shared_of l right).first }) (shares_left (y.first left)) (shares_right (y.first right)) y
 
 -- ---- whether a blocked range is named
 

@@ -1,5 +1,6 @@
 -- Whether a disjunct of a condition holds, and conditions that are blocked: as long as no watched part is decided true, none of their disjuncts holds.
-use Rattle.std.specs.Prelude.{◌≡◌, Bool, true, false, not, ◌||◌, List, [], Option, Some, None, ℕ, ◌%◌, ◌<◌, ◌≤◌, eqb, length, get_or}
+use Prim.Native.Nat.{zero-le}
+use Rattle.std.specs.Prelude.{◌≡◌, Bool, true, false, not, ◌||◌, List, [], Option, Some, None, ℕ, ◌%◌, ◌<◌, ◌≤◌, eqb, length, get_or, set}
 use Rattle.rules.specs.AtMostOne.{bit}
 use Rattle.rules.specs.Lists.{any, all}
 use Rattle.rules.specs.Called.{◌∈◌}
@@ -9,7 +10,7 @@ use Rattle.rules.specs.Conditions.{Disjunct, disjuncts}
 use Rattle.rules.specs.Opening.{holds_now}
 use Rattle.tables.specs.declared.Counts.{Counts}
 use Rattle.conditions.specs.declared.Disjunct as code
-use Rattle.conditions.specs.Sizes.{Carries}
+use Rattle.conditions.specs.Disjuncts.{Carries}
 use Rattle.marks.specs.Marks.{is_marked}
 use Rattle.cache.specs.Areas.{catalogue}
 use Rattle.state.specs.declared.Limits.{Limits}
@@ -17,7 +18,6 @@ use Rattle.state.specs.Layout.{held, Fits}
 use Rattle.variable_map.specs.Mapping.{Mapped}
 use Rattle.decision_tracker.specs.Tracking.{Kept}
 use Rattle.entries.specs.Deferred.{is_held}
-use Rattle.goals.specs.Goals.{Catalogued}
 use Rattle.blocking.specs.declared.Shared.{Shared}
 use Rattle.blocking.specs.declared.Listing.{Listing}
 use Rattle.blocking.specs.declared.Verdict.{Verdict}
@@ -77,9 +77,8 @@ pub record Blocked (c : Catalogue) (true? : ℕ → Bool) (s : Blocking) : Type 
   pub ranges : (r : ℕ) → range_blocked s r ≡ true → (r < length c.ranges) × (all_watched c s.watched r ≡ true)
   pub unmet : Unmet true? s.watched
 
--- the catalogue and the state are held, with n variables and d decisions
-pub record Sees (k : Counts) (m u t : List ℕ) (l : Limits) (n d : ℕ) (s : List ℕ) : Type 0 where
-  pub catalogued : Catalogued k m u t
+-- the state is held, with n variables and d decisions
+pub record Sees (l : Limits) (n d : ℕ) (s : List ℕ) : Type 0 where
   pub fits : Fits l (length s)
   pub mapped : Mapped l n (held l s)
   pub kept : Kept l d (held l s)
@@ -146,24 +145,17 @@ pub record Judged (c : Catalogue) (true? : ℕ → Bool) (x : ℕ) (v : Verdict)
   pub grows : Grows c true? vs s vs' s'
   pub says : Right c true? vs s → Says c true? s' x v
 
--- the left half tells of an `and` unless it holds, of an `or` if it does
-abbrev pub told_by_left : (is_and : Bool) → (first : Verdict) → Bool
-told_by_left true Verdict.Holds = false
-told_by_left true Verdict.Unasked = true
-told_by_left true Verdict.Barred = true
-told_by_left true Verdict.Fails = true
-told_by_left false Verdict.Holds = true
-told_by_left false Verdict.Unasked = false
-told_by_left false Verdict.Barred = false
-told_by_left false Verdict.Fails = false
+-- the verdict of condition x is kept, which has a place
+pub record KeptVerdict (x : ℕ) (v : Verdict) (vs vs' : Known) : Type 0 where
+  pub inside : x < length vs.conditions
+  pub is : vs' ≡ record vs { conditions = set vs.conditions x v }
 
--- or else the right half tells; but not of an `or` that it is barred: the left half tells that
-abbrev pub of_halves : (is_and : Bool) → (first second : Verdict) → Verdict
-of_halves true first second = second
-of_halves false first Verdict.Barred = first
-of_halves false first Verdict.Unasked = Verdict.Unasked
-of_halves false first Verdict.Holds = Verdict.Holds
-of_halves false first Verdict.Fails = Verdict.Fails
+-- where the left half of an `or` does not hold the right one tells; but not that it is barred: the left half tells that
+abbrev pub of_or : (first second : Verdict) → Verdict
+of_or first Verdict.Barred = first
+of_or first Verdict.Unasked = Verdict.Unasked
+of_or first Verdict.Holds = Verdict.Holds
+of_or first Verdict.Fails = Verdict.Fails
 
 -- ---- part p is decided true
 
@@ -179,24 +171,24 @@ pub record ReleasesRange (m : List ℕ) (p r : ℕ) (s s' : Blocking) : Type 0 w
   pub free : is_marked m r p ≡ true → range_blocked s' r ≡ false
 
 -- no range of class j is that p is a member of
-pub record ReleasesClass (k : Counts) (m : List ℕ) (p j : ℕ) (s s' : Blocking) : Type 0 where
+pub record ReleasesClass (ranges : ℕ) (m : List ℕ) (p j : ℕ) (s s' : Blocking) : Type 0 where
   pub fewer : Fewer s s'
-  pub free : (r : ℕ) → r < k.ranges → r % 16 ≡ j → is_marked m r p ≡ true → range_blocked s' r ≡ false
+  pub free : (r : ℕ) → r < ranges → r % 16 ≡ j → is_marked m r p ≡ true → range_blocked s' r ≡ false
 
 -- nor is one of a class whose bit is set in v
-pub record ReleasesWatched (k : Counts) (m : List ℕ) (p v : ℕ) (s s' : Blocking) : Type 0 where
+pub record ReleasesWatched (ranges : ℕ) (m : List ℕ) (p v : ℕ) (s s' : Blocking) : Type 0 where
   pub fewer : Fewer s s'
-  pub free : (r : ℕ) → r < k.ranges → bit (r % 16) v ≡ true → is_marked m r p ≡ true → range_blocked s' r ≡ false
+  pub free : (r : ℕ) → r < ranges → bit (r % 16) v ≡ true → is_marked m r p ≡ true → range_blocked s' r ≡ false
 
--- where no part but p was made true, what is blocked now is so rightly
-pub record Releases (k : Counts) (m : List ℕ) (p : ℕ) (s s' : Blocking) : Type 0 where
-  pub is : (u t : List ℕ) {true? now? : ℕ → Bool} → ((q : ℕ) → (q ≡ p → ⊥) → now? q ≡ true? q)
+-- where no part but p was made true, and there are so many ranges, what is blocked now is so rightly
+pub record Releases (ranges : ℕ) (m : List ℕ) (p : ℕ) (s s' : Blocking) : Type 0 where
+  pub is : (k : Counts) (u t : List ℕ) → k.ranges ≡ ranges → {true? now? : ℕ → Bool} → ((q : ℕ) → (q ≡ p → ⊥) → now? q ≡ true? q)
       → Blocked (catalogue k m u t) true? s → Blocked (catalogue k m u t) now? s'
 
 -- ---- the disjuncts of one condition, listed
 
 abbrev pub no_disjunct : code.Disjunct
-no_disjunct = record { ranges = []; len = 0 }
+no_disjunct = record { ranges = []; len = 0; bounded = zero-le }
 
 abbrev pub disjunct_in : Listing → ℕ → code.Disjunct
 disjunct_in l i = get_or l.disjuncts i no_disjunct

@@ -1,21 +1,22 @@
 // Whether a disjunct of a condition holds; and conditions that are blocked: as long as no watched part is decided true, none of their disjuncts holds.
 #![tactic(auto)]
 
-ghost use Rattle.std.specs.Prelude.{◌≡◌, ◌%◌, ◌<◌, ◌≤◌, length};
-ghost use Rattle.tables.specs.Tables.{tables, Laid};
-ghost use Rattle.conditions.specs.Sizes.{Sized};
+ghost use Rattle.std.specs.Prelude.{◌≡◌, ◌%◌, ◌<◌, ◌≤◌};
 ghost use Rattle.marks.specs.Marks.{WithBit};
-ghost use Rattle.cache.specs.Areas.{catalogue};
 ghost use Rattle.state.specs.Layout.{held};
 ghost use Rattle.variable_map.specs.Mapping.{variables};
 ghost use Rattle.decision_tracker.specs.Tracking.{decisions};
-ghost use Rattle.goals.specs.Goals.{Catalogued, true_of};
-ghost use Rattle.blocking.specs.Blocking.{PartsWatched, Sees, Blocks, range_blocked, RangeBars, NothingAsked, RangeJudged, told_by_left, of_halves, Judged, ReleasesRange, ReleasesClass, ReleasesWatched, Releases, NothingListed, shared_of, Listed, AllStand, names_blocked, shared_bars, AskedBars, Named, Row, RowBars, DisjunctBars, EachBars, NothingBlocked};
+ghost use Rattle.goals.specs.Goals.{true_of};
+ghost use Rattle.blocking.specs.Blocking.{PartsWatched, Sees, Blocks, range_blocked, RangeBars, NothingAsked, RangeJudged, of_or, KeptVerdict, Judged, ReleasesRange, ReleasesClass, ReleasesWatched, Releases, NothingListed, shared_of, Listed, AllStand, names_blocked, shared_bars, AskedBars, Named, Row, RowBars, DisjunctBars, EachBars, NothingBlocked};
+ghost use Rattle.conditions.specs.Disjuncts.{conditions_of};
+ghost use Rattle.index.specs.Views.{catalogue_of, counts_of, tables_of};
 
 use cache::Choice;
-use conditions::Disjunct;
+use conditions::{Conditions, Disjunct};
+use index::Catalogue;
+use marks::Marks;
 use state::Limits;
-use tables::Counts;
+use tables::Condition;
 
 // ---- watched parts: range r is of class r % 16, and bit j of what stands at a part tells whether it is watched for a range of class j
 
@@ -27,30 +28,21 @@ fn besides(v: u16, r: usize) -> u16
 }
 
 // The matching parts of range r are watched: `most` of them at most. Are all of them?
-fn watch_parts(
-    marks: &[u8],
-    unions: &[u8],
-    t: &[u8],
-    k: Counts,
-    r: usize,
-    watched: &mut [u16; 1024],
-    most: usize,
-) -> bool
-    requires catalogued { Catalogued k marks.now unions.now t.now }
-    requires r_lt_ranges { r < k.ranges }
-    ensures { PartsWatched (catalogue k marks.now unions.now t.now) r result watched.old watched.new }
+fn watch_parts(catalogue: &Catalogue, r: usize, watched: &mut [u16; 1024], most: usize) -> bool
+    requires r_lt_ranges { r < (counts_of catalogue.now).ranges }
+    ensures { PartsWatched (catalogue_of catalogue.now) r result watched.old watched.new }
 {
     let mut left = most;
-    let mut p = index::first_chosen(marks, unions, t, k, r, Choice::Matching);
-    while p < k.parts {
+    let mut p = catalogue.index.first_chosen(r, Choice::Matching);
+    while p < catalogue.index.areas.tables.counts.parts {
         if left == 0 {
             return false;
         }
         left -= 1;
-        if cache::chosen(marks, unions, t, k, r, Choice::Matching, p) {
+        if catalogue.index.areas.chosen(r, Choice::Matching, p) {
             watched[p] = besides(watched[p], r);
         }
-        p = index::next_chosen(marks, unions, t, k, r, Choice::Matching, p);
+        p = catalogue.index.next_chosen(r, Choice::Matching, p);
     }
     true
 }
@@ -88,10 +80,7 @@ impl Listing {
     {
         Listing {
             listed: None,
-            disjuncts: [Disjunct {
-                ranges: [0; 16],
-                len: 0,
-            }; 64],
+            disjuncts: [Disjunct::new(); 64],
             judged: None,
             shared: [Shared {
                 first: None,
@@ -101,78 +90,71 @@ impl Listing {
     }
 
     // Condition c is listed.
-    fn list_condition(&mut self, t: &[u8], k: Counts, c: usize)
-        requires laid { Laid k (length t.now) }
-        requires sized { Sized (tables k t.now) }
-        requires c_lt_conditions { c < k.conditions }
-        requires listed { Listed (tables k t.now).conditions self.old }
-        ensures { Listed (tables k t.now).conditions self.new }
+    fn list_condition(&mut self, conditions: &Conditions, c: usize)
+        requires c_lt_conditions { c < conditions.now.tables.counts.conditions }
+        requires listed { Listed (conditions_of conditions.now) self.old }
+        ensures { Listed (conditions_of conditions.now) self.new }
     {
         self.listed = None;
-        for i in 0..conditions::count(t, k, c) {
-            self.disjuncts[i] = conditions::disjunct_of(t, k, c, i);
+        for i in 0..conditions.count(c) {
+            self.disjuncts[i] = conditions.disjunct_of(c, i);
         }
         self.listed = Some(c as u16);
     }
 
     // What the disjuncts of condition x share: its range, or what those of its halves share if it is an `and`.
-    fn note_shared(&mut self, t: &[u8], k: Counts, x: usize)
-        requires laid { Laid k (length t.now) }
-        requires sized { Sized (tables k t.now) }
-        requires x_lt_conditions { x < k.conditions }
-        requires listed { Listed (tables k t.now).conditions self.old }
-        ensures { Listed (tables k t.now).conditions self.new }
+    fn note_shared(&mut self, conditions: &Conditions, x: usize)
+        requires x_lt_conditions { x < conditions.now.tables.counts.conditions }
+        requires listed { Listed (conditions_of conditions.now) self.old }
+        ensures { Listed (conditions_of conditions.now) self.new }
     {
-        let it = tables::condition_at(t, k, x);
-        if it.operator == 2 {
-            if it.left < 512 {
-                self.shared[x] = Shared {
-                    first: Some(it.left),
-                    second: None,
-                };
+        match conditions.tables.condition_at(x) {
+            Condition::Range(range) => {
+                if range < 512 {
+                    self.shared[x] = Shared {
+                        first: Some(range),
+                        second: None,
+                    };
+                }
             }
-            return;
-        }
-        if it.operator == 0 {
-            let first = self.shared[it.left as usize].first;
-            let second = self.shared[it.right as usize].first;
-            self.shared[x] = Shared { first, second };
+            Condition::And { left, right } => {
+                let first = self.shared[left as usize].first;
+                let second = self.shared[right as usize].first;
+                self.shared[x] = Shared { first, second };
+            }
+            Condition::Or { .. } => {}
         }
     }
 
     // That of all conditions.
-    fn note_all_shared(&mut self, t: &[u8], k: Counts)
-        requires laid { Laid k (length t.now) }
-        requires sized { Sized (tables k t.now) }
-        requires listed { Listed (tables k t.now).conditions self.old }
-        ensures { Listed (tables k t.now).conditions self.new }
+    fn note_all_shared(&mut self, conditions: &Conditions)
+        requires listed { Listed (conditions_of conditions.now) self.old }
+        ensures { Listed (conditions_of conditions.now) self.new }
     {
-        for x in 0..k.conditions {
-            self.note_shared(t, k, x);
+        for x in 0..conditions.tables.counts.conditions {
+            self.note_shared(conditions, x);
         }
     }
 
     // Condition c was judged by its halves. The first time ranges that are shared are looked for. The 32nd time again in a row it is listed: that takes as
     // long as many a draw.
-    fn note_judged(&mut self, t: &[u8], k: Counts, c: usize)
-        requires laid { Laid k (length t.now) }
-        requires sized { Sized (tables k t.now) }
-        requires c_lt_conditions { c < k.conditions }
-        requires listed { Listed (tables k t.now).conditions self.old }
-        ensures { Listed (tables k t.now).conditions self.new }
+    fn note_judged(&mut self, conditions: &Conditions, c: usize)
+        requires c_lt_conditions { c < conditions.now.tables.counts.conditions }
+        requires listed { Listed (conditions_of conditions.now) self.old }
+        ensures { Listed (conditions_of conditions.now) self.new }
     {
         let condition = c as u16;
         let times = match self.judged {
             Some(judged) if judged.condition == condition && judged.times < 31 => judged.times + 1,
             Some(judged) if judged.condition == condition => {
                 if self.listed != Some(condition) {
-                    self.list_condition(t, k, c);
+                    self.list_condition(conditions, c);
                 }
                 0
             }
             Some(_) => 0,
             None => {
-                self.note_all_shared(t, k);
+                self.note_all_shared(conditions);
                 0
             }
         };
@@ -192,6 +174,18 @@ pub enum Verdict {
     Fails,
 }
 
+impl Verdict {
+    // The verdict of an `or` whose left half does not hold: that of the right one. But it is barred only if both are.
+    fn or(self, second: Verdict) -> Verdict
+        ensures { result ≡ of_or self second }
+    {
+        match second {
+            Verdict::Barred => self,
+            Verdict::Unasked | Verdict::Holds | Verdict::Fails => second,
+        }
+    }
+}
+
 // What was asked. Of a range that is barred, what is blocked alone says so.
 #[derive(Drop)]
 struct Known {
@@ -209,23 +203,15 @@ impl Known {
             ranges: [Verdict::Unasked; 512],
         }
     }
-}
 
-// Does the left half of an `and` or an `or` alone tell? An `and` does not hold if its left half does not, and an `or` holds if it does.
-fn told_by_left(is_and: bool, first: Verdict) -> bool
-    ensures { result ≡ told_by_left is_and first }
-{
-    (first == Verdict::Holds) != is_and
-}
-
-// The verdict of a condition whose left half leaves it open: the right one tells. But an `or` is barred only if both are.
-fn of_halves(is_and: bool, first: Verdict, second: Verdict) -> Verdict
-    ensures { result ≡ of_halves is_and first second }
-{
-    if !is_and && second == Verdict::Barred {
-        first
-    } else {
-        second
+    // The verdict of condition x is kept.
+    fn keep(&mut self, x: usize, verdict: Verdict) -> Verdict
+        requires { x < 256 }
+        ensures verdict { result ≡ verdict }
+        ensures kept { KeptVerdict x verdict self.old self.new }
+    {
+        self.conditions[x] = verdict;
+        verdict
     }
 }
 
@@ -271,16 +257,15 @@ impl Blocking {
     }
 
     // Is range r blocked, which does not hold? It is from now on if it has 64 matching parts at most.
-    fn bar_range(&mut self, marks: &[u8], unions: &[u8], t: &[u8], k: Counts, r: usize) -> bool
-        requires catalogued { Catalogued k marks.now unions.now t.now }
-        requires r_lt_ranges { r < k.ranges }
-        ensures { RangeBars (catalogue k marks.now unions.now t.now) r result self.old self.new }
+    fn bar_range(&mut self, catalogue: &Catalogue, r: usize) -> bool
+        requires r_lt_ranges { r < (counts_of catalogue.now).ranges }
+        ensures { RangeBars (catalogue_of catalogue.now) r result self.old self.new }
     {
         match self.ranges[r] {
             Barrier::Blocked => true,
             Barrier::TooWide => false,
             Barrier::Open => {
-                if !watch_parts(marks, unions, t, k, r, &mut self.watched, 64) {
+                if !watch_parts(catalogue, r, &mut self.watched, 64) {
                     self.ranges[r] = Barrier::TooWide;
                     return false;
                 }
@@ -293,10 +278,7 @@ impl Blocking {
     // The verdict of range r. It is asked once, and blocked if it does not hold and that can be watched.
     fn range_verdict(
         &mut self,
-        marks: &[u8],
-        unions: &[u8],
-        t: &[u8],
-        k: Counts,
+        catalogue: &Catalogue,
         s: &[u8],
         l: Limits,
         n: usize,
@@ -304,20 +286,20 @@ impl Blocking {
         known: &mut Known,
         r: usize,
     ) -> Verdict
-        requires sees { Sees k marks.now unions.now t.now l n d s.now }
-        requires r_lt_ranges { r < k.ranges }
-        ensures { RangeJudged (catalogue k marks.now unions.now t.now) (true_of (variables n (held l s.now)) (decisions d (held l s.now))) r result known.old self.old known.new self.new }
+        requires sees { Sees l n d s.now }
+        requires r_lt_ranges { r < (counts_of catalogue.now).ranges }
+        ensures { RangeJudged (catalogue_of catalogue.now) (true_of (variables n (held l s.now)) (decisions d (held l s.now))) r result known.old self.old known.new self.new }
     {
         if self.range_blocked(r) {
             return Verdict::Barred;
         }
         match known.ranges[r] {
             Verdict::Unasked => {
-                if goals::range_holds(marks, unions, t, k, s, l, n, d, r) {
+                if goals::range_holds(catalogue, s, l, n, d, r) {
                     known.ranges[r] = Verdict::Holds;
                     return Verdict::Holds;
                 }
-                if self.bar_range(marks, unions, t, k, r) {
+                if self.bar_range(catalogue, r) {
                     return Verdict::Barred;
                 }
                 known.ranges[r] = Verdict::Fails;
@@ -332,10 +314,7 @@ impl Blocking {
     // The verdict of condition x. Its halves have smaller numbers; the right one is asked only where the left one leaves it open.
     fn condition_verdict(
         &mut self,
-        marks: &[u8],
-        unions: &[u8],
-        t: &[u8],
-        k: Counts,
+        catalogue: &Catalogue,
         s: &[u8],
         l: Limits,
         n: usize,
@@ -343,30 +322,35 @@ impl Blocking {
         known: &mut Known,
         x: usize,
     ) -> Verdict
-        requires sees { Sees k marks.now unions.now t.now l n d s.now }
-        requires x_lt_conditions { x < k.conditions }
-        ensures { Judged (catalogue k marks.now unions.now t.now) (true_of (variables n (held l s.now)) (decisions d (held l s.now))) x result known.old self.old known.new self.new }
+        requires sees { Sees l n d s.now }
+        requires x_lt_conditions { x < (counts_of catalogue.now).conditions }
+        ensures { Judged (catalogue_of catalogue.now) (true_of (variables n (held l s.now)) (decisions d (held l s.now))) x result known.old self.old known.new self.new }
     {
         let verdict = known.conditions[x];
         if verdict != Verdict::Unasked {
             return verdict;
         }
-        let it = tables::condition_at(t, k, x);
-        let left = it.left as usize;
-        if it.operator == 2 {
-            return self.range_verdict(marks, unions, t, k, s, l, n, d, known, left);
+        match catalogue.index.areas.tables.condition_at(x) {
+            Condition::Range(range) => {
+                self.range_verdict(catalogue, s, l, n, d, known, range as usize)
+            }
+            Condition::And { left, right } => {
+                let first = self.condition_verdict(catalogue, s, l, n, d, known, left as usize);
+                if first != Verdict::Holds {
+                    return known.keep(x, first);
+                }
+                let second = self.condition_verdict(catalogue, s, l, n, d, known, right as usize);
+                known.keep(x, second)
+            }
+            Condition::Or { left, right } => {
+                let first = self.condition_verdict(catalogue, s, l, n, d, known, left as usize);
+                if first == Verdict::Holds {
+                    return known.keep(x, first);
+                }
+                let second = self.condition_verdict(catalogue, s, l, n, d, known, right as usize);
+                known.keep(x, first.or(second))
+            }
         }
-        let right = it.right as usize;
-        let is_and = it.operator == 0;
-        let first = self.condition_verdict(marks, unions, t, k, s, l, n, d, known, left);
-        if told_by_left(is_and, first) {
-            known.conditions[x] = first;
-            return first;
-        }
-        let second = self.condition_verdict(marks, unions, t, k, s, l, n, d, known, right);
-        let both = of_halves(is_and, first, second);
-        known.conditions[x] = both;
-        both
     }
 
     // ---- a condition by the ranges that its disjuncts share
@@ -395,39 +379,33 @@ impl Blocking {
     // This range, if there is one, is asked: is it blocked, because it does not hold?
     fn bar_shared(
         &mut self,
-        marks: &[u8],
-        unions: &[u8],
-        t: &[u8],
-        k: Counts,
+        catalogue: &Catalogue,
         s: &[u8],
         l: Limits,
         n: usize,
         d: usize,
         range: Option<u16>,
     ) -> bool
-        requires sees { Sees k marks.now unions.now t.now l n d s.now }
-        ensures { AskedBars (catalogue k marks.now unions.now t.now) (true_of (variables n (held l s.now)) (decisions d (held l s.now))) range result self.old self.new }
+        requires sees { Sees l n d s.now }
+        ensures { AskedBars (catalogue_of catalogue.now) (true_of (variables n (held l s.now)) (decisions d (held l s.now))) range result self.old self.new }
     {
-        let r = match range {
-            Some(r) => r as usize,
-            None => return false,
+        let Some(range) = range else {
+            return false;
         };
-        if r >= k.ranges {
+        let r = range as usize;
+        if r >= catalogue.index.areas.tables.counts.ranges {
             return false;
         }
-        if goals::range_holds(marks, unions, t, k, s, l, n, d, r) {
+        if goals::range_holds(catalogue, s, l, n, d, r) {
             return false;
         }
-        self.bar_range(marks, unions, t, k, r)
+        self.bar_range(catalogue, r)
     }
 
     // Does no disjunct of condition c hold, because one of the ranges that they share does not?
     pub fn blocks_by_shared(
         &mut self,
-        marks: &[u8],
-        unions: &[u8],
-        t: &[u8],
-        k: Counts,
+        catalogue: &Catalogue,
         s: &[u8],
         l: Limits,
         n: usize,
@@ -435,14 +413,14 @@ impl Blocking {
         c: usize,
         listing: &Listing,
     ) -> bool
-        requires sees { Sees k marks.now unions.now t.now l n d s.now }
+        requires sees { Sees l n d s.now }
         requires c_bound { c < 256 }
-        requires listed { Listed (tables k t.now).conditions listing.now }
-        ensures { Blocks (catalogue k marks.now unions.now t.now) (true_of (variables n (held l s.now)) (decisions d (held l s.now))) c result self.old self.new }
+        requires listed { Listed (tables_of catalogue.now).conditions listing.now }
+        ensures { Blocks (catalogue_of catalogue.now) (true_of (variables n (held l s.now)) (decisions d (held l s.now))) c result self.old self.new }
     {
         let shared = listing.shared[c];
-        self.bar_shared(marks, unions, t, k, s, l, n, d, shared.first)
-            || self.bar_shared(marks, unions, t, k, s, l, n, d, shared.second)
+        self.bar_shared(catalogue, s, l, n, d, shared.first)
+            || self.bar_shared(catalogue, s, l, n, d, shared.second)
     }
 
     // ---- a condition by its list
@@ -452,7 +430,7 @@ impl Blocking {
         requires { Row 512 disjunct.now }
         ensures { RowBars disjunct.now self.now result }
     {
-        for r in &disjunct.ranges[..disjunct.len] {
+        for r in disjunct.ranges() {
             if self.range_blocked(*r as usize) {
                 return true;
             }
@@ -463,10 +441,7 @@ impl Blocking {
     // The ranges of the disjunct are asked until one is blocked; whether one is.
     fn bar_some(
         &mut self,
-        marks: &[u8],
-        unions: &[u8],
-        t: &[u8],
-        k: Counts,
+        catalogue: &Catalogue,
         s: &[u8],
         l: Limits,
         n: usize,
@@ -474,12 +449,12 @@ impl Blocking {
         known: &mut Known,
         disjunct: &Disjunct,
     ) -> bool
-        requires sees { Sees k marks.now unions.now t.now l n d s.now }
-        requires row { Row k.ranges disjunct.now }
-        ensures { DisjunctBars (catalogue k marks.now unions.now t.now) (true_of (variables n (held l s.now)) (decisions d (held l s.now))) disjunct.now result known.old self.old known.new self.new }
+        requires sees { Sees l n d s.now }
+        requires row { Row (counts_of catalogue.now).ranges disjunct.now }
+        ensures { DisjunctBars (catalogue_of catalogue.now) (true_of (variables n (held l s.now)) (decisions d (held l s.now))) disjunct.now result known.old self.old known.new self.new }
     {
-        for r in &disjunct.ranges[..disjunct.len] {
-            let verdict = self.range_verdict(marks, unions, t, k, s, l, n, d, known, *r as usize);
+        for r in disjunct.ranges() {
+            let verdict = self.range_verdict(catalogue, s, l, n, d, known, *r as usize);
             if verdict == Verdict::Barred {
                 return true;
             }
@@ -490,10 +465,7 @@ impl Blocking {
     // Has the disjunct a blocked range? One that has none gets one, if it can.
     fn bar_disjunct(
         &mut self,
-        marks: &[u8],
-        unions: &[u8],
-        t: &[u8],
-        k: Counts,
+        catalogue: &Catalogue,
         s: &[u8],
         l: Limits,
         n: usize,
@@ -501,21 +473,17 @@ impl Blocking {
         known: &mut Known,
         disjunct: &Disjunct,
     ) -> bool
-        requires sees { Sees k marks.now unions.now t.now l n d s.now }
-        requires row { Row k.ranges disjunct.now }
-        ensures { DisjunctBars (catalogue k marks.now unions.now t.now) (true_of (variables n (held l s.now)) (decisions d (held l s.now))) disjunct.now result known.old self.old known.new self.new }
+        requires sees { Sees l n d s.now }
+        requires row { Row (counts_of catalogue.now).ranges disjunct.now }
+        ensures { DisjunctBars (catalogue_of catalogue.now) (true_of (variables n (held l s.now)) (decisions d (held l s.now))) disjunct.now result known.old self.old known.new self.new }
     {
-        self.some_barred(disjunct)
-            || self.bar_some(marks, unions, t, k, s, l, n, d, known, disjunct)
+        self.some_barred(disjunct) || self.bar_some(catalogue, s, l, n, d, known, disjunct)
     }
 
     // Has each disjunct of condition c, which is listed, a blocked range?
     fn each_barred(
         &mut self,
-        marks: &[u8],
-        unions: &[u8],
-        t: &[u8],
-        k: Counts,
+        catalogue: &Catalogue,
         s: &[u8],
         l: Limits,
         n: usize,
@@ -524,24 +492,13 @@ impl Blocking {
         known: &mut Known,
         listing: &Listing,
     ) -> bool
-        requires sees { Sees k marks.now unions.now t.now l n d s.now }
-        requires c_lt_conditions { c < k.conditions }
-        requires all_stand { AllStand (tables k t.now).conditions listing.now c }
-        ensures { EachBars (catalogue k marks.now unions.now t.now) (true_of (variables n (held l s.now)) (decisions d (held l s.now))) c result known.old self.old known.new self.new }
+        requires sees { Sees l n d s.now }
+        requires c_lt_conditions { c < (counts_of catalogue.now).conditions }
+        requires all_stand { AllStand (tables_of catalogue.now).conditions listing.now c }
+        ensures { EachBars (catalogue_of catalogue.now) (true_of (variables n (held l s.now)) (decisions d (held l s.now))) c result known.old self.old known.new self.new }
     {
-        for i in 0..conditions::count(t, k, c) {
-            if !self.bar_disjunct(
-                marks,
-                unions,
-                t,
-                k,
-                s,
-                l,
-                n,
-                d,
-                known,
-                &listing.disjuncts[i],
-            ) {
+        for i in 0..catalogue.conditions().count(c) {
+            if !self.bar_disjunct(catalogue, s, l, n, d, known, &listing.disjuncts[i]) {
                 return false;
             }
         }
@@ -551,10 +508,7 @@ impl Blocking {
     // The same, of any condition: it is not known of one that is not listed.
     fn barred_by_list(
         &mut self,
-        marks: &[u8],
-        unions: &[u8],
-        t: &[u8],
-        k: Counts,
+        catalogue: &Catalogue,
         s: &[u8],
         l: Limits,
         n: usize,
@@ -563,14 +517,14 @@ impl Blocking {
         known: &mut Known,
         listing: &Listing,
     ) -> bool
-        requires sees { Sees k marks.now unions.now t.now l n d s.now }
-        requires c_lt_conditions { c < k.conditions }
-        requires listed { Listed (tables k t.now).conditions listing.now }
-        ensures { EachBars (catalogue k marks.now unions.now t.now) (true_of (variables n (held l s.now)) (decisions d (held l s.now))) c result known.old self.old known.new self.new }
+        requires sees { Sees l n d s.now }
+        requires c_lt_conditions { c < (counts_of catalogue.now).conditions }
+        requires listed { Listed (tables_of catalogue.now).conditions listing.now }
+        ensures { EachBars (catalogue_of catalogue.now) (true_of (variables n (held l s.now)) (decisions d (held l s.now))) c result known.old self.old known.new self.new }
     {
         match listing.listed {
             Some(listed) if listed as usize == c => {
-                self.each_barred(marks, unions, t, k, s, l, n, d, c, known, listing)
+                self.each_barred(catalogue, s, l, n, d, c, known, listing)
             }
             _ => false,
         }
@@ -581,10 +535,7 @@ impl Blocking {
     // Does no disjunct of condition c hold? It is judged by its list or by its halves, and blocked if it is barred.
     pub fn blocks(
         &mut self,
-        marks: &[u8],
-        unions: &[u8],
-        t: &[u8],
-        k: Counts,
+        catalogue: &Catalogue,
         s: &[u8],
         l: Limits,
         n: usize,
@@ -592,24 +543,24 @@ impl Blocking {
         c: usize,
         listing: &mut Listing,
     ) -> bool
-        requires sees { Sees k marks.now unions.now t.now l n d s.now }
-        requires c_lt_conditions { c < k.conditions }
-        requires listed { Listed (tables k t.now).conditions listing.old }
-        ensures blocks { Blocks (catalogue k marks.now unions.now t.now) (true_of (variables n (held l s.now)) (decisions d (held l s.now))) c result self.old self.new }
-        ensures listed_2 { Listed (tables k t.now).conditions listing.new }
+        requires sees { Sees l n d s.now }
+        requires c_lt_conditions { c < (counts_of catalogue.now).conditions }
+        requires listed { Listed (tables_of catalogue.now).conditions listing.old }
+        ensures blocks { Blocks (catalogue_of catalogue.now) (true_of (variables n (held l s.now)) (decisions d (held l s.now))) c result self.old self.new }
+        ensures listed_2 { Listed (tables_of catalogue.now).conditions listing.new }
     {
         if self.conditions[c] {
             return true;
         }
         let mut known = Known::nothing();
-        if self.barred_by_list(marks, unions, t, k, s, l, n, d, c, &mut known, listing) {
+        if self.barred_by_list(catalogue, s, l, n, d, c, &mut known, listing) {
             self.conditions[c] = true;
             return true;
         }
-        let verdict = self.condition_verdict(marks, unions, t, k, s, l, n, d, &mut known, c);
+        let verdict = self.condition_verdict(catalogue, s, l, n, d, &mut known, c);
         if verdict == Verdict::Barred {
             self.conditions[c] = true;
-            listing.note_judged(t, k, c);
+            listing.note_judged(&catalogue.conditions(), c);
             return true;
         }
         verdict != Verdict::Holds
@@ -618,49 +569,49 @@ impl Blocking {
     // ---- part p is decided true
 
     // Range r is not blocked any more if p is a member of it.
-    fn release_range(&mut self, marks: &[u8], p: usize, r: usize)
-        requires { (r < 512) × (65536 ≤ length marks.now) }
-        ensures { ReleasesRange marks.now p r self.old self.new }
+    fn release_range(&mut self, marks: &Marks, p: usize, r: usize)
+        requires { r < 512 }
+        ensures { ReleasesRange marks.now.area.now p r self.old self.new }
     {
-        if self.range_blocked(r) && marks::marked(marks, r, p) {
+        if self.range_blocked(r) && marks.marked(r, p) {
             self.ranges[r] = Barrier::Open;
         }
     }
 
     // The same of every range of class j: j, j + 16, j + 32 and so on.
-    fn release_class(&mut self, marks: &[u8], k: Counts, p: usize, j: usize)
-        requires { (k.ranges ≤ 512) × (65536 ≤ length marks.now) }
-        ensures { ReleasesClass k marks.now p j self.old self.new }
+    fn release_class(&mut self, marks: &Marks, ranges: usize, p: usize, j: usize)
+        requires { ranges ≤ 512 }
+        ensures { ReleasesClass ranges marks.now.area.now p j self.old self.new }
     {
-        for r in (j..k.ranges).step_by(16) {
+        for r in (j..ranges).step_by(16) {
             self.release_range(marks, p, r);
         }
     }
 
     // The same of every class whose bit is set in v: a turn of the loop takes the lowest one away.
-    fn release_watched(&mut self, marks: &[u8], k: Counts, p: usize, v: u16)
-        requires { (k.ranges ≤ 512) × (65536 ≤ length marks.now) }
-        ensures { ReleasesWatched k marks.now p v self.old self.new }
+    fn release_watched(&mut self, marks: &Marks, ranges: usize, p: usize, v: u16)
+        requires { ranges ≤ 512 }
+        ensures { ReleasesWatched ranges marks.now.area.now p v self.old self.new }
     {
         let mut rest = v;
         while rest != 0 {
             let j = u16::trailing_zeros(rest) as usize;
-            self.release_class(marks, k, p, j);
+            self.release_class(marks, ranges, p, j);
             rest &= rest - 1;
         }
     }
 
     // Part p is decided true. If it is watched, no condition is blocked any more, and no range that p is watched for; p is not watched any more. What else is
     // blocked or watched stays so. Past the parts none is watched.
-    pub fn release(&mut self, marks: &[u8], k: Counts, p: usize)
-        requires { (k.ranges ≤ 512) × (65536 ≤ length marks.now) }
-        ensures { Releases k marks.now p self.old self.new }
+    pub fn release(&mut self, marks: &Marks, ranges: usize, p: usize)
+        requires { ranges ≤ 512 }
+        ensures { Releases ranges marks.now.area.now p self.old self.new }
     {
         if p >= 1024 || self.watched[p] == 0 {
             return;
         }
         self.conditions = [false; 256];
-        self.release_watched(marks, k, p, self.watched[p]);
+        self.release_watched(marks, ranges, p, self.watched[p]);
         self.watched[p] = 0;
     }
 }

@@ -1,21 +1,21 @@
 -- Blocked conditions: a draw of one changes nothing, and each command keeps them blocked but for a decision that makes a watched part true.
-use mathlib.Core.Path.{◌≡◌, refl, sym, ◌∙◌, ap, fun_ext}
+use mathlib.Core.Path.{◌≡◌, refl, sym, ◌∙◌, fun_ext}
 use mathlib.Core.Logic.{◌≢◌, ◌⊎◌, inl, inr, ⊎_elim}
-use mathlib.Core.Bool.{Bool, true, false, ◌&&◌, cond, true≢false}
+use mathlib.Core.Bool.{Bool, true, false, ◌&&◌, true≢false}
 use mathlib.Core.List.{List, []}
 use mathlib.Core.Option.{Option, none, some}
 use Prim.Native.Nat.{ℕ, ◌<◌}
 use lib.Dec.{eqb}
 use lib.ListN.{length, get_or}
-use borrow.Author.Tests.{eqb-true, ne_eqb}
+use borrow.Author.Tests.{eqb-true}
 use Rattle.std.specs.declared.option.Option as code_option
 use Rattle.std.specs.Prelude.{Some, None}
 use Rattle.rules.specs.Called.{◌∈◌}
-use Rattle.rules.specs.Catalogue.{root, part, range, union, Catalogue, condition_at}
+use Rattle.rules.specs.Catalogue.{root, part, Catalogue, condition_at}
 use Rattle.rules.specs.Conditions.{Disjunct, disjuncts, disjuncts_if, disjuncts_of, disjunct_at, is_condition}
 use Rattle.rules.specs.Refusals.{ok}
 use Rattle.rules.specs.Records.{Command}
-use Rattle.rules.specs.Variables.{Origin, chosen, forbid, one, violation, gate, known, part_origin, part_variable}
+use Rattle.rules.specs.Variables.{Origin, chosen, known, part_origin, part_variable}
 use Rattle.rules.specs.Decisions.{Decision}
 use Rattle.rules.specs.Opening.{Opening, holds_now, entry_holds, is_drawn}
 use Rattle.rules.specs.State.{State, decided_true}
@@ -23,7 +23,7 @@ use Rattle.rules.specs.Limits as rules
 use Rattle.rules.specs.Sheet.{carried_out, carry_out, decide}
 use Rattle.rules.proofs.Bools.{by_cases}
 use Rattle.rules.proofs.Each.{each_imp, when_cases}
-use Rattle.rules.proofs.Member.{not_one, at_member, contrary}
+use Rattle.rules.proofs.Member.{at_member, contrary}
 use Rattle.rules.proofs.Evaluation.{true_after}
 use Rattle.rules.proofs.Places.{stands}
 use Rattle.rules.proofs.Reached.{Given, Reached}
@@ -37,7 +37,8 @@ use Rattle.tables.specs.Tables.{tables}
 use Rattle.cache.specs.Areas.{catalogue}
 use Rattle.cache.proofs.Laws.{conditions_held}
 use Rattle.variable_map.specs.declared.Origin as code_origin
-use Rattle.variable_map.specs.Mapping.{origin_by, origin_of}
+use Rattle.variable_map.specs.declared.Origin.TheVariants as O
+use Rattle.variable_map.specs.Mapping.{origin_of}
 use Rattle.goals.specs.Goals.{true_of, AllGiven}
 use Rattle.goals.proofs.Given.{all_given}
 use Rattle.blocking.specs.declared.Blocking.{Blocking}
@@ -137,24 +138,14 @@ module _ (j : Counts) (m u t : List ℕ) {vs : List Origin} {ds : List Decision}
 
 -- ---- the code's decision
 
--- only kind 1 is that of parts
-other_kind : (o : code_origin.Origin) (p : ℕ) → (o.kind ≡ 1 → ⊥) → origin_of o ≡ part_origin p → ⊥
-unfolding origin_of origin_by
-other_kind o p n e = go (eqb o.kind 0) (eqb o.kind 2) (eqb o.kind 3) (eqb o.kind 4) (eqb o.kind 5) (rw (ne_eqb o.kind 1 n) at e)
-  where
-    go : (a b c d e : Bool)
-        → cond a (chosen root) (cond b (forbid o.number o.bit) (cond c (one o.number) (cond d (violation o.number) (cond e (gate (range o.number)) (gate (union o.number)))))) ≡ part_origin p
-        → ⊥
-    go true b c d e q = not_one (cc)
-    go false true c d e q = not_one (cc)
-    go false false true d e q = not_one (cc)
-    go false false false true e q = not_one (cc)
-    go false false false false true q = not_one (cc)
-    go false false false false false q = not_one (cc)
-
-part_number : (o : code_origin.Origin) (p : ℕ) → o.kind ≡ 1 → origin_of o ≡ part_origin p → o.number ≡ p
-unfolding origin_of origin_by
-part_number o p k e = let q : chosen (part o.number) ≡ part_origin p = rw k at e in cc
+-- only this part's origin is that of part p
+other_origin : (o : code_origin.Origin) (p : ℕ) → (o ≡ O.Part p → ⊥) → origin_of o ≡ part_origin p → ⊥
+other_origin O.Root p n e = cc
+other_origin (O.Part q) p n e = let z : q ≡ p = cc in n (rw z)
+other_origin (O.Forbid q j) p n e = cc
+other_origin (O.One q) p n e = cc
+other_origin (O.Violation q) p n e = cc
+other_origin (O.Gate q) p n e = cc
 
 module _ {vs : List Origin} {x value : ℕ} where
   -- another value than true
@@ -163,11 +154,11 @@ module _ {vs : List Origin} {x value : ℕ} where
 
   module _ (o : code_origin.Origin) (h : origin_of o ≡ get_or vs x (chosen root)) where
     -- no part's variable
-    pub makes_other : (o.kind ≡ 1 → ⊥) → MakesTrue vs x value None
-    makes_other n = record { is = λ _ q e. absurd (other_kind o q n (h ∙ e)) }
+    pub makes_other : ((p : ℕ) → o ≡ O.Part p → ⊥) → MakesTrue vs x value None
+    makes_other n = record { is = λ _ q e. absurd (other_origin o q (n q) (h ∙ e)) }
 
-    pub makes_part : o.kind ≡ 1 → MakesTrue vs x value (Some o.number)
-    makes_part k = record { is = λ _ q e. ap Some (part_number o q k (h ∙ e)) }
+    pub makes_part : (p : ℕ) → o ≡ O.Part p → MakesTrue vs x value (Some p)
+    makes_part p k = record { is = λ _ q e. let z : chosen (part p) ≡ part_origin q = rw k at (h ∙ e) in let y : p ≡ q = cc in rw y }
 
 -- where only part p can be made true
 made_is : {vs : List Origin} {x value : ℕ} {made : code_option.Option ℕ} → MakesTrue vs x value made → {p q : ℕ} → made ≡ Some p → value ≡ 1 → get_or vs x (chosen root) ≡ part_origin q → q ≡ p
@@ -175,8 +166,8 @@ made_is {made = made} d {p} {q} e i j = let a : made ≡ Some q = d.is i q j in 
 
 module _ {k : Counts} {m : List ℕ} {vs : List Origin} {x value : ℕ} {blocking : Blocking} {made : code_option.Option ℕ} (d : MakesTrue vs x value made) where
   module _ {p : ℕ} (e : made ≡ Some p) where
-    pub unblocks_part : {blocking' : Blocking} → Releases k m p blocking blocking' → Unblocks k m vs x value blocking blocking'
-    unblocks_part r = record { is = λ u t f h. r.is u t (λ q n. f q (λ i j. n (made_is d e i j))) h }
+    pub unblocks_part : {blocking' : Blocking} → Releases k.ranges m p blocking blocking' → Unblocks k m vs x value blocking blocking'
+    unblocks_part r = record { is = λ u t f h. r.is k u t refl (λ q n. f q (λ i j. n (made_is d e i j))) h }
 
 -- a decision makes no part true but that of its variable
 module _ (x value level : ℕ) (s : State) (p : ℕ) (n : value ≡ 1 → get_or s.variables x (chosen root) ≡ part_origin p → ⊥) where

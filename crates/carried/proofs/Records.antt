@@ -2,10 +2,10 @@
 use mathlib.Core.Path.{◌≡◌, refl, sym, ◌∙◌, ap}
 use mathlib.Core.Bool.{Bool, true, not, ◌||◌}
 use mathlib.Core.List.{List, []}
-use Prim.Native.Nat.{ℕ, ◌+◌, ◌-◌, ◌<◌, ◌≤◌}
+use Prim.Native.Nat.{ℕ, ◌+◌, ◌<◌, ◌≤◌}
 use native.Mathlib.Omega.{arith}
 use lib.Dec.{leb}
-use lib.ListN.{length, get_or, take, drop}
+use lib.ListN.{length, get_or, drop}
 use borrow.Author.Tests.{leb-true}
 use Rattle.std.specs.Prelude.{Result, Ok, Err}
 use Rattle.rules.specs.Compute.{computing}
@@ -24,16 +24,15 @@ use Rattle.rules.proofs.Reached.{unless_any_ok, Given, Reached, command, no_item
 use Rattle.refusal.specs.declared.Refusal.{Refusal}
 use Rattle.refusal.specs.Refusing.{refusal_of}
 use Rattle.reader.specs.declared.Command as code
-use Rattle.reader.specs.declared.Record.{Record}
+use Rattle.reader.specs.declared.ItemKind.{ItemKind}
 use Rattle.reader.specs.declared.Record.TheVariants as R
-use Rattle.reader.specs.Reading.{body_length, command_of, command_read, result_of, next_of}
-use Rattle.reader.proofs.Laws.{next_behind, next_inside}
+use Rattle.reader.specs.Reading.{command_of, record_in, result_of, next_of}
 use Rattle.state.specs.declared.Limits.{Limits}
 use Rattle.variable_map.specs.Mapping.{variables}
 use Rattle.decision_tracker.specs.Tracking.{decisions}
 use Rattle.encoder.specs.declared.Counters.{Counters}
 use Rattle.encoder.specs.Held.{state_of}
-use Rattle.encoder.specs.Did.{limits_of}
+use Rattle.state.specs.Limits.{limits_of}
 use Rattle.blocking.specs.declared.Blocking.{Blocking}
 use Rattle.blocking.specs.Blocking.{Blocked}
 use Rattle.encoding.specs.Running.{Holds}
@@ -133,59 +132,48 @@ module _ {c : Catalogue} {flags : List Bool} {blocking : Blocking} {l : Limits} 
       }
 
 -- a command that was read, and the position behind it
-module _ (job : List ℕ) (at : ℕ) (x : Record) (e : result_of (get_or job at 0) (drop (at + 1) job) x ≡ read true (get_or job at 0) (drop (at + 1) job)) (q : x ≡ R.Sheet) where
-  sheet_is : read true (get_or job at 0) (drop (at + 1) job) ≡ ok (sheet (command_read (get_or job at 0) (take (body_length (get_or job at 0)) (drop (at + 1) job))))
+module _ (job : List ℕ) (at next : ℕ) (k : code.Command) (e : result_of (drop (at + 1) job) (Ok (R.Sheet k, next)) ≡ read true (get_or job at 0) (drop (at + 1) job))
+    (b : (next ≡ next_of job at) × (next ≤ length job)) where
+  is_read : read true (get_or job at 0) (drop (at + 1) job) ≡ ok (sheet (command_of k))
+  unfolding result_of record_in
+  is_read = sym e
+
+  pub sheet_onward : at + 3 ≤ next
+  sheet_onward = omega (arith, b.0, sheet_body (get_or job at 0) (drop (at + 1) job) (command_of k) is_read)
+
+module _ {c : Catalogue} {flags : List Bool} {blocking : Blocking} {l : Limits} (job : List ℕ) (at : ℕ) {n : Counters} {st : ℕ → List ℕ} {cl wt : List ℕ} (h : at < length job) where
+  pub step_unread : (f : Refusal) → result_of (drop (at + 1) job) (Err f) ≡ read true (get_or job at 0) (drop (at + 1) job) → StepDid c flags blocking l job at n st cl wt (Err f) st cl wt blocking
   unfolding result_of
-  sheet_is = sym (rw q at e)
-
-  module _ (next : ℕ) (u : next ≡ next_of job at) (k : code.Command) (w : command_of k ≡ command_read (get_or job at 0) (take (next - (at + 1)) (drop (at + 1) job))) where
-    is_read : read true (get_or job at 0) (drop (at + 1) job) ≡ ok (sheet (command_of k))
-    is_read =
-        let z : next - (at + 1) ≡ body_length (get_or job at 0) = omega arith in
-        rw (w, z) sheet_is
-
-    behind : next ≡ at + 1 + body_of (kind_of (get_or job at 0))
-    behind = next_behind true job at next _ is_read u
-
-    pub sheet_onward : at + 3 ≤ next
-    sheet_onward = omega (arith, behind, sheet_body (get_or job at 0) (drop (at + 1) job) (command_of k) is_read)
-
-  pub sheet_whole : (next : ℕ) → next ≡ next_of job at → at < length job → next ≤ length job
-  sheet_whole next u h = next_inside true job at next _ sheet_is u h
-
-module _ {c : Catalogue} {flags : List Bool} {blocking : Blocking} {l : Limits} (job : List ℕ) (at : ℕ) {n : Counters} {st : ℕ → List ℕ} {cl wt : List ℕ} (x : Record) (h : at < length job)
-    (e : result_of (get_or job at 0) (drop (at + 1) job) x ≡ read true (get_or job at 0) (drop (at + 1) job)) where
-  pub step_unread : (f : Refusal) → x ≡ R.Refused f → StepDid c flags blocking l job at n st cl wt (Err f) st cl wt blocking
-  unfolding result_of
-  step_unread f q = refuses f (λ s _ _ _ t p. unread l job at h c s t p (refusal_of f) (sym (rw q at e)))
+  step_unread f e = refuses f (λ s _ _ _ t p. unread l job at h c s t p (refusal_of f) (sym e))
 
   -- after a sheet record nothing is read as an item
-  pub step_item : (f : Refusal) → x ≡ R.Item → StepDid c flags blocking l job at n st cl wt (Err f) st cl wt blocking
-  unfolding result_of
-  step_item f q = absurd (no_item (get_or job at 0) (drop (at + 1) job) _ (sym (rw q at e)))
+  pub step_item : (f : Refusal) (i : ItemKind) (next : ℕ) → result_of (drop (at + 1) job) (Ok (R.Item i, next)) ≡ read true (get_or job at 0) (drop (at + 1) job)
+      → StepDid c flags blocking l job at n st cl wt (Err f) st cl wt blocking
+  unfolding result_of record_in
+  step_item f i next e = absurd (no_item (get_or job at 0) (drop (at + 1) job) _ (sym e))
 
-  module _ (q : x ≡ R.Sheet) (next : ℕ) (u : next ≡ next_of job at) (k : code.Command) (w : command_of k ≡ command_read (get_or job at 0) (take (next - (at + 1)) (drop (at + 1) job)))
-      {st' : ℕ → List ℕ} {cl' wt' : List ℕ} {blocking' : Blocking} where
+  module _ (next : ℕ) (k : code.Command) (e : result_of (drop (at + 1) job) (Ok (R.Sheet k, next)) ≡ read true (get_or job at 0) (drop (at + 1) job))
+      (b : (next ≡ next_of job at) × (next ≤ length job)) {st' : ℕ → List ℕ} {cl' wt' : List ℕ} {blocking' : Blocking} where
     step_refused : (f : Refusal) → SettledDid c flags blocking l (command_of k) n st cl wt (Err f) st' cl' wt' blocking'
         → (s : State) → Given c → Reached (limits_of l) c s → Holds c l s n st cl wt → (t : Terms) → t.limits ≡ limits_of l
         → end_from t job at (carrying c s) ≡ refused (number_and_place (length job) at (refusal_of f))
-    step_refused f d s g z o t p = not_carried l job at h c s t p (command_of k) (is_read job at x e q next u k w) (refusal_of f) (d.refused f refl s g z o)
+    step_refused f d s g z o t p = not_carried l job at h c s t p (command_of k) (is_read job at next k e b) (refusal_of f) (d.refused f refl s g z o)
 
     pub step_carried : (m : Counters) → SettledDid c flags blocking l (command_of k) n st cl wt (Ok m) st' cl' wt' blocking'
         → (s : State) → Given c → Reached (limits_of l) c s → Holds c l s n st cl wt → Settled c flags s
         → Blocked c (decided_true s) blocking → Passed c l job at next (command_of k) s n m st' cl' wt' blocking'
-    step_carried m d s g z o b v =
-        let y = d.carried m refl s g z o b v in
+    step_carried m d s g z o x v =
+        let y = d.carried m refl s g z o x v in
         record {
-          onward = sheet_onward job at x e q next u k w;
-          inside = next_inside true job at next _ (is_read job at x e q next u k w) u h;
+          onward = sheet_onward job at next k e b;
+          inside = b.1;
           runs = y.runs;
           state = y.state;
           is = y.is;
           reached = then_reached z (command_of k) y.is;
           holds = y.holds;
           blocked = d.guards.is (limits_of l) s y.state z (has_held o) y.is v;
-          alike = λ t p. goes_on l job at h c s t p (command_of k) (is_read job at x e q next u k w) y.state next (behind job at x e q next u k w) y.is;
+          alike = λ t p. goes_on l job at h c s t p (command_of k) (is_read job at next k e b) y.state next b.0 y.is;
         }
 
     -- it was carried out or refused

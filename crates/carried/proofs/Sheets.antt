@@ -25,7 +25,7 @@ use Rattle.catalogue.specs.Walking.{UpToSheet}
 use Rattle.state.specs.declared.Limits.{Limits}
 use Rattle.state.specs.Layout.{held}
 use Rattle.encoder.specs.declared.Counters.{Counters}
-use Rattle.encoder.specs.Did.{limits_of}
+use Rattle.state.specs.Limits.{limits_of}
 use Rattle.blocking.specs.declared.Blocking.{Blocking}
 use Rattle.blocking.specs.Blocking.{NothingBlocked, Blocked}
 use Rattle.blocking.proofs.Blocked.{blocked_none}

@@ -1,5 +1,5 @@
 -- A state area that was cleared, with the root's variable, and the clauses' area with install, hold the state at the start.
-use mathlib.Core.Path.{◌≡◌, refl}
+use mathlib.Core.Path.{◌≡◌, refl, ◌∙◌}
 use mathlib.Core.List.{List, [], ◌∷◌}
 use Prim.Native.Nat.{ℕ, ◌+◌, ◌<◌, ◌≤◌, zero-le}
 use native.Mathlib.Omega.{arith}
@@ -23,7 +23,9 @@ use Rattle.marked.proofs.Laws.{marked_blank, owners_start, names_start, added_st
 use Rattle.line.specs.Line.{queued}
 use Rattle.entries.specs.Entries.{waiting_in, drawn_in}
 use Rattle.solver.specs.declared.Stored.{Stored}
+use Rattle.solver.specs.declared.Clause.TheVariants.{Install}
 use Rattle.solver.specs.Rows.{no_row, row_of, rows}
+use Rattle.solver.specs.Clauses.{clause_row}
 use Rattle.encoder.specs.declared.Counters.{Counters}
 use Rattle.encoder.specs.Held.{Reading, clause_in, clauses_in, conflict_if, conflicts_from, opening_of, state_of, GoodState, GoodClauses}
 use Rattle.carried.specs.Carrying.{Started}
@@ -98,13 +100,11 @@ only_row : (k : ℕ) (cl cl' : List ℕ) (x : Stored) → rows k cl' ≡ snoc (r
 unfolding rows tables.listed up_to snoc
 only_row k cl cl' x e q = rw q at e
 
-abbrev install : Stored
-install = record { kind = 0; first = 0; second = 0; start = 0; count = 0; form = 0; number = 0; conflict = 0 }
-
-pub started : (l : Limits) (b b' cl cl' : List ℕ) (v k : ℕ) → Fits l (length b) → Cleared (held l b) → 0 < l.clauses
-    → Grown l v start.variables (held l b) (held l b') → k ≡ 0 + 1 → rows k cl' ≡ snoc (rows 0 cl) (row_of install) → Started l (counters v k) (held l b') cl'
-started l b b' cl cl' v k f z h g e r =
-    let q = only_row k cl cl' install r (unfold row_of in refl) in
+pub started : (l : Limits) (b b' cl cl' : List ℕ) (v k : ℕ) (install : Stored) → Fits l (length b) → Cleared (held l b) → 0 < l.clauses
+    → Grown l v start.variables (held l b) (held l b') → k ≡ 0 + 1 → rows k cl' ≡ snoc (rows 0 cl) (row_of install) → row_of install ≡ clause_row Install 0
+    → Started l (counters v k) (held l b') cl'
+started l b b' cl cl' v k install f z h g e r i =
+    let q = only_row k cl cl' install r (i ∙ unfold clause_row in refl) in
     record {
       holds = λ c wt. record {
         good = record { state = start_state l b v f z g c k; clauses = start_clauses l b v f z g k cl' q c (omega arith); entries = zero-le };

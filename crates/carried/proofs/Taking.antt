@@ -4,7 +4,7 @@ use mathlib.Core.Bool.{Bool, true, false}
 use mathlib.Core.List.{List}
 use Prim.Native.Nat.{ℕ, ◌+◌, ◌-◌, ◌<◌, ◌≤◌}
 use native.Mathlib.Omega.{arith}
-use lib.ListN.{length, get_or, set, drop, take, replicate}
+use lib.ListN.{length, get_or, set, drop, replicate}
 use Rattle.std.specs.Prelude.{Option, Some, None, Result, Ok, Err}
 use Rattle.std.specs.Result.{result_ok}
 use Rattle.rules.specs.Catalogue.{Catalogue}
@@ -16,7 +16,7 @@ use Rattle.reader.specs.declared.Command as code
 use Rattle.reader.specs.declared.Command.TheVariants as C
 use Rattle.reader.specs.declared.Record.{Record}
 use Rattle.reader.specs.declared.Record.TheVariants as R
-use Rattle.reader.specs.Reading.{command_of, command_read, result_of, next_of}
+use Rattle.reader.specs.Reading.{command_of, result_of, next_of}
 use Rattle.tables.specs.declared.Counts.{Counts}
 use Rattle.cache.specs.Areas.{catalogue}
 use Rattle.state.specs.declared.Limits.{Limits}
@@ -38,7 +38,7 @@ use Rattle.carried.specs.declared.Place.{Place}
 use Rattle.carried.specs.Carrying.{Idles, Notes, Unblocks, DrawIdles, counted, place_of, Takes, Leaves, Took, Stands, WentOn, TookAt}
 use Rattle.carried.proofs.Blocking.{has_true, idles_add, idles_draw, idles_decide, idles_undo}
 use Rattle.carried.proofs.Settling.{notes_add, notes_undo, notes_draw, notes_none}
-use Rattle.carried.proofs.Records.{has_held, settled_passes, settled_carries, step_carried, sheet_onward, sheet_whole}
+use Rattle.carried.proofs.Records.{has_held, settled_passes, settled_carries, step_carried, sheet_onward}
 
 -- ---- what `ok` of a result tells
 
@@ -110,6 +110,11 @@ module _ (k : Counts) (m u t : List ℕ) {flags : List Bool} {blocking : Blockin
 
 -- ---- a record
 
+-- one that was read
+pub sheet_read : {r : Result (Record × ℕ) Refusal} {x : Record} {next : ℕ} {k : code.Command} → Some (x, next) ≡ result_ok r → x ≡ R.Sheet k → r ≡ Ok (R.Sheet k, next)
+sheet_read {r = Ok y} {x} {next} {k} e i = let q : y ≡ (x, next) = cc in rw (q, i)
+sheet_read {r = Err f} e i = cc
+
 -- nothing was carried out
 pub went_none : {c : Catalogue} {flags : List Bool} {blocking : Blocking} {l : Limits} {job : List ℕ} {at : ℕ} {n : Counters} {st : ℕ → List ℕ} {cl wt : List ℕ} → at ≤ length job
     → WentOn c flags blocking l job at n st cl wt (place_of at n) st flags blocking
@@ -125,29 +130,29 @@ pub went_left : {c : Catalogue} {flags : List Bool} {blocking : Blocking} {l : L
     → WentOn c flags blocking l job at n st cl wt (place_of at n) st flags blocking
 went_left h = went_none (omega arith)
 
-module _ {c : Catalogue} {flags : List Bool} {blocking : Blocking} {l : Limits} (job : List ℕ) (at : ℕ) {n : Counters} {st : ℕ → List ℕ} {cl wt : List ℕ} (x : Record) (h : at < length job)
-    (e : result_of (get_or job at 0) (drop (at + 1) job) x ≡ read true (get_or job at 0) (drop (at + 1) job)) (q : x ≡ R.Sheet) (next : ℕ) (u : next ≡ next_of job at) (k : code.Command)
-    (w : command_of k ≡ command_read (get_or job at 0) (take (next - (at + 1)) (drop (at + 1) job))) {r : Place} {st' : ℕ → List ℕ} {flags' : List Bool} {blocking' : Blocking} where
+module _ {c : Catalogue} {flags : List Bool} {blocking : Blocking} {l : Limits} (job : List ℕ) (at : ℕ) {n : Counters} {st : ℕ → List ℕ} {cl wt : List ℕ} (h : at < length job)
+    (next : ℕ) (k : code.Command) (e : result_of (drop (at + 1) job) (Ok (R.Sheet k, next)) ≡ read true (get_or job at 0) (drop (at + 1) job))
+    (b : (next ≡ next_of job at) × (next ≤ length job)) {r : Place} {st' : ℕ → List ℕ} {flags' : List Bool} {blocking' : Blocking} where
   went_taken : Takes c flags blocking l next k n st cl wt r st' flags' blocking' → WentOn c flags blocking l job at n st cl wt r st' flags' blocking'
   went_taken y =
       record {
-        onward = rw y.behind (omega (arith, sheet_onward job at x e q next u k w));
-        inside = rw y.behind (sheet_whole job at x e q next u h);
+        onward = rw y.behind (omega (arith, sheet_onward job at next k e b));
+        inside = rw y.behind b.1;
         flagged = y.flagged;
-        went = λ s g z o b v.
-            let p = step_carried job at x h e q next u k w (counted r n) y.did s g z o b v in
+        went = λ s g z o x v.
+            let p = step_carried job at h next k e b (counted r n) y.did s g z o x v in
             record {
               state = p.state;
               reached = p.reached;
               holds = p.holds;
-              settled = y.notes.is _ c s p.state z p.is b;
+              settled = y.notes.is _ c s p.state z p.is x;
               blocked = p.blocked;
               alike = rw y.behind p.alike;
             };
       }
 
   taken_behind : Takes c flags blocking l next k n st cl wt r st' flags' blocking' → at < r.at
-  taken_behind y = rw y.behind (omega (arith, sheet_onward job at x e q next u k w))
+  taken_behind y = rw y.behind (omega (arith, sheet_onward job at next k e b))
 
 -- it was left
 went_leaves : {c : Catalogue} {flags : List Bool} {blocking : Blocking} {l : Limits} {job : List ℕ} {at : ℕ} {n : Counters} {st : ℕ → List ℕ} {cl wt : List ℕ} {st' : ℕ → List ℕ} {flags' : List Bool} {blocking' : Blocking}
@@ -169,15 +174,15 @@ went_leaves h y =
     }
 
 -- one or the other
-module _ {c : Catalogue} {flags : List Bool} {blocking : Blocking} {l : Limits} (job : List ℕ) (at : ℕ) {n : Counters} {st : ℕ → List ℕ} {cl wt : List ℕ} (x : Record) (h : at < length job)
-    (e : result_of (get_or job at 0) (drop (at + 1) job) x ≡ read true (get_or job at 0) (drop (at + 1) job)) (q : x ≡ R.Sheet) (next : ℕ) (u : next ≡ next_of job at) (k : code.Command)
-    (w : command_of k ≡ command_read (get_or job at 0) (take (next - (at + 1)) (drop (at + 1) job))) {st' : ℕ → List ℕ} {flags' : List Bool} {blocking' : Blocking} where
+module _ {c : Catalogue} {flags : List Bool} {blocking : Blocking} {l : Limits} (job : List ℕ) (at : ℕ) {n : Counters} {st : ℕ → List ℕ} {cl wt : List ℕ} (h : at < length job)
+    (next : ℕ) (k : code.Command) (e : result_of (drop (at + 1) job) (Ok (R.Sheet k, next)) ≡ read true (get_or job at 0) (drop (at + 1) job))
+    (b : (next ≡ next_of job at) × (next ≤ length job)) {st' : ℕ → List ℕ} {flags' : List Bool} {blocking' : Blocking} where
   pub went_took : (r : Option Place) → Took c flags blocking l next k n st cl wt r st' flags' blocking' → TookAt c flags blocking l job at n st cl wt r st' flags' blocking'
   went_took None d = record { went = went_leaves h (d.left refl); behind = λ p i. absurd (not_one (cc)) }
   went_took (Some r) d =
       record {
-        went = went_taken job at x h e q next u k w (d.taken r refl);
-        behind = λ p i. let z : p ≡ r = cc in rw z (taken_behind job at x h e q next u k w (d.taken r refl));
+        went = went_taken job at h next k e b (d.taken r refl);
+        behind = λ p i. let z : p ≡ r = cc in rw z (taken_behind job at h next k e b (d.taken r refl));
       }
 
 -- ---- one record after another

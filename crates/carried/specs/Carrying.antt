@@ -22,7 +22,7 @@ use Rattle.state.specs.declared.Limits.{Limits}
 use Rattle.variable_map.specs.Mapping.{variables}
 use Rattle.decision_tracker.specs.Tracking.{decisions}
 use Rattle.encoder.specs.declared.Counters.{Counters}
-use Rattle.encoder.specs.Did.{limits_of}
+use Rattle.state.specs.Limits.{limits_of}
 use Rattle.encoder.proofs.Counted.{with_decisions}
 use Rattle.goals.specs.Goals.{true_of}
 use Rattle.blocking.specs.declared.Blocking.{Blocking}

@@ -1,12 +1,10 @@
 // A sheet carried out, from the encoder's state at the start.
 #![tactic(auto)]
 
-ghost use Rattle.std.specs.Prelude.{◌≡◌, ◌+◌, ◌*◌, ◌<◌, ◌≤◌, true, false, length, get_or, set};
+ghost use Rattle.std.specs.Prelude.{◌≡◌, ◌*◌, ◌<◌, ◌≤◌, true, length, set};
 ghost use Rattle.rules.specs.Records as rules;
 ghost use Rattle.rules.specs.State.{start};
 ghost use Rattle.rules.proofs.Reached.{Given};
-ghost use Rattle.tables.specs.Tables.{tables};
-ghost use Rattle.cache.specs.Areas.{catalogue};
 ghost use Rattle.catalogue.specs.Walking.{UpToSheet};
 ghost use Rattle.reader.specs.Reading.{command_of};
 ghost use Rattle.state.specs.Changed.{Cleared};
@@ -14,20 +12,21 @@ ghost use Rattle.state.specs.Layout.{held, Fits};
 ghost use Rattle.variable_map.specs.Mapping.{variables};
 ghost use Rattle.decision_tracker.specs.Tracking.{decisions};
 ghost use Rattle.encoder.specs.Held.{LongEnough};
-ghost use Rattle.goals.specs.Goals.{Catalogued};
 ghost use Rattle.blocking.specs.Blocking.{Sees, Named, shared_of, Listed};
 ghost use Rattle.encoding.specs.Running.{Holds, Reaches};
 ghost use Rattle.serving.specs.Flags.{Flagged};
 ghost use Rattle.sheet.specs.Sheet.{FlaggedAfter};
 ghost use Rattle.carried.specs.Carrying.{Started, MakesTrue, Unblocks, Fresh, Idles, Notes, SettledDid, IsFlagged, DrawIdles, StepDid, FlaggedNext, Took, TookAt, WentOn, Stands, SheetDid};
+ghost use Rattle.index.specs.Views.{catalogue_of, counts_of, tables_of};
 
 use blocking::{Blocking, Listing};
 use encoder::Counters;
-use reader::{Command, Record};
+use index::Catalogue;
+use reader::{Command, Reader, Record};
 use refusal::{Refusal, RefusedAt};
-use solver::Stored;
+use solver::Clause;
 use state::Limits;
-use tables::Counts;
+use variable_map::Origin;
 
 // Variable 0 is the root; clause 0, install, is stored at the start. The state area was cleared.
 pub fn start(s: &mut [u8], clauses: &mut [u8], l: Limits) -> Counters
@@ -37,17 +36,7 @@ pub fn start(s: &mut [u8], clauses: &mut [u8], l: Limits) -> Counters
     ensures { Started l result (held l s.new) clauses.new }
 {
     let variables = variable_map::start(s, l);
-    let install = Stored {
-        kind: 0,
-        first: 0,
-        second: 0,
-        start: 0,
-        count: 0,
-        form: 0,
-        number: 0,
-        conflict: 0,
-    };
-    let stored = solver::append(clauses, 0, install);
+    let stored = solver::append(clauses, 0, Clause::Install.row(None));
     Counters {
         variables,
         clauses: stored,
@@ -106,31 +95,29 @@ fn made_true(s: &[u8], l: Limits, n: usize, variable: u16, value: u8) -> Option<
     if value != 1 {
         return None;
     }
-    let origin = variable_map::origin_at(s, l, n, variable as usize);
-    if origin.kind != 1 {
-        return None;
+    match variable_map::origin_at(s, l, n, variable as usize) {
+        Origin::Part(part) => Some(part as usize),
+        _ => None,
     }
-    Some(origin.number as usize)
 }
 
 // A decision: where it makes a watched part true, no condition is blocked any more, and no range that has the part.
 fn unblock(
     blocking: &mut Blocking,
-    marks: &[u8],
-    k: Counts,
+    catalogue: &Catalogue,
     s: &[u8],
     l: Limits,
     n: usize,
     variable: u16,
     value: u8,
 )
-    requires ranges_bound { (k.ranges ≤ 512) × (65536 ≤ length marks.now) }
     requires fits { Fits l (length s.now) }
     requires n_le_variables { n ≤ l.variables }
-    ensures { Unblocks k marks.now (variables n (held l s.now)) variable value blocking.old blocking.new }
+    ensures { Unblocks (counts_of catalogue.now) catalogue.now.index.areas.marks.now (variables n (held l s.now)) variable value blocking.old blocking.new }
 {
     if let Some(p) = made_true(s, l, n, variable, value) {
-        blocking.release(marks, k, p);
+        let ranges = catalogue.index.areas.tables.counts.ranges;
+        blocking.release(&catalogue.index.areas.as_marks(), ranges, p);
     }
 }
 
@@ -171,31 +158,25 @@ impl Memory {
     // Does a draw of condition c change nothing? Nothing is to be drawn of it where it is flagged, or where no disjunct of it holds.
     fn draws_nothing(
         &mut self,
-        marks: &[u8],
-        unions: &[u8],
-        t: &[u8],
-        k: Counts,
+        catalogue: &Catalogue,
         s: &[u8],
         l: Limits,
         n: Counters,
         c: usize,
     ) -> bool
-        requires sees { Sees k marks.now unions.now t.now l n.variables n.decisions s.now }
-        requires listed { Listed (tables k t.now).conditions self.old.listing }
-        ensures idles { Idles (catalogue k marks.now unions.now t.now) (variables n.variables (held l s.now)) (decisions n.decisions (held l s.now)) (rules.Command.draw c) self.old.settled self.old.blocking result self.new.blocking }
-        ensures kept { (self.new.settled ≡ self.old.settled) × Listed (tables k t.now).conditions self.new.listing }
+        requires sees { Sees l n.variables n.decisions s.now }
+        requires listed { Listed (tables_of catalogue.now).conditions self.old.listing }
+        ensures idles { Idles (catalogue_of catalogue.now) (variables n.variables (held l s.now)) (decisions n.decisions (held l s.now)) (rules.Command.draw c) self.old.settled self.old.blocking result self.new.blocking }
+        ensures kept { (self.new.settled ≡ self.old.settled) × Listed (tables_of catalogue.now).conditions self.new.listing }
     {
         if commands::is_set(&self.settled, c) {
             return true;
         }
-        if c >= k.conditions {
+        if c >= catalogue.index.areas.tables.counts.conditions {
             return false;
         }
         self.blocking.blocks(
-            marks,
-            unions,
-            t,
-            k,
+            catalogue,
             s,
             l,
             n.variables,
@@ -208,23 +189,20 @@ impl Memory {
     // Is the command a draw that changes nothing? What is blocked becomes what it is after the command.
     fn is_idle(
         &mut self,
-        marks: &[u8],
-        unions: &[u8],
-        t: &[u8],
-        k: Counts,
+        catalogue: &Catalogue,
         s: &[u8],
         l: Limits,
         n: Counters,
         command: Command,
     ) -> bool
-        requires sees { Sees k marks.now unions.now t.now l n.variables n.decisions s.now }
-        requires listed { Listed (tables k t.now).conditions self.old.listing }
-        ensures idles { Idles (catalogue k marks.now unions.now t.now) (variables n.variables (held l s.now)) (decisions n.decisions (held l s.now)) (command_of command) self.old.settled self.old.blocking result self.new.blocking }
-        ensures kept { (self.new.settled ≡ self.old.settled) × Listed (tables k t.now).conditions self.new.listing }
+        requires sees { Sees l n.variables n.decisions s.now }
+        requires listed { Listed (tables_of catalogue.now).conditions self.old.listing }
+        ensures idles { Idles (catalogue_of catalogue.now) (variables n.variables (held l s.now)) (decisions n.decisions (held l s.now)) (command_of command) self.old.settled self.old.blocking result self.new.blocking }
+        ensures kept { (self.new.settled ≡ self.old.settled) × Listed (tables_of catalogue.now).conditions self.new.listing }
     {
         match command {
             Command::Add(_) | Command::Run(_) | Command::Undo(_) => false,
-            Command::Draw(c) => self.draws_nothing(marks, unions, t, k, s, l, n, c as usize),
+            Command::Draw(c) => self.draws_nothing(catalogue, s, l, n, c as usize),
             Command::Decide {
                 variable,
                 value,
@@ -232,8 +210,7 @@ impl Memory {
             } => {
                 unblock(
                     &mut self.blocking,
-                    marks,
-                    k,
+                    catalogue,
                     s,
                     l,
                     n.variables,
@@ -248,10 +225,7 @@ impl Memory {
     // A command is carried out; a draw that changes nothing is passed over.
     fn carry_command(
         &mut self,
-        marks: &[u8],
-        unions: &[u8],
-        t: &[u8],
-        k: Counts,
+        catalogue: &Catalogue,
         s: &mut [u8],
         clauses: &mut [u8],
         w: &mut [u8],
@@ -260,20 +234,19 @@ impl Memory {
         command: Command,
         goals: &mut [bool; 640],
     ) -> Result<Counters, Refusal>
-        requires catalogued { Catalogued k marks.now unions.now t.now }
         requires fits { Fits l (length s.old) }
-        requires reaches { Reaches (catalogue k marks.now unions.now t.now) l n (held l s.old) clauses.old w.old }
+        requires reaches { Reaches (catalogue_of catalogue.now) l n (held l s.old) clauses.old w.old }
         requires long_enough { LongEnough l (length clauses.old) (length w.old) × (n.runs < 65535) }
-        requires flagged { Flagged (catalogue k marks.now unions.now t.now) l goals.old n (held l s.old) }
-        requires listed { Listed (tables k t.now).conditions self.old.listing }
-        ensures settled_did { SettledDid (catalogue k marks.now unions.now t.now) self.old.settled self.old.blocking l (command_of command) n (held l s.old) clauses.old w.old result (held l s.new) clauses.new w.new self.new.blocking }
-        ensures flagged_after { FlaggedAfter (catalogue k marks.now unions.now t.now) l goals.new result (held l s.new) }
-        ensures kept { (self.new.settled ≡ self.old.settled) × Listed (tables k t.now).conditions self.new.listing }
+        requires flagged { Flagged (catalogue_of catalogue.now) l goals.old n (held l s.old) }
+        requires listed { Listed (tables_of catalogue.now).conditions self.old.listing }
+        ensures settled_did { SettledDid (catalogue_of catalogue.now) self.old.settled self.old.blocking l (command_of command) n (held l s.old) clauses.old w.old result (held l s.new) clauses.new w.new self.new.blocking }
+        ensures flagged_after { FlaggedAfter (catalogue_of catalogue.now) l goals.new result (held l s.new) }
+        ensures kept { (self.new.settled ≡ self.old.settled) × Listed (tables_of catalogue.now).conditions self.new.listing }
     {
-        if self.is_idle(marks, unions, t, k, s, l, n, command) {
+        if self.is_idle(catalogue, s, l, n, command) {
             return Ok(n);
         }
-        sheet::carry_out(marks, unions, t, k, s, clauses, w, l, n, command, goals)
+        sheet::carry_out(catalogue, s, clauses, w, l, n, command, goals)
     }
 
     // ---- a record
@@ -283,10 +256,7 @@ impl Memory {
         &mut self,
         job: &[u8],
         at: usize,
-        marks: &[u8],
-        unions: &[u8],
-        t: &[u8],
-        k: Counts,
+        catalogue: &Catalogue,
         s: &mut [u8],
         clauses: &mut [u8],
         w: &mut [u8],
@@ -295,25 +265,20 @@ impl Memory {
         goals: &mut [bool; 640],
     ) -> Result<Next, Refusal>
         requires at_in_bounds { (at < length job.now) × (length job.now ≤ 65536) }
-        requires catalogued { Catalogued k marks.now unions.now t.now }
         requires fits { Fits l (length s.old) }
-        requires reaches { Reaches (catalogue k marks.now unions.now t.now) l n (held l s.old) clauses.old w.old }
+        requires reaches { Reaches (catalogue_of catalogue.now) l n (held l s.old) clauses.old w.old }
         requires long_enough { LongEnough l (length clauses.old) (length w.old) × (n.runs < 65535) }
-        requires flagged { Flagged (catalogue k marks.now unions.now t.now) l goals.old n (held l s.old) }
-        requires listed { Listed (tables k t.now).conditions self.old.listing }
-        ensures step_did { StepDid (catalogue k marks.now unions.now t.now) self.old.settled self.old.blocking l job.now at n (held l s.old) clauses.old w.old result (held l s.new) clauses.new w.new self.new.blocking }
-        ensures flagged_next { FlaggedNext (catalogue k marks.now unions.now t.now) l goals.new result (held l s.new) }
-        ensures kept { (self.new.settled ≡ self.old.settled) × Listed (tables k t.now).conditions self.new.listing }
+        requires flagged { Flagged (catalogue_of catalogue.now) l goals.old n (held l s.old) }
+        requires listed { Listed (tables_of catalogue.now).conditions self.old.listing }
+        ensures step_did { StepDid (catalogue_of catalogue.now) self.old.settled self.old.blocking l job.now at n (held l s.old) clauses.old w.old result (held l s.new) clauses.new w.new self.new.blocking }
+        ensures flagged_next { FlaggedNext (catalogue_of catalogue.now) l goals.new result (held l s.new) }
+        ensures kept { (self.new.settled ≡ self.old.settled) × Listed (tables_of catalogue.now).conditions self.new.listing }
     {
-        let next = reader::next_at(job, at);
-        match reader::record_at(job, at, true) {
-            Record::Refused(refusal) => Err(refusal),
-            Record::Item => Err(Refusal::OutOfPlace),
-            Record::Sheet => {
-                let command = reader::command_at(job, at, next);
-                let counters = self.carry_command(
-                    marks, unions, t, k, s, clauses, w, l, n, command, goals,
-                )?;
+        let (record, next) = Reader { job, at }.read(true)?;
+        match record {
+            Record::Item(_) => Err(Refusal::OutOfPlace),
+            Record::Sheet(command) => {
+                let counters = self.carry_command(catalogue, s, clauses, w, l, n, command, goals)?;
                 Ok(Next {
                     at: next,
                     counters,
@@ -327,15 +292,15 @@ impl Memory {
     // longer
 
     // Is a draw of condition c known to change nothing? It is flagged, or blocked, or a range is that its disjuncts share.
-    fn is_flagged(&self, k: Counts, c: usize) -> bool
-        requires conditions_bound { k.conditions ≤ 256 }
+    fn is_flagged(&self, conditions: usize, c: usize) -> bool
+        requires conditions_bound { conditions ≤ 256 }
         requires named { Named 512 (shared_of self.now.listing c).first × Named 512 (shared_of self.now.listing c).second }
-        ensures { IsFlagged self.now.settled self.now.blocking self.now.listing k.conditions c result }
+        ensures { IsFlagged self.now.settled self.now.blocking self.now.listing conditions c result }
     {
         if commands::is_set(&self.settled, c) {
             return true;
         }
-        if c >= k.conditions {
+        if c >= conditions {
             return false;
         }
         self.blocking.conditions[c] || self.blocking.shared_bars(&self.listing, c)
@@ -344,39 +309,34 @@ impl Memory {
     // Does it change nothing, as a flag tells or a range that the disjuncts share? These are asked without the counters.
     fn is_passed(
         &mut self,
-        marks: &[u8],
-        unions: &[u8],
-        t: &[u8],
-        k: Counts,
+        catalogue: &Catalogue,
         s: &[u8],
         l: Limits,
         n: usize,
         d: usize,
         c: usize,
     ) -> bool
-        requires sees { Sees k marks.now unions.now t.now l n d s.now }
-        requires listed { Listed (tables k t.now).conditions self.old.listing }
-        ensures idles { DrawIdles (catalogue k marks.now unions.now t.now) (variables n (held l s.now)) (decisions d (held l s.now)) c self.old.settled self.old.blocking result self.new.blocking }
+        requires sees { Sees l n d s.now }
+        requires listed { Listed (tables_of catalogue.now).conditions self.old.listing }
+        ensures idles { DrawIdles (catalogue_of catalogue.now) (variables n (held l s.now)) (decisions d (held l s.now)) c self.old.settled self.old.blocking result self.new.blocking }
         ensures same { (self.new.settled ≡ self.old.settled) × (self.new.listing ≡ self.old.listing) }
     {
-        if self.is_flagged(k, c) {
+        let conditions = catalogue.index.areas.tables.counts.conditions;
+        if self.is_flagged(conditions, c) {
             return true;
         }
-        if c >= k.conditions {
+        if c >= conditions {
             return false;
         }
         self.blocking
-            .blocks_by_shared(marks, unions, t, k, s, l, n, d, c, &self.listing)
+            .blocks_by_shared(catalogue, s, l, n, d, c, &self.listing)
     }
 
     // The command that was read up to byte `next` is carried out if it is one of these and is not refused: the place behind it. If not, it is left.
     // `clauses`, `w` and most of the counters are not read: the contract speaks of the state that they hold with `s`.
     fn take_command(
         &mut self,
-        marks: &[u8],
-        unions: &[u8],
-        t: &[u8],
-        k: Counts,
+        catalogue: &Catalogue,
         s: &mut [u8],
         clauses: &[u8],
         w: &[u8],
@@ -385,16 +345,16 @@ impl Memory {
         next: usize,
         command: Command,
     ) -> Option<Place>
-        requires catalogued { Catalogued k marks.now unions.now t.now }
         requires fits { Fits l (length s.old) }
-        requires reaches { Reaches (catalogue k marks.now unions.now t.now) l n (held l s.old) clauses.now w.now }
-        requires listed { Listed (tables k t.now).conditions self.old.listing }
-        ensures took { Took (catalogue k marks.now unions.now t.now) self.old.settled self.old.blocking l next command n (held l s.old) clauses.now w.now result (held l s.new) self.new.settled self.new.blocking }
+        requires reaches { Reaches (catalogue_of catalogue.now) l n (held l s.old) clauses.now w.now }
+        requires listed { Listed (tables_of catalogue.now).conditions self.old.listing }
+        ensures took { Took (catalogue_of catalogue.now) self.old.settled self.old.blocking l next command n (held l s.old) clauses.now w.now result (held l s.new) self.new.settled self.new.blocking }
         ensures same { self.new.listing ≡ self.old.listing }
     {
         match command {
             Command::Add(owner) => {
-                let added = commands::add_to(k, s, l, n.added, owner).ok()?;
+                let counts = catalogue.index.areas.tables.counts;
+                let added = commands::add_to(counts, s, l, n.added, owner).ok()?;
                 Some(Place {
                     at: next,
                     added,
@@ -402,17 +362,7 @@ impl Memory {
                 })
             }
             Command::Draw(c) => {
-                if self.is_passed(
-                    marks,
-                    unions,
-                    t,
-                    k,
-                    s,
-                    l,
-                    n.variables,
-                    n.decisions,
-                    c as usize,
-                ) {
+                if self.is_passed(catalogue, s, l, n.variables, n.decisions, c as usize) {
                     set_flag(&mut self.settled, c as usize);
                     return Some(Place {
                         at: next,
@@ -430,8 +380,7 @@ impl Memory {
             } => {
                 unblock(
                     &mut self.blocking,
-                    marks,
-                    k,
+                    catalogue,
                     s,
                     l,
                     n.variables,
@@ -470,10 +419,7 @@ impl Memory {
         &mut self,
         job: &[u8],
         at: usize,
-        marks: &[u8],
-        unions: &[u8],
-        t: &[u8],
-        k: Counts,
+        catalogue: &Catalogue,
         s: &mut [u8],
         clauses: &[u8],
         w: &[u8],
@@ -481,19 +427,17 @@ impl Memory {
         n: Counters,
     ) -> Option<Place>
         requires at_in_bounds { (at < length job.now) × (length job.now ≤ 65536) }
-        requires catalogued { Catalogued k marks.now unions.now t.now }
         requires fits { Fits l (length s.old) }
-        requires reaches { Reaches (catalogue k marks.now unions.now t.now) l n (held l s.old) clauses.now w.now }
-        requires listed { Listed (tables k t.now).conditions self.old.listing }
-        ensures took { TookAt (catalogue k marks.now unions.now t.now) self.old.settled self.old.blocking l job.now at n (held l s.old) clauses.now w.now result (held l s.new) self.new.settled self.new.blocking }
+        requires reaches { Reaches (catalogue_of catalogue.now) l n (held l s.old) clauses.now w.now }
+        requires listed { Listed (tables_of catalogue.now).conditions self.old.listing }
+        ensures took { TookAt (catalogue_of catalogue.now) self.old.settled self.old.blocking l job.now at n (held l s.old) clauses.now w.now result (held l s.new) self.new.settled self.new.blocking }
         ensures same { self.new.listing ≡ self.old.listing }
     {
-        let next = reader::next_at(job, at);
-        match reader::record_at(job, at, true) {
-            Record::Refused(_) | Record::Item => None,
-            Record::Sheet => {
-                let command = reader::command_at(job, at, next);
-                self.take_command(marks, unions, t, k, s, clauses, w, l, n, next, command)
+        let (record, next) = Reader { job, at }.read(true).ok()?;
+        match record {
+            Record::Item(_) => None,
+            Record::Sheet(command) => {
+                self.take_command(catalogue, s, clauses, w, l, n, next, command)
             }
         }
     }
@@ -503,10 +447,7 @@ impl Memory {
         &mut self,
         job: &[u8],
         from: usize,
-        marks: &[u8],
-        unions: &[u8],
-        t: &[u8],
-        k: Counts,
+        catalogue: &Catalogue,
         s: &mut [u8],
         clauses: &[u8],
         w: &[u8],
@@ -514,18 +455,16 @@ impl Memory {
         n: Counters,
     ) -> Place
         requires from_in_bounds { (from < length job.now) × (length job.now ≤ 65536) }
-        requires catalogued { Catalogued k marks.now unions.now t.now }
         requires fits { Fits l (length s.old) }
-        requires stands { Stands (catalogue k marks.now unions.now t.now) self.old.settled self.old.blocking l n (held l s.old) clauses.now w.now }
-        requires listed { Listed (tables k t.now).conditions self.old.listing }
-        ensures went_on { WentOn (catalogue k marks.now unions.now t.now) self.old.settled self.old.blocking l job.now from n (held l s.old) clauses.now w.now result (held l s.new) self.new.settled self.new.blocking }
+        requires stands { Stands (catalogue_of catalogue.now) self.old.settled self.old.blocking l n (held l s.old) clauses.now w.now }
+        requires listed { Listed (tables_of catalogue.now).conditions self.old.listing }
+        ensures went_on { WentOn (catalogue_of catalogue.now) self.old.settled self.old.blocking l job.now from n (held l s.old) clauses.now w.now result (held l s.new) self.new.settled self.new.blocking }
         ensures same { self.new.listing ≡ self.old.listing }
     {
         let mut at = from;
         let mut m = n;
         while at < job.len() {
-            let Some(place) = self.take_record(job, at, marks, unions, t, k, s, clauses, w, l, m)
-            else {
+            let Some(place) = self.take_record(job, at, catalogue, s, clauses, w, l, m) else {
                 break;
             };
             at = place.at;
@@ -544,10 +483,7 @@ impl Memory {
 pub fn carry_sheet(
     job: &[u8],
     from: usize,
-    marks: &[u8],
-    unions: &[u8],
-    t: &[u8],
-    k: Counts,
+    catalogue: &Catalogue,
     s: &mut [u8],
     clauses: &mut [u8],
     w: &mut [u8],
@@ -555,20 +491,19 @@ pub fn carry_sheet(
     n: Counters,
 ) -> Result<Counters, RefusedAt>
     requires job_len_bound { length job.now ≤ 65536 }
-    requires catalogued { Catalogued k marks.now unions.now t.now }
-    requires up_to_sheet { UpToSheet job.now from k marks.now unions.now t.now }
-    requires given { Given (catalogue k marks.now unions.now t.now) }
+    requires up_to_sheet { UpToSheet job.now from (counts_of catalogue.now) catalogue.now.index.areas.marks.now catalogue.now.index.areas.unions.now catalogue.now.index.areas.tables.area.now }
+    requires given { Given (catalogue_of catalogue.now) }
     requires fits { Fits l (length s.old) }
     requires long_enough { LongEnough l (length clauses.old) (length w.old) }
-    requires holds { Holds (catalogue k marks.now unions.now t.now) l start n (held l s.old) clauses.old w.old }
-    ensures { SheetDid (catalogue k marks.now unions.now t.now) l job.now from result (held l s.new) clauses.new w.new }
+    requires holds { Holds (catalogue_of catalogue.now) l start n (held l s.old) clauses.old w.old }
+    ensures { SheetDid (catalogue_of catalogue.now) l job.now from result (held l s.new) clauses.new w.new }
 {
     let mut memory = Memory::new();
     let mut goals = [false; 640];
     let mut at = from;
     let mut m = n;
     while at < job.len() {
-        let place = memory.take_records(job, at, marks, unions, t, k, s, clauses, w, l, m);
+        let place = memory.take_records(job, at, catalogue, s, clauses, w, l, m);
         at = place.at;
         m.added = place.added;
         m.decisions = place.decisions;
@@ -576,9 +511,7 @@ pub fn carry_sheet(
             break;
         }
         let next = memory
-            .carry_record(
-                job, at, marks, unions, t, k, s, clauses, w, l, m, &mut goals,
-            )
+            .carry_record(job, at, catalogue, s, clauses, w, l, m, &mut goals)
             .map_err(|refusal| RefusedAt { refusal, at })?;
         memory.note(next.command);
         at = next.at;

@@ -1,11 +1,12 @@
 -- `check` against the definitions: a law for each way out of each function.
-use mathlib.Core.Path.{◌≡◌, sym, ◌∙◌, ap}
+use mathlib.Core.Path.{◌≡◌, refl, sym, ◌∙◌, ap}
 use mathlib.Core.Bool.{Bool, true, false}
 use mathlib.Core.List.{List}
 use Prim.Native.Nat.{ℕ, ◌+◌, ◌<◌, ◌≤◌}
 use native.Mathlib.Omega.{arith}
 use native.Mathlib.Decide.{dec_lt}
 use lib.Dec.{leb}
+use Rattle.std.specs.Prelude.{Result, Ok, Err}
 use lib.ListN.{length, get_or, drop}
 use borrow.Author.Tests.{lt-ltb, le-ltb, leb-true}
 use Rattle.rules.proofs.Bools.{and_left, and_right}
@@ -17,32 +18,21 @@ use Rattle.rules.specs.State.{start}
 use Rattle.rules.specs.Limits as rules
 use Rattle.rules.specs.Limits.{allowed, marks_area, unions_area, catalogue_area, needed, covers, fits}
 use Rattle.rules.specs.Job.{Progress, reading, carrying, stopped, walk, begun_with, progress, accepts, refuses, starts_sheet, check_step, checked, check_answer}
-use Rattle.refusal.specs.declared.Refusal.{Refusal}
+use Rattle.refusal.specs.declared.RefusedAt.{RefusedAt}
 use Rattle.refusal.specs.declared.Refusal.TheVariants.{Unfit, Overlong}
 use Rattle.refusal.specs.Refusing.{refusal_of}
-use Rattle.tables.specs.declared.Counts.{Counts}
 use Rattle.cache.specs.Areas.{catalogue}
 use Rattle.catalogue.specs.declared.Read.{Read}
 use Rattle.catalogue.specs.Walking.{place_of, progress_of, ReadUp}
 use Rattle.terms.specs.declared.Answer.{Answer}
-use Rattle.terms.specs.declared.Limits.{Limits}
+use Rattle.state.specs.declared.Limits.{Limits}
 use Rattle.terms.specs.declared.Lent.{Lent}
-use Rattle.terms.specs.Terms.{limits_of, lent_of, terms_of}
+use Rattle.terms.specs.Terms.{lent_of, terms_of}
+use Rattle.state.specs.Limits.{limits_of}
 use Rattle.terms.specs.Answers.{Gives}
-use Rattle.terms.proofs.Terms.{same_fits}
-use Rattle.checking.specs.Areas.{Zeroed, Long}
-use Rattle.checking.specs.Checking.{told_of, CatalogueChecked, Lends, Checked}
-
--- ---- the answer
-
-pub told_sheet : (n : ℕ) (read : Read) (at : ℕ) (k : Counts) (r : Answer) → read ≡ Read.Sheet at k → Gives r (accepts 0 0 0) → Gives r (told_of n read)
-unfolding told_of
-told_sheet n read at k r e g = rw e g
-
-pub told_refused : (n : ℕ) (read : Read) (f : Refusal) (at : ℕ) (r : Answer) → read ≡ Read.Refused f at
-    → Gives r (refuses (number_and_place n at (refusal_of f)).0 (number_and_place n at (refusal_of f)).1) → Gives r (told_of n read)
-unfolding told_of
-told_refused n read f at r e g = rw e g
+use Rattle.terms.proofs.Fits.{same_fits}
+use Rattle.checking.specs.Areas.{Long}
+use Rattle.checking.specs.Checking.{told_of, ReadWithin, Lends}
 
 -- ---- the catalogue
 
@@ -67,37 +57,28 @@ module _ (z : rules.Terms) (job : List ℕ) where
   unfolding checked
   stops n at = ap checked (walk_still (check_step z job) (stopped n) ((check_reads z job).over n) 0 at (drop at job))
 
-  told_is : (read : Read) (m u t : List ℕ) → ReadUp job read m u t → checked from_start ≡ told_of (length job) read
+  told_is : (read : Result Read RefusedAt) (m u t : List ℕ) → ReadUp job read m u t → checked from_start ≡ told_of (length job) read
   unfolding told_of place_of progress_of
-  told_is (Read.Sheet at k) m u t r = ap checked (r.same.check z) ∙ stays (catalogue k m u t) at r.ended.starts
-  told_is (Read.Refused f at) m u t r = ap checked (r.same.check z) ∙ stops (number_and_place (length job) at (refusal_of f)) at
+  told_is (Ok r) m u t x = ap checked (x.same.check z) ∙ stays (catalogue r.counts m u t) r.at x.ended.starts
+  told_is (Err f) m u t x = ap checked (x.same.check z) ∙ stops (number_and_place (length job) f.at (refusal_of f.refusal)) f.at
 
-pub catalogue_told : (job m u t : List ℕ) (read : Read) (r : Answer) → ReadUp job read m u t → Gives r (told_of (length job) read)
-    → (z : rules.Terms) → Gives r (checked (walk (check_step z job) 0 0 job (reading empty_catalogue)))
-catalogue_told job m u t read r x g z = rw (told_is z job read m u t x) g
+-- ---- the terms and the job's length
 
--- ---- the catalogue's three areas
-
-module _ (job : List ℕ) (l : Limits) (x : Lent) (m u t m' u' t' : List ℕ) (b : Bool) (e : b ≡ fits (terms_of (limits_of l) (lent_of x) 0)) where
+module _ (job : List ℕ) (l : Limits) (x : Lent) (b : Bool) (e : b ≡ fits (terms_of (limits_of l) (lent_of x) 0)) where
   fitting : (listing : ℕ) → b ≡ fits (terms_of (limits_of l) (lent_of x) listing)
   fitting listing = e ∙ sym (same_fits (limits_of l) (lent_of x) listing)
 
-  pub check_unfit : (r : Answer) → b ≡ false → Zeroed m m' → Zeroed u u' → Zeroed t t'
-      → Gives r (refuses (number_and_place (length job) 0 (refusal_of Unfit)).0 (number_and_place (length job) 0 (refusal_of Unfit)).1)
-      → Checked job (limits_of l) (lent_of x) r m u t m' u' t'
-  unfolding check_answer checked progress begun_with unless_any refusal_of
-  check_unfit r h p q s g = record { gives = λ n. rw (← fitting n, h, unless_any) g; marks = p; unions = q; tables = s }
+  pub read_unfit : b ≡ false → ReadWithin job (limits_of l) (lent_of x) (Err (record { refusal = Unfit; at = 0 }))
+  unfolding check_answer checked progress begun_with unless_any refusal_of told_of
+  read_unfit h = record { is = λ n. rw (← fitting n, h, unless_any) refl }
 
-  pub check_overlong : (r : Answer) → b ≡ true → 65536 < length job → Zeroed m m' → Zeroed u u' → Zeroed t t'
-      → Gives r (refuses (number_and_place (length job) 0 (refusal_of Overlong)).0 (number_and_place (length job) 0 (refusal_of Overlong)).1)
-      → Checked job (limits_of l) (lent_of x) r m u t m' u' t'
-  unfolding check_answer checked progress begun_with unless_any refusal_of
-  check_overlong r h k p q s g = record { gives = λ n. rw (← fitting n, h, lt-ltb 65536 (length job) k, unless_any) g; marks = p; unions = q; tables = s }
+  pub read_overlong : b ≡ true → 65536 < length job → ReadWithin job (limits_of l) (lent_of x) (Err (record { refusal = Overlong; at = 0 }))
+  unfolding check_answer checked progress begun_with unless_any refusal_of told_of
+  read_overlong h k = record { is = λ n. rw (← fitting n, h, lt-ltb 65536 (length job) k, unless_any) refl }
 
-  pub check_read : (r : Answer) → b ≡ true → length job ≤ 65536 → CatalogueChecked job r m u t m' u' t' → Checked job (limits_of l) (lent_of x) r m u t m' u' t'
+  pub read_up : b ≡ true → length job ≤ 65536 → (read : Result Read RefusedAt) (m u t : List ℕ) → ReadUp job read m u t → ReadWithin job (limits_of l) (lent_of x) read
   unfolding check_answer progress begun_with unless_any
-  check_read r h k c =
-      record { gives = λ n. rw (← fitting n, h, le-ltb 65536 (length job) k, unless_any) (c.gives _); marks = c.marks; unions = c.unions; tables = c.tables }
+  read_up h k read m u t r = record { is = λ n. rw (← fitting n, h, le-ltb 65536 (length job) k, unless_any) (told_is _ job read m u t r) }
 
 pub long_enough : (l : Limits) (x : Lent) (m u t : List ℕ) (b : Bool) → Lends x m u t → b ≡ fits (terms_of (limits_of l) (lent_of x) 0) → b ≡ true → Long m u t
 unfolding fits terms_of covers needed limits_of lent_of marks_area unions_area catalogue_area
@@ -109,3 +90,22 @@ long_enough l x m u t b h e f =
     let g₂ = and_right (leb 52428 x.unions) _ g₁ in
     let t₁ = leb-true 50696 x.catalogue (and_left _ _ g₂) in
     record { marks = rw h.marks at m₁; unions = rw h.unions at u₁; tables = rw h.tables at t₁ }
+
+pub long_lengths : (l : Limits) (x : Lent) (m u t : List ℕ) (b : Bool) → Lends x m u t → b ≡ fits (terms_of (limits_of l) (lent_of x) 0) → b ≡ true
+    → (65536 ≤ length m) × (52428 ≤ length u) × (50696 ≤ length t)
+long_lengths l x m u t b h e f = let g = long_enough l x m u t b h e f in (g.marks, g.unions, g.tables)
+
+-- ---- the answer
+
+pub told_ok : (n : ℕ) (read : Result Read RefusedAt) (x : Read) (r : Answer) → read ≡ Ok x → Gives r (accepts 0 0 0) → Gives r (told_of n read)
+unfolding told_of
+told_ok n read x r e g = rw e g
+
+pub told_err : (n : ℕ) (read : Result Read RefusedAt) (f : RefusedAt) (r : Answer) → read ≡ Err f
+    → Gives r (refuses (number_and_place n f.at (refusal_of f.refusal)).0 (number_and_place n f.at (refusal_of f.refusal)).1) → Gives r (told_of n read)
+unfolding told_of
+told_err n read f r e g = rw e g
+
+pub told_within : (job : List ℕ) (l : rules.Limits) (lent : List ℕ) (read : Result Read RefusedAt) (r : Answer) → ReadWithin job l lent read
+    → Gives r (told_of (length job) read) → (listing : ℕ) → Gives r (check_answer (terms_of l lent listing) job)
+told_within job l lent read r w g n = rw (w.is n) g

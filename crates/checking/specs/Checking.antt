@@ -1,10 +1,10 @@
 -- What `check` says of a job, and how it leaves the catalogue's three areas.
-use Rattle.std.specs.Prelude.{◌≡◌, List, ℕ, length}
-use Rattle.rules.specs.Catalogue.{empty_catalogue}
+use Rattle.std.specs.Prelude.{◌≡◌, List, ℕ, length, Result, Ok, Err}
 use Rattle.rules.specs.Refusals.{number_and_place}
 use Rattle.rules.specs.Limits as rules
-use Rattle.rules.specs.Job.{reading, walk, accepts, refuses, check_step, checked, check_answer}
+use Rattle.rules.specs.Job.{accepts, refuses, check_answer}
 use Rattle.rules.specs.Job as job
+use Rattle.refusal.specs.declared.RefusedAt.{RefusedAt}
 use Rattle.refusal.specs.Refusing.{refusal_of}
 use Rattle.catalogue.specs.declared.Read.{Read}
 use Rattle.terms.specs.declared.Answer.{Answer}
@@ -14,16 +14,13 @@ use Rattle.terms.specs.Answers.{Gives}
 use Rattle.checking.specs.Areas.{Zeroed}
 
 -- what `check` says of a catalogue that was read
-unfoldable pub told_of : (length : ℕ) → Read → job.Answer
-told_of n (Read.Sheet at k) = accepts 0 0 0
-told_of n (Read.Refused f at) = refuses (number_and_place n at (refusal_of f)).0 (number_and_place n at (refusal_of f)).1
+unfoldable pub told_of : (length : ℕ) → Result Read RefusedAt → job.Answer
+told_of n (Ok r) = accepts 0 0 0
+told_of n (Err f) = refuses (number_and_place n f.at (refusal_of f.refusal)).0 (number_and_place n f.at (refusal_of f.refusal)).1
 
--- a job that is not too long, in areas that are long enough
-pub record CatalogueChecked (job : List ℕ) (r : Answer) (m u t m' u' t' : List ℕ) : Type 0 where
-  pub gives : (z : rules.Terms) → Gives r (checked (walk (check_step z job) 0 0 job (reading empty_catalogue)))
-  pub marks : Zeroed m m'
-  pub unions : Zeroed u u'
-  pub tables : Zeroed t t'
+-- what was read decides the answer, under any length of the listing area
+pub record ReadWithin (job : List ℕ) (l : rules.Limits) (lent : List ℕ) (read : Result Read RefusedAt) : Type 0 where
+  pub is : (listing : ℕ) → check_answer (terms_of l lent listing) job ≡ told_of (length job) read
 
 -- the lengths are those of the areas
 pub record Lends (x : Lent) (m u t : List ℕ) : Type 0 where

@@ -2,25 +2,16 @@
 // The areas are zero on every way out.
 #![tactic(auto)]
 
-ghost use Rattle.std.specs.Prelude.{◌≤◌, length};
-ghost use Rattle.terms.specs.Terms.{limits_of, lent_of};
+ghost use Rattle.std.specs.Prelude.{length};
+ghost use Rattle.terms.specs.Terms.{lent_of};
+ghost use Rattle.state.specs.Limits.{limits_of};
 ghost use Rattle.terms.specs.Answers.{Gives};
-ghost use Rattle.checking.specs.Areas.{Zeroed, Long};
-ghost use Rattle.checking.specs.Checking.{told_of, CatalogueChecked, Lends, Checked};
+ghost use Rattle.checking.specs.Areas.{Zeroed};
+ghost use Rattle.checking.specs.Checking.{told_of, ReadWithin, Lends, Checked};
 
 use catalogue::Read;
-use refusal::Refusal;
-use terms::{Answer, Lent, Limits};
-
-// What `check` says of a catalogue that was read.
-fn told(length: usize, read: Read) -> Answer
-    ensures { Gives result (told_of length read) }
-{
-    match read {
-        Read::Sheet { at: _, counts: _ } => terms::accepted(0, 0, 0),
-        Read::Refused { refusal, at } => terms::refused(length, at, refusal),
-    }
-}
+use refusal::{Refusal, RefusedAt};
+use terms::{Answer, Terms};
 
 // ---- areas
 
@@ -40,39 +31,54 @@ pub fn clear_three(a: &mut [u8], b: &mut [u8], c: &mut [u8])
 
 // ---- check
 
-// A job that is not too long, in areas that are long enough.
-fn check_catalogue(job: &[u8], marks: &mut [u8], unions: &mut [u8], t: &mut [u8]) -> Answer
-    requires long { Long marks.old unions.old t.old }
-    requires job_len_bound { length job.now ≤ 65536 }
-    ensures { CatalogueChecked job.now result marks.old unions.old t.old
-        marks.new unions.new t.new }
+// The catalogue of a job, read when the terms fit and the job is not too long.
+fn read_within<'a>(
+    job: &[u8],
+    terms: Terms,
+    marks: &'a mut [u8],
+    unions: &'a mut [u8],
+    t: &'a mut [u8],
+) -> Result<Read, RefusedAt>
+    requires { Lends terms.lent marks.old unions.old t.old }
+    ensures { ReadWithin job.now (limits_of terms.limits) (lent_of terms.lent) result }
 {
-    let read = catalogue::read_catalogue(job, marks, unions, t);
-    clear(marks);
-    clear(unions);
-    clear(t);
-    told(job.len(), read)
+    if !terms.fit() {
+        return Err(RefusedAt {
+            refusal: Refusal::Unfit,
+            at: 0,
+        });
+    }
+    if 65536 < job.len() {
+        return Err(RefusedAt {
+            refusal: Refusal::Overlong,
+            at: 0,
+        });
+    }
+    catalogue::read_catalogue(job, marks, unions, t)
+}
+
+// What `check` says of a catalogue that was read.
+fn told(length: usize, read: Result<Read, RefusedAt>) -> Answer
+    ensures { Gives result (told_of length read) }
+{
+    match read {
+        Ok(_) => Answer::accepted(0, 0, 0),
+        Err(refused) => Answer::refused(length, refused),
+    }
 }
 
 pub fn check_within(
     job: &[u8],
-    l: Limits,
-    lent: Lent,
+    terms: Terms,
     marks: &mut [u8],
     unions: &mut [u8],
     t: &mut [u8],
 ) -> Answer
-    requires { Lends lent marks.old unions.old t.old }
-    ensures { Checked job.now (limits_of l) (lent_of lent) result marks.old unions.old t.old
-        marks.new unions.new t.new }
+    requires { Lends terms.lent marks.old unions.old t.old }
+    ensures { Checked job.now (limits_of terms.limits) (lent_of terms.lent) result
+        marks.old unions.old t.old marks.new unions.new t.new }
 {
-    if terms::lends_enough(l, lent) {
-        if 65536 < job.len() {
-            clear_three(marks, unions, t);
-            return terms::refused(job.len(), 0, Refusal::Overlong);
-        }
-        return check_catalogue(job, marks, unions, t);
-    }
+    let read = read_within(job, terms, marks, unions, t);
     clear_three(marks, unions, t);
-    terms::refused(job.len(), 0, Refusal::Unfit)
+    told(job.len(), read)
 }

@@ -3,13 +3,10 @@ use mathlib.Core.Path.{◌≡◌, refl, ◌∙◌, ap}
 use mathlib.Core.Bool.{Bool, true, false}
 use Prim.Native.Nat.{ℕ, zero, suc, ◌+◌, ◌*◌, ◌-◌, ◌/◌, ◌%◌, ◌<◌}
 use native.Mathlib.Omega.{arith}
-use lib.Dec.{eqb}
 use borrow.Author.Tests.{eq-eqb, ne_eqb}
 use Rattle.rules.specs.Literal.{opposite}
 use Rattle.clause.specs.declared.Literal.{Literal}
-use Rattle.clause.specs.declared.Value.{Value}
-use Rattle.clause.specs.declared.Value.TheVariants.{Undecided, False, True}
-use Rattle.clause.specs.Literals.{signed, literal_of, held}
+use Rattle.clause.specs.Literals.{signed, literal_of}
 
 abbrev coded : ℕ → Literal
 coded n = record { code = n }
@@ -32,14 +29,6 @@ new_negative x b e =
     let h : (2 * x + 1) / 2 ≡ x = omega arith in
     odd (2 * x + 1) (λ z. omega arith) ∙ rw (h, e)
 
-pub variable_is : (l : Literal) → l.code / 2 ≡ (literal_of l).variable
-unfolding literal_of signed
-variable_is l = refl
-
-pub positive_is : (l : Literal) → eqb (l.code % 2) 0 ≡ (literal_of l).positive
-unfolding literal_of signed
-positive_is l = refl
-
 pub negate_positive : (l : Literal) → l.code % 2 ≡ 0 → literal_of (coded (l.code + 1)) ≡ opposite (literal_of l)
 unfolding signed
 negate_positive l e =
@@ -58,26 +47,3 @@ negate_negative l e =
     below zero l e = absurd (e refl)
     below (suc zero) l e = refl
     below (suc (suc n)) l e = omega arith
-
--- ---- a literal against its variable's value
-
-module _ (l : Literal) (v : Value) where
-  pub eval_undecided : v ≡ Undecided → Undecided ≡ held (literal_of l) v
-  unfolding held
-  eval_undecided e = rw e
-
-  pub eval_false_positive : v ≡ False → l.code % 2 ≡ 0 → False ≡ held (literal_of l) v
-  unfolding held signed
-  eval_false_positive e p = rw (e, even l.code p)
-
-  pub eval_false_negative : v ≡ False → (l.code % 2 ≡ 0 → ⊥) → True ≡ held (literal_of l) v
-  unfolding held signed
-  eval_false_negative e p = rw (e, odd l.code p)
-
-  pub eval_true_positive : v ≡ True → l.code % 2 ≡ 0 → True ≡ held (literal_of l) v
-  unfolding held signed
-  eval_true_positive e p = rw (e, even l.code p)
-
-  pub eval_true_negative : v ≡ True → (l.code % 2 ≡ 0 → ⊥) → False ≡ held (literal_of l) v
-  unfolding held signed
-  eval_true_negative e p = rw (e, odd l.code p)

@@ -11,15 +11,8 @@ pub struct Literal {
     pub code: u16,
 }
 
-// What the decisions say of a variable, or of a literal.
-#[derive(Clone, Copy)]
-pub enum Value {
-    Undecided,
-    False,
-    True,
-}
-
 impl Literal {
+    #[tactic(auto, using(crate::proofs::Laws::new_positive, crate::proofs::Laws::new_negative))]
     pub fn new(variable: u16, positive: bool) -> Self
         requires { variable < 32768 }
         ensures { literal_of result ≡ signed variable positive }
@@ -33,18 +26,21 @@ impl Literal {
         }
     }
 
+    #[tactic(auto, unfolding(crate::specs::Literals::literal_of, crate::specs::Literals::signed))]
     pub fn variable(self) -> u16
         ensures { result ≡ (literal_of self).variable }
     {
         self.code / 2
     }
 
+    #[tactic(auto, unfolding(crate::specs::Literals::literal_of, crate::specs::Literals::signed))]
     pub fn positive(self) -> bool
         ensures { result ≡ (literal_of self).positive }
     {
         self.code % 2 == 0
     }
 
+    #[tactic(auto, using(crate::proofs::Laws::negate_positive, crate::proofs::Laws::negate_negative))]
     pub fn negate(self) -> Self
         ensures { literal_of result ≡ opposite (literal_of self) }
     {
@@ -56,26 +52,11 @@ impl Literal {
         }
     }
 
-    // The literal against what its variable was decided to be.
-    pub fn eval(self, value: Value) -> Value
+    // The literal against what its variable was decided to be, if it was.
+    #[tactic(auto, unfolding(crate::specs::Literals::held))]
+    pub fn eval(self, value: Option<bool>) -> Option<bool>
         ensures { result ≡ held (literal_of self) value }
     {
-        match value {
-            Value::Undecided => Value::Undecided,
-            Value::False => {
-                if self.code % 2 == 0 {
-                    Value::False
-                } else {
-                    Value::True
-                }
-            }
-            Value::True => {
-                if self.code % 2 == 0 {
-                    Value::True
-                } else {
-                    Value::False
-                }
-            }
-        }
+        value.map(|v| v == self.positive())
     }
 }

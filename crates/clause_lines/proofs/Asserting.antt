@@ -1,4 +1,4 @@
--- Which rows assert a variable false, and the line of one that does.
+-- Which clauses assert a variable false, and the line of one that does.
 use mathlib.Core.Path.{◌≡◌, refl, ◌∙◌}
 use mathlib.Core.Bool.{Bool, true, false, ◌&&◌, cond}
 use mathlib.Core.List.{List, [], ◌∷◌, append-nil}
@@ -9,32 +9,37 @@ use lib.Dec.{eqb}
 use lib.ListN.{length, get_or, drop, length-map, length-drop}
 use lib.Seq.{length-take-le}
 use borrow.Author.Tests.{ne_eqb}
+use Rattle.std.specs.Prelude.{Option, Some, None}
+use Rattle.std.specs.Bool.{then_some}
 use Rattle.rules.specs.Lists.{concat_map}
 use Rattle.rules.specs.Literal.{Literal}
-use Rattle.rules.specs.Clause.{Clause, install, owner_alone, asserted}
+use Rattle.rules.specs.Clause.{install, owner_alone, asserted}
 use Rattle.rules.specs.Catalogue.{Catalogue}
 use Rattle.rules.specs.Candidates.{candidates}
-use Rattle.rules.specs.Items.{goal_of}
 use Rattle.rules.specs.Variables.{Origin, part_variable}
 use Rattle.rules.specs.Listing.{ascii, decimal, line}
 use Rattle.text.specs.declared.Writer.{Writer}
 use Rattle.text.specs.Writing.{Writes}
 use Rattle.text.proofs.Writing.{nothing}
 use Rattle.requirement.specs.declared.Requirement.{Requirement}
-use Rattle.requirement.specs.Requirements as requirement
-use Rattle.tables.specs.declared.Counts.{Counts}
-use Rattle.cache.specs.Areas.{catalogue}
+use Rattle.requirement.specs.Requirements.{goal_of}
 use Rattle.regions.specs.Regions.{size_of}
 use Rattle.state.specs.declared.Limits.{Limits}
-use Rattle.state.specs.Layout.{sizes, held}
+use Rattle.state.specs.Layout.{sizes, held, Fits}
 use Rattle.state.proofs.Changed.{length_held}
 use Rattle.variable_map.specs.Mapping.{variables}
+use Rattle.solver.specs.declared.Clause.{Clause}
+use Rattle.solver.specs.declared.Clause.TheVariants.{Install, Requires, Gated, Excluded, Unknown, Constrains, Forbid, AuxOut, AuxOwner, Lock, AnyGate, AnyOne}
 use Rattle.solver.specs.declared.Stored.{Stored}
-use Rattle.solver.specs.Rows.{Row, no_row, row_of, rows}
+use Rattle.solver.specs.Clauses.{Says}
+use Rattle.solver.specs.Rows.{no_row, row_of, rows}
 use Rattle.encoder.specs.declared.Counters.{Counters}
-use Rattle.encoder.specs.Held.{literals_in, goal_variables, clause_in}
-use Rattle.line_fields.specs.Listed.{asserts_in, assertion_text, clauses_of, Ready, GoodRows}
-use Rattle.clause_lines.proofs.Clauses.{clause_at, row_sound}
+use Rattle.encoder.specs.Clauses.{candidate_variables, clause_is}
+use Rattle.encoder.specs.Held.{literals_in}
+use Rattle.encoder.proofs.Clauses.{says_clause}
+use Rattle.line_fields.specs.Listed.{assertion_text, clauses_of, GoodRows}
+use Rattle.clause_lines.specs.Asserted.{asserted_by}
+use Rattle.clause_lines.proofs.Clauses.{clause_at, row_sound, stored_within}
 
 -- a count up to 1
 pub none_counted : (n m : ℕ) → n ≡ min m 1 → eqb n 0 ≡ eqb m 0
@@ -43,31 +48,18 @@ none_counted n m e = elim (ℕ_discrete m 0) [
   | no z ↦ rw (ne_eqb n 0 (λ q. omega arith), ne_eqb m 0 z)
 ]
 
--- ---- does a row assert? by its kind
+-- ---- an owner's clause
 
-module _ (c : Catalogue) (x : Stored) where
-  pub asserts_alone : (b : Bool) (g : Requirement) → x.kind ≡ 1 → x.count ≡ 0 → requirement.goal_of g ≡ goal_of x.form x.number
-      → b ≡ eqb (length (candidates c (requirement.goal_of g))) 0 → b ≡ asserts_in c (row_of x)
-  unfolding asserts_in row_of
-  asserts_alone b g e d h i = rw (e, d, ← h) i
+module _ (c : Catalogue) {k : Clause} (o start count : ℕ) (g : Requirement) (e : k ≡ Requires o start count g) where
+  pub literals_assert : (count ≡ 0 → ⊥) → None ≡ asserted_by c k
+  unfolding asserted_by
+  literals_assert d = rw (e, ne_eqb count 0 d)
 
-  pub asserts_literals : x.kind ≡ 1 → (x.count ≡ 0 → ⊥) → false ≡ asserts_in c (row_of x)
-  unfolding asserts_in row_of
-  asserts_literals e d = rw (e, ne_eqb x.count 0 d)
+  pub alone_asserts : {b : Bool} {r : Option ℕ} → count ≡ 0 → b ≡ eqb (length (candidates c (goal_of g))) 0 → r ≡ then_some b o → r ≡ asserted_by c k
+  unfolding asserted_by
+  alone_asserts d f h = rw (e, d, ← f) h
 
-  pub asserts_excluded : x.kind ≡ 3 → true ≡ asserts_in c (row_of x)
-  unfolding asserts_in row_of
-  asserts_excluded e = rw e
-
-  pub asserts_unknown : x.kind ≡ 4 → true ≡ asserts_in c (row_of x)
-  unfolding asserts_in row_of
-  asserts_unknown e = rw e
-
-  pub asserts_other : (x.kind ≡ 1 → ⊥) → (x.kind ≡ 3 → ⊥) → (x.kind ≡ 4 → ⊥) → false ≡ asserts_in c (row_of x)
-  unfolding asserts_in row_of
-  asserts_other e d f = rw (ne_eqb x.kind 1 e, ne_eqb x.kind 3 d, ne_eqb x.kind 4 f)
-
--- ---- what its clause asserts
+-- ---- what a clause asserts
 
 alone_is : (x : ℕ) (ks : List Literal) (ps : List ℕ) → owner_alone x ks ps ≡ cond (eqb (length ks) 0 && eqb (length ps) 0) (x ∷ []) []
 unfolding owner_alone
@@ -75,62 +67,58 @@ alone_is x [] [] = refl
 alone_is x [] (p ∷ ps) = rw (ne_eqb (length (p ∷ ps)) 0 (λ z. omega arith))
 alone_is x (k ∷ ks) ps = rw (ne_eqb (length (k ∷ ks)) 0 (λ z. omega arith))
 
-neither : (b : Bool) (k q : Clause) → asserted k ≡ [] → asserted q ≡ [] → asserted (cond b k q) ≡ []
-neither true k q e f = e
-neither false k q e f = f
+-- none or one
+abbrev as_list : Option ℕ → List ℕ
+as_list None = []
+as_list (Some x) = x ∷ []
 
-module _ (c : Catalogue) (vs : List Origin) (w : List ℕ) (r : Row) where
-  literals_counted : r.start + r.count ≤ length w → length (literals_in w r.start r.count) ≡ r.count
+as_list_if : (b : Bool) (x : ℕ) → cond b (x ∷ []) [] ≡ as_list (then_some b x)
+as_list_if true x = refl
+as_list_if false x = refl
+
+module _ (c : Catalogue) (vs : List Origin) (w : List ℕ) where
+  literals_counted : (start count : ℕ) → start + count ≤ length w → length (literals_in w start count) ≡ count
   unfolding literals_in
-  literals_counted h = rw length-map (length-take-le r.count (drop r.start w) (rw length-drop (omega arith)))
+  literals_counted start count h = rw length-map (length-take-le count (drop start w) (rw length-drop (omega arith)))
 
-  variables_counted : length (goal_variables c vs r.form r.number) ≡ length (candidates c (goal_of r.form r.number))
-  unfolding goal_variables
-  variables_counted = length-map (candidates c (goal_of r.form r.number)) (part_variable vs)
+  variables_counted : (g : Requirement) → length (candidate_variables c vs (goal_of g)) ≡ length (candidates c (goal_of g))
+  unfolding candidate_variables
+  variables_counted g = length-map (candidates c (goal_of g)) (part_variable vs)
 
-  asserted_is : (r.kind ≡ 1 → r.start + r.count ≤ length w) → asserted (clause_in c vs w r) ≡ cond (asserts_in c r) (r.first ∷ []) []
-  unfolding clause_in asserted asserts_in
-  asserted_is h = elim (ℕ_discrete r.kind 0) [
-    | yes e ↦ rw e
-    | no e0 ↦ elim (ℕ_discrete r.kind 1) [
-      | yes e ↦
-          rw e (alone_is r.first (literals_in w r.start r.count) (goal_variables c vs r.form r.number) ∙ rw (literals_counted (h e), variables_counted))
-      | no e1 ↦ elim (ℕ_discrete r.kind 2) [
-        | yes e ↦ rw e
-        | no e2 ↦ elim (ℕ_discrete r.kind 3) [
-          | yes e ↦ rw e
-          | no e3 ↦ elim (ℕ_discrete r.kind 4) [
-            | yes e ↦ rw e
-            | no e4 ↦
-                rw (ne_eqb r.kind 0 e0, ne_eqb r.kind 1 e1, ne_eqb r.kind 2 e2, ne_eqb r.kind 3 e3, ne_eqb r.kind 4 e4)
-                (neither (eqb r.kind 5) _ _ refl
-                (neither (eqb r.kind 6) _ _ refl
-                (neither (eqb r.kind 7) _ _ refl
-                (neither (eqb r.kind 8) _ _ refl (neither (eqb r.kind 9) _ _ refl (neither (eqb r.kind 10) _ _ refl refl))))))
-          ]
-        ]
-      ]
-    ]
-  ]
+  asserted_is : (k : Clause) → ((o start count : ℕ) (g : Requirement) → k ≡ Requires o start count g → start + count ≤ length w)
+      → asserted (clause_is c vs w k) ≡ as_list (asserted_by c k)
+  unfolding asserted clause_is asserted_by
+  asserted_is Install h = refl
+  asserted_is (Requires o start count g) h =
+      alone_is o (literals_in w start count) (candidate_variables c vs (goal_of g))
+      ∙ rw (literals_counted start count (h o start count g refl), variables_counted g) (as_list_if (eqb count 0 && eqb (length (candidates c (goal_of g))) 0) o)
+  asserted_is (Gated x g) h = refl
+  asserted_is (Excluded x p) h = refl
+  asserted_is (Unknown x p) h = refl
+  asserted_is (Constrains o x) h = refl
+  asserted_is (Forbid x l) h = refl
+  asserted_is (AuxOut x v) h = refl
+  asserted_is (AuxOwner o v) h = refl
+  asserted_is (Lock x) h = refl
+  asserted_is (AnyGate g o) h = refl
+  asserted_is (AnyOne y x) h = refl
 
 -- ---- its line
 
-module _ (k : Counts) (m u t : List ℕ) (l : Limits) (n : Counters) (b cl : List ℕ) (i : ℕ) (x : Stored) (y : Bool)
-    (f : Ready k m u t l n b) (g : GoodRows (catalogue k m u t) l n (held l b) cl) (h : i < n.clauses) (e : row_of x ≡ get_or (rows n.clauses cl) i no_row)
-    (d : y ≡ asserts_in (catalogue k m u t) (row_of x)) where
-  here : asserted (get_or (clauses_of (catalogue k m u t) n (held l b) cl) i install) ≡ cond y (x.first ∷ []) []
+module _ (c : Catalogue) (l : Limits) (n : Counters) (b cl : List ℕ) (i : ℕ) (f : Fits l (length b)) (g : GoodRows c l n (held l b) cl) (h : i < n.clauses)
+    (x : Stored) (e : row_of x ≡ get_or (rows n.clauses cl) i no_row) (k : Clause) (s : Says k (row_of x)) {y : Option ℕ} (d : y ≡ asserted_by c k) where
+  here : asserted (get_or (clauses_of c n (held l b) cl) i install) ≡ as_list y
   here =
-      let s = row_sound (catalogue k m u t) n (held l b) cl i x e l g h in
-      let long : length (held l b 19) ≡ l.literals = length_held l b 19 f.fits ∙ unfold size_of sizes in refl in
-      rw (clause_at (catalogue k m u t) n (held l b) cl i x e, d)
-      (asserted_is (catalogue k m u t) (variables n.variables (held l b)) (held l b 19) (row_of x) (λ q. omega (arith, s.stored q, g.literals))
-      ∙ unfold row_of in refl)
+      let long : length (held l b 19) ≡ l.literals = length_held l b 19 f ∙ unfold size_of sizes in refl in
+      rw (clause_at c n (held l b) cl i x e, says_clause c (variables n.variables (held l b)) (held l b 19) k (row_of x) s, d)
+      (asserted_is c (variables n.variables (held l b)) (held l b 19) k
+      (λ o start count q z. omega (arith, stored_within (row_sound c n (held l b) cl i x e l g h) s o start count q z l.literals g.literals)))
 
-  pub assertion_yes : {w w1 : Writer} → y ≡ true → Writes w w1 (line ((110 ∷ []) ∷ decimal x.first ∷ decimal i ∷ []))
-      → Writes w w1 (assertion_text (clauses_of (catalogue k m u t) n (held l b) cl) i)
+  pub assertion_some : {w w1 : Writer} (v : ℕ) → y ≡ Some v → Writes w w1 (line ((110 ∷ []) ∷ decimal v ∷ decimal i ∷ []))
+      → Writes w w1 (assertion_text (clauses_of c n (held l b) cl) i)
   unfolding assertion_text concat_map ascii
-  assertion_yes q f = rw (here, q, concat_map, append-nil) f
+  assertion_some v q z = rw (here, q, concat_map, append-nil) z
 
-  pub assertion_no : (w : Writer) → y ≡ false → Writes w w (assertion_text (clauses_of (catalogue k m u t) n (held l b) cl) i)
+  pub assertion_none : (w : Writer) → y ≡ None → Writes w w (assertion_text (clauses_of c n (held l b) cl) i)
   unfolding assertion_text concat_map
-  assertion_no w q = rw (here, q, concat_map) (nothing w)
+  assertion_none w q = rw (here, q, concat_map) (nothing w)

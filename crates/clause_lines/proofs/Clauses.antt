@@ -4,25 +4,23 @@ use mathlib.Core.Bool.{Bool, true, false}
 use mathlib.Core.List.{List, [], ◌∷◌, map, map-append}
 use Prim.Native.Nat.{ℕ, ◌+◌, ◌<◌, ◌≤◌}
 use native.Mathlib.Omega.{arith}
-use lib.Dec.{eqb}
 use lib.ListN.{length, get_or, get_or-map}
-use borrow.Author.Tests.{ne_eqb}
-use Rattle.rules.specs.Clause.{Clause, install, literals}
+use Rattle.rules.specs.Clause as rules
+use Rattle.rules.specs.Clause.{install, literals}
 use Rattle.rules.specs.Catalogue.{Part, Catalogue, no_part, part_at, exclusion_reason}
 use Rattle.rules.specs.Candidates.{candidates}
-use Rattle.rules.specs.Items.{goal_of}
 use Rattle.rules.specs.Literal.{pos}
-use Rattle.rules.specs.Variables.{Origin, part_variable}
+use Rattle.rules.specs.Variables.{Origin, known, part_origin, part_variable}
 use Rattle.rules.specs.Listing.{ascii, decimal, signed, reason_number, word_fields, clause_fields}
-use Rattle.rules.proofs.Bools.{by_cases}
-use Rattle.rules.proofs.Each.{each_at}
+use Rattle.rules.proofs.Each.{Each, each_at}
+use Rattle.clause.specs.declared.Literal.{Literal}
 use Rattle.clause.specs.Literals as clause
 use Rattle.text.specs.Text.{fields, literal_of}
 use Rattle.text.specs.declared.Writer.{Writer}
 use Rattle.text.specs.Writing.{Writes}
 use Rattle.text.proofs.Writing.{fields_first, fields_then, line_is}
 use Rattle.requirement.specs.declared.Requirement.{Requirement}
-use Rattle.requirement.specs.Requirements as requirement
+use Rattle.requirement.specs.Requirements.{goal_of}
 use Rattle.tables.specs.declared.Counts.{Counts}
 use Rattle.tables.specs.Tables.{tables}
 use Rattle.tables.proofs.Listed.{listed_length}
@@ -30,119 +28,115 @@ use Rattle.cache.specs.Areas.{catalogue}
 use Rattle.cache.proofs.Laws.{part_held}
 use Rattle.state.specs.declared.Limits.{Limits}
 use Rattle.variable_map.specs.Mapping.{variables, AllKnown}
+use Rattle.solver.specs.declared.Clause.{Clause}
+use Rattle.solver.specs.declared.Clause.TheVariants as clauses
 use Rattle.solver.specs.declared.Stored.{Stored}
-use Rattle.solver.specs.Rows.{no_row, row_of, rows}
+use Rattle.solver.specs.Clauses.{Says}
+use Rattle.solver.specs.Rows.{Row, no_row, row_of, rows}
 use Rattle.encoder.specs.declared.Counters.{Counters}
-use Rattle.encoder.specs.Held.{literal_in, literals_in, goal_variables, clause_in, clauses_in, Sound}
+use Rattle.encoder.specs.Clauses.{candidate_variables, clause_is}
+use Rattle.encoder.specs.Held.{literals_in, clause_in, clauses_in, Sound}
+use Rattle.encoder.proofs.Clauses.{says_clause, says_sound, requires_sound, gated_sound}
 use Rattle.line_fields.specs.Listed.{part_text, clause_text, clauses_of, GoodRows}
 use Rattle.line_fields.proofs.Fields.{two_fields}
 use Rattle.clause_lines.specs.Spans.{goal_text}
 
--- ---- what holds of a sound row
+-- ---- what holds of a clause that was read from a sound row
 
-module _ (c : Catalogue) (vs : List Origin) (n : ℕ) (x : Stored) (s : Sound c vs n (row_of x)) where
-  pub stored_within : (l : ℕ) → x.kind ≡ 1 → n ≤ l → x.start + x.count ≤ l
-  unfolding row_of
-  stored_within l e h = omega (arith, s.stored e)
+module _ {c : Catalogue} {vs : List Origin} {m : ℕ} {r : Row} (s : Sound c vs m r) {k : Clause} (y : Says k r) where
+  module _ (o start count : ℕ) (g : Requirement) (e : k ≡ clauses.Requires o start count g) where
+    required : (start + count ≤ m) × Each (λ p. known vs (part_origin p) ≡ true) (candidates c (goal_of g))
+    required = requires_sound g o start count r.conflict (rw e at (says_sound r s k y))
 
-  module _ (g : Requirement) (d : requirement.goal_of g ≡ goal_of x.form x.number) where
-    pub requires_known : x.kind ≡ 1 → AllKnown vs (candidates c (requirement.goal_of g))
-    unfolding row_of
-    requires_known e = record { known = rw d (s.named e) }
+    pub stored_within : (l : ℕ) → m ≤ l → start + count ≤ l
+    stored_within l h = omega (arith, required.0)
 
-    pub gated_known : x.kind ≡ 2 → AllKnown vs (candidates c (requirement.goal_of g))
-    unfolding row_of
-    gated_known e = record { known = rw d (s.gated e) }
+    pub requires_known : AllKnown vs (candidates c (goal_of g))
+    requires_known = record { known = required.1 }
 
--- ---- fields by kind
+  pub gated_known : (x : ℕ) (g : Requirement) → k ≡ clauses.Gated x g → AllKnown vs (candidates c (goal_of g))
+  gated_known x g e = record { known = gated_sound g x r.conflict (rw e at (says_sound r s k y)) }
 
-module _ (c : Catalogue) (vs : List Origin) (w : List ℕ) (x : Stored) {a b : Writer} where
-  module _ (g : Requirement) (e : requirement.goal_of g ≡ goal_of x.form x.number) where
-    pub requires_fields : {d : Writer} → x.kind ≡ 1
-        → Writes a b (fields (ascii "requires" ∷ signed (literal_of x.first false) ∷ map signed (literals_in w x.start x.count)))
-        → Writes b d (goal_text c vs g) → Writes a d (fields (clause_fields c (clause_in c vs w (row_of x))))
-    unfolding clause_fields word_fields clause_in literals goal_variables row_of part_text goal_text
-    requires_fields h f i =
-        let ps = map (part_variable vs) (candidates c (goal_of x.form x.number)) in
-        rw (h, map-append signed (literals_in w x.start x.count) (map pos ps))
-        (fields_then (ascii "requires" ∷ signed (literal_of x.first false) ∷ map signed (literals_in w x.start x.count)) _ f (rw e at i))
+-- ---- fields by clause
 
-    pub gated_fields : {d : Writer} → x.kind ≡ 2 → Writes a b (fields (ascii "requires" ∷ signed (literal_of x.first false) ∷ []))
-        → Writes b d (goal_text c vs g) → Writes a d (fields (clause_fields c (clause_in c vs w (row_of x))))
-    unfolding clause_fields word_fields clause_in literals goal_variables row_of part_text goal_text
-    gated_fields h f i = rw h (fields_then (_ ∷ _ ∷ []) _ f (rw e at i))
+is : (c : Catalogue) (vs : List Origin) (w : List ℕ) (r : Row) {k : Clause} → Says k r → (j : Clause) → k ≡ j → clause_in c vs w r ≡ clause_is c vs w j
+is c vs w r {k} y j e = says_clause c vs w k r y ∙ ap (clause_is c vs w) e
 
-  pub install_fields : {d : Writer} → x.kind ≡ 0 → Writes a b (32 ∷ 105 ∷ 110 ∷ 115 ∷ 116 ∷ 97 ∷ 108 ∷ 108 ∷ [])
-      → Writes b d (32 ∷ signed (literal_of 0 true)) → Writes a d (fields (clause_fields c (clause_in c vs w (row_of x))))
-  unfolding clause_fields word_fields clause_in literals row_of ascii
-  install_fields e f g = rw e (two_fields f g)
+module _ (c : Catalogue) (vs : List Origin) (w : List ℕ) (r : Row) {k : Clause} (y : Says k r) {a b : Writer} where
+  module _ {d : Writer} where
+    pub install_fields : k ≡ clauses.Install → Writes a b (32 ∷ 105 ∷ 110 ∷ 115 ∷ 116 ∷ 97 ∷ 108 ∷ 108 ∷ []) → Writes b d (32 ∷ signed (literal_of 0 true))
+        → Writes a d (fields (clause_fields c (clause_in c vs w r)))
+    unfolding clause_fields word_fields clause_is literals ascii
+    install_fields e f g = rw (is c vs w r y _ e) (two_fields f g)
 
-  pub constrains_fields : x.kind ≡ 5
-      → Writes a b (fields ((99 ∷ 111 ∷ 110 ∷ 115 ∷ 116 ∷ 114 ∷ 97 ∷ 105 ∷ 110 ∷ 115 ∷ []) ∷ signed (literal_of x.first false) ∷ signed (literal_of x.second false) ∷ []))
-      → Writes a b (fields (clause_fields c (clause_in c vs w (row_of x))))
-  unfolding clause_fields word_fields clause_in literals row_of ascii
-  constrains_fields e f = rw e f
+    pub requires_fields : (o start count : ℕ) (g : Requirement) → k ≡ clauses.Requires o start count g
+        → Writes a b (fields (ascii "requires" ∷ signed (literal_of o false) ∷ map signed (literals_in w start count)))
+        → Writes b d (goal_text c vs g) → Writes a d (fields (clause_fields c (clause_in c vs w r)))
+    unfolding clause_fields word_fields clause_is literals candidate_variables part_text goal_text
+    requires_fields o start count g e f h =
+        rw (is c vs w r y _ e, map-append signed (literals_in w start count) (map pos (map (part_variable vs) (candidates c (goal_of g)))))
+        (fields_then (ascii "requires" ∷ signed (literal_of o false) ∷ map signed (literals_in w start count)) _ f h)
 
-  pub forbid_fields : (y : ℕ) (s : Bool) → x.kind ≡ 6 → y ≡ (clause.literal_of (record { code = x.second })).variable → s ≡ (clause.literal_of (record { code = x.second })).positive
-      → Writes a b (fields ((102 ∷ 111 ∷ 114 ∷ 98 ∷ 105 ∷ 100 ∷ []) ∷ signed (literal_of x.first false) ∷ signed (literal_of y s) ∷ []))
-      → Writes a b (fields (clause_fields c (clause_in c vs w (row_of x))))
-  unfolding clause_fields word_fields clause_in literals row_of ascii literal_in clause.literal_of clause.signed
-  forbid_fields y s e d g f = rw (e, ← d, ← g) f
+    pub gated_fields : (x : ℕ) (g : Requirement) → k ≡ clauses.Gated x g → Writes a b (fields (ascii "requires" ∷ signed (literal_of x false) ∷ []))
+        → Writes b d (goal_text c vs g) → Writes a d (fields (clause_fields c (clause_in c vs w r)))
+    unfolding clause_fields word_fields clause_is literals candidate_variables part_text goal_text
+    gated_fields x g e f h = rw (is c vs w r y _ e) (fields_then (_ ∷ _ ∷ []) _ f h)
 
-  pub out_fields : x.kind ≡ 7
-      → Writes a b (fields ((97 ∷ 117 ∷ 120 ∷ 45 ∷ 111 ∷ 117 ∷ 116 ∷ []) ∷ signed (literal_of x.first false) ∷ signed (literal_of x.second true) ∷ []))
-      → Writes a b (fields (clause_fields c (clause_in c vs w (row_of x))))
-  unfolding clause_fields word_fields clause_in literals row_of ascii
-  out_fields e f = rw e f
+  pub constrains_fields : (o x : ℕ) → k ≡ clauses.Constrains o x
+      → Writes a b (fields ((99 ∷ 111 ∷ 110 ∷ 115 ∷ 116 ∷ 114 ∷ 97 ∷ 105 ∷ 110 ∷ 115 ∷ []) ∷ signed (literal_of o false) ∷ signed (literal_of x false) ∷ []))
+      → Writes a b (fields (clause_fields c (clause_in c vs w r)))
+  unfolding clause_fields word_fields clause_is literals ascii
+  constrains_fields o x e f = rw (is c vs w r y _ e) f
 
-  pub owner_fields : x.kind ≡ 8
-      → Writes a b (fields ((97 ∷ 117 ∷ 120 ∷ 45 ∷ 111 ∷ 119 ∷ 110 ∷ 101 ∷ 114 ∷ []) ∷ signed (literal_of x.first false) ∷ signed (literal_of x.second false) ∷ []))
-      → Writes a b (fields (clause_fields c (clause_in c vs w (row_of x))))
-  unfolding clause_fields word_fields clause_in literals row_of ascii
-  owner_fields e f = rw e f
+  pub forbid_fields : (x : ℕ) (h : Literal) (v : ℕ) (t : Bool) → k ≡ clauses.Forbid x h → v ≡ (clause.literal_of h).variable → t ≡ (clause.literal_of h).positive
+      → Writes a b (fields ((102 ∷ 111 ∷ 114 ∷ 98 ∷ 105 ∷ 100 ∷ []) ∷ signed (literal_of x false) ∷ signed (literal_of v t) ∷ []))
+      → Writes a b (fields (clause_fields c (clause_in c vs w r)))
+  unfolding clause_fields word_fields clause_is literals ascii clause.literal_of clause.signed
+  forbid_fields x h v t e p q f = rw (is c vs w r y _ e) (rw (p, q) at f)
 
-  pub lock_fields : x.kind ≡ 9 → Writes a b (fields ((108 ∷ 111 ∷ 99 ∷ 107 ∷ []) ∷ signed (literal_of 0 false) ∷ signed (literal_of x.first false) ∷ []))
-      → Writes a b (fields (clause_fields c (clause_in c vs w (row_of x))))
-  unfolding clause_fields word_fields clause_in literals row_of ascii
-  lock_fields e f = rw e f
+  pub out_fields : (x v : ℕ) → k ≡ clauses.AuxOut x v
+      → Writes a b (fields ((97 ∷ 117 ∷ 120 ∷ 45 ∷ 111 ∷ 117 ∷ 116 ∷ []) ∷ signed (literal_of x false) ∷ signed (literal_of v true) ∷ []))
+      → Writes a b (fields (clause_fields c (clause_in c vs w r)))
+  unfolding clause_fields word_fields clause_is literals ascii
+  out_fields x v e f = rw (is c vs w r y _ e) f
 
-  pub any_fields : (x.kind ≡ 0 → ⊥) → (x.kind ≡ 1 → ⊥) → (x.kind ≡ 2 → ⊥) → (x.kind ≡ 3 → ⊥) → (x.kind ≡ 4 → ⊥) → (x.kind ≡ 5 → ⊥) → (x.kind ≡ 6 → ⊥)
-      → (x.kind ≡ 7 → ⊥) → (x.kind ≡ 8 → ⊥) → (x.kind ≡ 9 → ⊥)
-      → Writes a b (fields ((97 ∷ 110 ∷ 121 ∷ []) ∷ signed (literal_of x.first true) ∷ signed (literal_of x.second false) ∷ []))
-      → Writes a b (fields (clause_fields c (clause_in c vs w (row_of x))))
-  unfolding clause_fields word_fields clause_in literals row_of ascii
-  any_fields e0 e1 e2 e3 e4 e5 e6 e7 e8 e9 f =
-      rw (
-        ne_eqb x.kind 0 e0,
-        ne_eqb x.kind 1 e1,
-        ne_eqb x.kind 2 e2,
-        ne_eqb x.kind 3 e3,
-        ne_eqb x.kind 4 e4,
-        ne_eqb x.kind 5 e5,
-        ne_eqb x.kind 6 e6,
-        ne_eqb x.kind 7 e7,
-        ne_eqb x.kind 8 e8,
-        ne_eqb x.kind 9 e9,
-      )
-      (by_cases (eqb x.kind 10) (λ e. rw e f) (λ e. rw e f))
+  pub owner_fields : (o v : ℕ) → k ≡ clauses.AuxOwner o v
+      → Writes a b (fields ((97 ∷ 117 ∷ 120 ∷ 45 ∷ 111 ∷ 119 ∷ 110 ∷ 101 ∷ 114 ∷ []) ∷ signed (literal_of o false) ∷ signed (literal_of v false) ∷ []))
+      → Writes a b (fields (clause_fields c (clause_in c vs w r)))
+  unfolding clause_fields word_fields clause_is literals ascii
+  owner_fields o v e f = rw (is c vs w r y _ e) f
+
+  pub lock_fields : (x : ℕ) → k ≡ clauses.Lock x → Writes a b (fields ((108 ∷ 111 ∷ 99 ∷ 107 ∷ []) ∷ signed (literal_of 0 false) ∷ signed (literal_of x false) ∷ []))
+      → Writes a b (fields (clause_fields c (clause_in c vs w r)))
+  unfolding clause_fields word_fields clause_is literals ascii
+  lock_fields x e f = rw (is c vs w r y _ e) f
+
+  module _ (x z : ℕ) (f : Writes a b (fields ((97 ∷ 110 ∷ 121 ∷ []) ∷ signed (literal_of x true) ∷ signed (literal_of z false) ∷ []))) where
+    pub gate_fields : k ≡ clauses.AnyGate x z → Writes a b (fields (clause_fields c (clause_in c vs w r)))
+    unfolding clause_fields word_fields clause_is literals ascii
+    gate_fields e = rw (is c vs w r y _ e) f
+
+    pub one_fields : k ≡ clauses.AnyOne x z → Writes a b (fields (clause_fields c (clause_in c vs w r)))
+    unfolding clause_fields word_fields clause_is literals ascii
+    one_fields e = rw (is c vs w r y _ e) f
 
 -- ---- an exclusion, with its reason from the tables
 
-module _ (k : Counts) (m u t : List ℕ) (vs : List Origin) (w : List ℕ) (x : Stored) (y : ℕ) {a b : Writer}
-    (f : Writes a b (fields (ascii "excluded" ∷ decimal y ∷ signed (literal_of x.first false) ∷ []))) where
-  pub excluded_fields : x.kind ≡ 3 → y ≡ (get_or (tables k t).parts x.second no_part).exclusion_reason
-      → Writes a b (fields (clause_fields (catalogue k m u t) (clause_in (catalogue k m u t) vs w (row_of x))))
-  unfolding clause_fields word_fields clause_in literals row_of reason_number exclusion_reason
+module _ (k : Counts) (m u t : List ℕ) (vs : List Origin) (w : List ℕ) (r : Row) {j : Clause} (y : Says j r) (x p v : ℕ) {a b : Writer}
+    (f : Writes a b (fields (ascii "excluded" ∷ decimal v ∷ signed (literal_of x false) ∷ []))) where
+  pub excluded_fields : j ≡ clauses.Excluded x p → v ≡ (get_or (tables k t).parts p no_part).exclusion_reason
+      → Writes a b (fields (clause_fields (catalogue k m u t) (clause_in (catalogue k m u t) vs w r)))
+  unfolding clause_fields word_fields clause_is literals reason_number exclusion_reason
   excluded_fields e d =
-      let z : y ≡ exclusion_reason (catalogue k m u t) x.second = d ∙ sym (ap (λ (p : Part). p.exclusion_reason) (part_held k m u t x.second)) in
-      rw e (rw z at f)
+      let z : v ≡ exclusion_reason (catalogue k m u t) p = d ∙ sym (ap (λ (q : Part). q.exclusion_reason) (part_held k m u t p)) in
+      rw (is (catalogue k m u t) vs w r y _ e) (rw z at f)
 
-  pub unknown_fields : x.kind ≡ 4 → y ≡ (get_or (tables k t).parts x.second no_part).unknown_reason
-      → Writes a b (fields (clause_fields (catalogue k m u t) (clause_in (catalogue k m u t) vs w (row_of x))))
-  unfolding clause_fields word_fields clause_in literals row_of reason_number
+  pub unknown_fields : j ≡ clauses.Unknown x p → v ≡ (get_or (tables k t).parts p no_part).unknown_reason
+      → Writes a b (fields (clause_fields (catalogue k m u t) (clause_in (catalogue k m u t) vs w r)))
+  unfolding clause_fields word_fields clause_is literals reason_number
   unknown_fields e d =
-      let z : y ≡ (part_at (catalogue k m u t) x.second).unknown_reason = d ∙ sym (ap (λ (p : Part). p.unknown_reason) (part_held k m u t x.second)) in
-      rw e (rw z at f)
+      let z : v ≡ (part_at (catalogue k m u t) p).unknown_reason = d ∙ sym (ap (λ (q : Part). q.unknown_reason) (part_held k m u t p)) in
+      rw (is (catalogue k m u t) vs w r y _ e) (rw z at f)
 
 -- ---- the row at place i
 
@@ -162,7 +156,7 @@ module _ (c : Catalogue) (n : Counters) (st : ℕ → List ℕ) (cl : List ℕ) 
       → Writes a b (fields (clause_fields c (get_or (clauses_of c n st cl) i install)))
   row_fields w = rw clause_at w
 
-pub clause_line : (c : Catalogue) (ks : List Clause) (i : ℕ) {w w1 w2 w3 w4 : Writer} → Writes w w1 (99 ∷ []) → Writes w1 w2 (32 ∷ decimal i)
+pub clause_line : (c : Catalogue) (ks : List rules.Clause) (i : ℕ) {w w1 w2 w3 w4 : Writer} → Writes w w1 (99 ∷ []) → Writes w1 w2 (32 ∷ decimal i)
     → Writes w2 w3 (fields (clause_fields c (get_or ks i install))) → Writes w3 w4 (10 ∷ []) → Writes w w4 (clause_text c ks i)
 unfolding clause_text ascii
 clause_line c ks i t u v x = line_is _ t (fields_first _ u v) x

@@ -23,7 +23,7 @@ use Rattle.requirement.specs.declared.Requirement.TheVariants.{Single, Union}
 use Rattle.requirement.specs.Requirements.{goal_of}
 use Rattle.clause_lines.specs.declared.spans.Span.{Span}
 use Rattle.clause_lines.specs.declared.spans.Spans.{Spans}
-use Rattle.clause_lines.specs.Spans.{goal_text, span_of, with_span, Nowhere, Stand, Behind, Again, Kept, none, span}
+use Rattle.clause_lines.specs.Spans.{goal_text, span_of, with_span, Nowhere, Stand, Again, Kept, none, span}
 use Rattle.clause_lines.proofs.Parts.{parts_none}
 
 -- ---- what is kept
@@ -60,9 +60,6 @@ new_or_kept ss (Union a) (Union b) s t e = elim (put_or_kept ss.unions a b s t e
 module _ {c : Catalogue} {vs : List Origin} {ss : Spans} where
   pub stand_start : (w : Writer) → Nowhere ss → Stand c vs ss w
   stand_start w f = record { each = λ g s e. let no : None ≡ Some s = sym (f.each g) ∙ e in cc }
-
-  pub stand_behind : {w : Writer} → Stand c vs ss w → Behind ss w
-  stand_behind f = record { each = λ g s e. (f.each g s e).before }
 
   -- writing goes on behind them
   pub stand_still : {w w1 : Writer} {us : List ℕ} → Writes w w1 us → Stand c vs ss w → Stand c vs ss w1

@@ -10,8 +10,7 @@ use Rattle.rules.specs.Lists.{filter, concat_map, list_if, up_to}
 use Rattle.rules.specs.Literal.{pos}
 use Rattle.rules.specs.Catalogue.{Catalogue}
 use Rattle.rules.specs.Candidates.{sorted}
-use Rattle.rules.specs.Variables as variables
-use Rattle.rules.specs.Variables.{known, part_origin, part_variable}
+use Rattle.rules.specs.Variables.{Origin, known, part_origin, part_variable}
 use Rattle.rules.specs.Listing.{signed}
 use Rattle.rules.proofs.Bools.{by_cases}
 use Rattle.rules.proofs.Each.{each_out, each_left, each_right}
@@ -31,15 +30,14 @@ use Rattle.cache.proofs.Lists.{sorted_is}
 use Rattle.index.specs.Chains.{Skips}
 use Rattle.index.specs.Indexed.{Indexed}
 use Rattle.index.proofs.Walking.{walk}
-use Rattle.variable_map.specs.declared.Origin.{Origin}
-use Rattle.variable_map.specs.Mapping.{origin_of, in_tables, AllKnown}
+use Rattle.variable_map.specs.Mapping.{in_tables, AllKnown}
 use Rattle.encoder.specs.Did.{Looked}
 use Rattle.line_fields.specs.Listed.{texts, part_text, chosen_text}
 use Rattle.line_fields.proofs.Printing.{printing_start, printing_step, printing_end}
 
 -- ---- the literals of parts
 
-module _ (vs : List variables.Origin) where
+module _ (vs : List Origin) where
   abbrev one : ℕ → List ℕ
   one p = 32 ∷ signed (pos (part_variable vs p))
 
@@ -63,25 +61,25 @@ module _ (vs : List variables.Origin) where
       (λ e. rw (e, list_if, filter, filtered f ps) (sym (parts_append (p ∷ []) (filter f ps))))
       (λ e. rw (e, list_if, filter, filtered f ps, parts_none))
 
-pub in_tables_law : (k : Counts) (m u t : List ℕ) (p : ℕ) (x : Origin) → Indexed k m u t → p < k.parts → origin_of x ≡ part_origin p → in_tables (origin_of x) ≡ true
+pub part_in_tables : (k : Counts) (m u t : List ℕ) (p : ℕ) → Indexed k m u t → p < k.parts → in_tables (part_origin p) ≡ true
 unfolding in_tables
-in_tables_law k m u t p x f h e = rw e (lt-ltb p 1024 (omega arith))
+part_in_tables k m u t p f h = lt-ltb p 1024 (omega (arith, f.held.laid.parts))
 
 -- ---- a choice among the parts of a range's name
 
-module _ (k : Counts) (m u t : List ℕ) (vs : List variables.Origin) (r : ℕ) (w : Choice) where
+module _ (k : Counts) (m u t : List ℕ) (vs : List Origin) (r : ℕ) (w : Choice) where
   part_known : (p : ℕ) → AllKnown vs (choice (catalogue k m u t) r w) → p < k.parts → chosen (catalogue k m u t) r w p ≡ true → known vs (part_origin p) ≡ true
   unfolding choice
   part_known p a h e =
       each_out a.known (filter_in (chosen (catalogue k m u t) r w) (up_to 0 (length (catalogue k m u t).parts))
       (up_to_member (length (catalogue k m u t).parts) p (omega (arith, parts_held k m u t))) e)
 
-  pub chosen_yes : {a b : Writer} (p : ℕ) (y : Bool) (x : Origin) (v : ℕ) → AllKnown vs (choice (catalogue k m u t) r w) → p < k.parts → y ≡ chosen (catalogue k m u t) r w p → y ≡ true
-      → origin_of x ≡ part_origin p → Looked vs (origin_of x) v → Writes a b (32 ∷ signed (literal_of v true)) → Writes a b (chosen_text (catalogue k m u t) vs r w p)
+  pub chosen_yes : {a b : Writer} (p : ℕ) (y : Bool) (v : ℕ) → AllKnown vs (choice (catalogue k m u t) r w) → p < k.parts → y ≡ chosen (catalogue k m u t) r w p → y ≡ true
+      → Looked vs (part_origin p) v → Writes a b (32 ∷ signed (literal_of v true)) → Writes a b (chosen_text (catalogue k m u t) vs r w p)
   unfolding chosen_text list_if part_text
-  chosen_yes p y x v a h e d f g i =
+  chosen_yes p y v a h e d g i =
       let q : chosen (catalogue k m u t) r w p ≡ true = sym e ∙ d in
-      let z : v ≡ part_variable vs p = (rw f at g.is) (part_known p a h q) in
+      let z : v ≡ part_variable vs p = g.is (part_known p a h q) in
       rw (q, list_if, ← z) (fields_one i)
 
   pub chosen_no : (a : Writer) (p : ℕ) (y : Bool) → y ≡ chosen (catalogue k m u t) r w p → y ≡ false → Writes a a (chosen_text (catalogue k m u t) vs r w p)
@@ -110,7 +108,7 @@ module _ (k : Counts) (m u t : List ℕ) (vs : List variables.Origin) (r : ℕ) 
 
 -- ---- the two choices of a range, one behind the other
 
-module _ (c : Catalogue) (vs : List variables.Origin) (r : ℕ) where
+module _ (c : Catalogue) (vs : List Origin) (r : ℕ) where
   pub known_favoured : AllKnown vs (sorted c r) → AllKnown vs (choice c r Favoured)
   known_favoured a = record { known = each_left (choice c r Favoured) (choice c r Others) (rw (← sorted_is c r) at a.known) }
 

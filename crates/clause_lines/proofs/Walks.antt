@@ -23,10 +23,8 @@ use Rattle.cache.specs.Areas.{catalogue}
 use Rattle.index.specs.Members.{Passes}
 use Rattle.index.specs.Indexed.{Indexed}
 use Rattle.index.proofs.Unions.{union_ranges, left_start}
-use Rattle.state.specs.declared.Limits.{Limits}
 use Rattle.variable_map.specs.Mapping.{AllKnown}
-use Rattle.encoder.specs.declared.Counters.{Counters}
-use Rattle.line_fields.specs.Listed.{part_text, Ready}
+use Rattle.line_fields.specs.Listed.{part_text}
 use Rattle.clause_lines.specs.Spans.{goal_text}
 use Rattle.clause_lines.proofs.Parts.{parts_append, parts_none}
 
@@ -52,8 +50,7 @@ range_known c vs r a = rw range_candidates at a
 -- ---- a union
 
 -- before the union's row at place i
-pub record Walking (k : Counts) (m us t : List ℕ) (l : Limits) (n : Counters) (b : List ℕ) (vs : List Origin) (u i : ℕ) (w w1 : Writer) : Type 0 where
-  pub ready : Ready k m us t l n b
+pub record Walking (k : Counts) (m us t : List ℕ) (vs : List Origin) (u i : ℕ) (w w1 : Writer) : Type 0 where
   pub here : i < k.members → (get_or (rows k.members us) i no_row).union ≡ u
   pub known : AllKnown vs (concat_map (sorted (catalogue k m us t)) (left u i (rows k.members us)))
   pub done : List ℕ
@@ -70,15 +67,14 @@ union_split : (k : Counts) (m us t : List ℕ) (u : ℕ) (vs : List Origin) (ps 
 unfolding goal_text
 union_split k m us t u vs ps e = ap (part_text vs) e
 
-pub walking_start : {k : Counts} {m us t : List ℕ} {vs : List Origin} {l : Limits} {n : Counters} {b : List ℕ} {u r : ℕ} {w : Writer} → Ready k m us t l n b
+pub walking_start : {k : Counts} {m us t : List ℕ} {vs : List Origin} {u r : ℕ} {w : Writer} → Indexed k m us t
     → AllKnown vs (candidates (catalogue k m us t) (goal_of (Union u))) → Passes k (rows k.members us) u 0 r
-    → Walking k m us t l n b vs u r w w
-walking_start {k} {m} {us} {t} {vs} {u = u} {r = r} {w} f a x =
-    let e = union_candidates k m us t u r f.kept x in
-    record { ready = f; here = x.at.here; known = rw e at a; done = []; split = union_split k m us t u vs _ e; so_far = nothing w }
+    → Walking k m us t vs u r w w
+walking_start {k} {m} {us} {t} {vs} {u} {r} {w} f a x =
+    let e = union_candidates k m us t u r f x in
+    record { here = x.at.here; known = rw e at a; done = []; split = union_split k m us t u vs _ e; so_far = nothing w }
 
-module _ {k : Counts} {m us t : List ℕ} {l : Limits} {n : Counters} {b : List ℕ} {vs : List Origin} {u i : ℕ} {w w1 : Writer}
-    (f : Walking k m us t l n b vs u i w w1) where
+module _ {k : Counts} {m us t : List ℕ} {vs : List Origin} {u i : ℕ} {w w1 : Writer} (f : Walking k m us t vs u i w w1) where
   abbrev c : Catalogue
   c = catalogue k m us t
 
@@ -93,11 +89,10 @@ module _ {k : Counts} {m us t : List ℕ} {l : Limits} {n : Counters} {b : List 
     pub walking_known : AllKnown vs (candidates c (goal_of (Single x.range)))
     walking_known = known_range c vs x.range (record { known = each_left (sorted c x.range) (concat_map (sorted c) (left u (i + 1) rs)) (rw opened at f.known.known) })
 
-    pub walking_step : {r : ℕ} {w2 : Writer} → Writes w1 w2 (goal_text c vs (Single x.range)) → NextOf k.members rs u (i + 1) r → Walking k m us t l n b vs u r w w2
+    pub walking_step : {r : ℕ} {w2 : Writer} → Writes w1 w2 (goal_text c vs (Single x.range)) → NextOf k.members rs u (i + 1) r → Walking k m us t vs u r w w2
     walking_step {r} g y =
         let q : concat_map (sorted c) (left u i rs) ≡ sorted c x.range ++ concat_map (sorted c) (left u r rs) = opened ∙ rw (left_next us y) in
         record {
-          ready = f.ready;
           here = y.here;
           known = record { known = each_right (sorted c x.range) (rw q at f.known.known) };
           done = f.done ++ part_text vs (sorted c x.range);

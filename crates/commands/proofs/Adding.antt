@@ -1,5 +1,5 @@
 -- An owner is added, unless it is already.
-use mathlib.Core.Path.{◌≡◌, refl}
+use mathlib.Core.Path.{◌≡◌, refl, sym}
 use mathlib.Core.Bool.{Bool, true, false, not, ◌&&◌}
 use mathlib.Core.List.{List}
 use Prim.Native.Nat.{ℕ, ◌<◌, ◌≤◌}
@@ -9,7 +9,7 @@ use lib.ListN.{length}
 use borrow.Author.Tests.{ne_eqb, le-leb, lt-leb}
 use Rattle.std.specs.Prelude.{Result, Ok, Err}
 use Rattle.rules.specs.Lists.{any, snoc, unless}
-use Rattle.rules.specs.Catalogue.{Catalogue}
+use Rattle.rules.specs.Catalogue.{Catalogue, root, part}
 use Rattle.rules.specs.Records.{Command}
 use Rattle.rules.specs.Refusals.{ok, refuse, unless_any}
 use Rattle.rules.specs.Items as items
@@ -22,6 +22,8 @@ use Rattle.refusal.specs.declared.Refusal.{Refusal}
 use Rattle.refusal.specs.declared.Refusal.TheVariants.{Missing}
 use Rattle.refusal.specs.declared.Thing.TheVariants.{Part}
 use Rattle.refusal.specs.Refusing.{thing_of, refusal_of}
+use Rattle.requirement.specs.declared.Owner.TheVariants as owners
+use Rattle.requirement.specs.Requirements.{OwnerOf}
 use Rattle.state.specs.declared.Limits.{Limits}
 use Rattle.state.specs.Layout.{held, Fits}
 use Rattle.variable_map.proofs.Laws.{variables_kept}
@@ -31,7 +33,8 @@ use Rattle.marked.proofs.Laws.{free_after, mark_room, marked_same}
 use Rattle.marked.proofs.Owners.{root_is, part_is, owners_snoc, owner_after}
 use Rattle.encoder.specs.declared.Counters.{Counters}
 use Rattle.encoder.specs.Held.{Reading, opening_of, state_of, Good}
-use Rattle.encoder.specs.Did.{limits_of, on_opening}
+use Rattle.encoder.specs.Did.{on_opening}
+use Rattle.state.specs.Limits.{limits_of}
 use Rattle.encoder.proofs.Frames.{good_kept, list_kept, line_kept}
 use Rattle.commands.specs.Commands.{ChangesOf, Changes, with_added, AddsOwner, PartOutcomes, Adds}
 use Rattle.commands.proofs.Outcomes.{unchanged, changes_as, outcome_carried, outcome_refused}
@@ -84,6 +87,10 @@ module _ (l : Limits) (o : ℕ) {k : ℕ} {b : Bool} {st : ℕ → List ℕ} (m 
 
 -- ---- the command
 
+not_root : (owner p : ℕ) → part p ≡ items.owner_of owner → owner ≡ 65535 → ⊥
+unfolding items.owner_of
+not_root owner p e z = let root_too : part p ≡ root = rw z at e in cc
+
 -- by the definitions, if the owner is there
 carried : (l : Limits) (c : Catalogue) (o owner : ℕ) (s : State) → owner_absent c owner ≡ false → owner_of o ≡ items.owner_of owner
     → carry_out (limits_of l) c (Command.add owner) s ≡ ok (on_opening (add (owner_of o)) s)
@@ -132,18 +139,21 @@ module _ {l : Limits} {k : ℕ} {st : ℕ → List ℕ} (parts owner : ℕ) wher
         same = λ f q. absurd (not_one (cc));
       }
 
-  pub add_root : {d : ℕ} {st' : ℕ → List ℕ} → owner ≡ 65535 → AddsOwner l (owner_of 1024) k st d st' → Adds parts l (Command.add owner) k st (Ok d) st'
-  add_root e h = to_count (λ n z. root_added parts owner e (h.changes n z))
+  pub add_root : {d : ℕ} {st' : ℕ → List ℕ} → OwnerOf owner owners.Root → AddsOwner l (owner_of 1024) k st d st' → Adds parts l (Command.add owner) k st (Ok d) st'
+  add_root e h = to_count (λ n z. root_added parts owner (sym e.number) (h.changes n z))
 
-  pub add_part : {d : ℕ} {st' : ℕ → List ℕ} → parts ≤ 1024 → owner < parts → AddsOwner l (owner_of owner) k st d st' → Adds parts l (Command.add owner) k st (Ok d) st'
-  add_part a b h = to_count (λ n z. part_added parts owner a b (h.changes n z))
+  pub add_part : {p d : ℕ} {st' : ℕ → List ℕ} → OwnerOf owner (owners.Part p) → parts ≤ 1024 → p < parts → AddsOwner l (owner_of p) k st d st'
+      → Adds parts l (Command.add owner) k st (Ok d) st'
+  add_part {p} e a b h = let same : p ≡ owner = e.number in to_count (λ n z. part_added parts owner a (rw same at b) ((rw same at h).changes n z))
 
-  pub add_missing : (owner ≡ 65535 → ⊥) → parts ≤ owner → Adds parts l (Command.add owner) k st (Err (Missing Part 1)) st
-  add_missing q h =
+  pub add_missing : {p : ℕ} → OwnerOf owner (owners.Part p) → parts ≤ p → Adds parts l (Command.add owner) k st (Err (Missing Part 1)) st
+  add_missing {p} e h =
+      let same : p ≡ owner = e.number in
+      let past : parts ≤ owner = rw same at h in
       record {
-        to = λ d p. absurd (not_one (cc));
-        refused = λ f p n z. let i : f ≡ Missing Part 1 = cc in rw i (none_added_law parts owner q h);
-        same = λ f p. refl;
+        to = λ d q. absurd (not_one (cc));
+        refused = λ f q n z. let i : f ≡ Missing Part 1 = cc in rw i (none_added_law parts owner (not_root owner p e.is) past);
+        same = λ f q. refl;
       }
 
 -- of counters that have it

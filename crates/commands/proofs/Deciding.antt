@@ -7,7 +7,7 @@ use native.Mathlib.Omega.{arith}
 use lib.Dec.{eqb, ltb, leb}
 use lib.ListN.{length}
 use borrow.Author.Tests.{eq-eqb, ne_eqb, le-leb, lt-leb, lt-ltb, le-ltb}
-use Rattle.std.specs.Prelude.{Result, Ok, Err}
+use Rattle.std.specs.Prelude.{Result, Ok, Err, Option, Some, None}
 use Rattle.rules.specs.Lists.{any, snoc, when}
 use Rattle.rules.specs.Literal.{Literal}
 use Rattle.rules.specs.Catalogue.{Catalogue}
@@ -23,19 +23,17 @@ use Rattle.refusal.specs.declared.Refusal.TheVariants.{MissingVariable, Contradi
 use Rattle.refusal.specs.declared.Contradiction.TheVariants.{OtherValue}
 use Rattle.refusal.specs.Refusing.{contradiction_of, refusal_of}
 use Rattle.clause.specs.declared.Literal as code
-use Rattle.clause.specs.declared.Value.{Value}
-use Rattle.clause.specs.declared.Value.TheVariants as values
 use Rattle.clause.specs.Literals.{signed, literal_of}
 use Rattle.state.specs.declared.Limits.{Limits}
 use Rattle.variable_map.proofs.Laws as variables
 use Rattle.variable_map.proofs.Laws.{variables_kept}
 use Rattle.decision_tracker.specs.declared.Decision as tracker
-use Rattle.decision_tracker.specs.Tracking.{clause_by, decision_by, decision_of, decisions, seen, Told}
+use Rattle.decision_tracker.specs.Tracking.{clause_of, decision_of, decisions, seen, Told}
 use Rattle.decision_tracker.proofs.Values.{undecided_seen, reads_undecided, falsified_undecided, falsified_false, falsified_true}
 use Rattle.marked.proofs.Laws.{marked_same}
 use Rattle.encoder.specs.declared.Counters.{Counters}
 use Rattle.encoder.specs.Held.{Reading, opening_of, state_of, Good}
-use Rattle.encoder.specs.Did.{limits_of}
+use Rattle.state.specs.Limits.{limits_of}
 use Rattle.encoder.proofs.Frames.{good_kept, list_kept, line_kept}
 use Rattle.encoder.proofs.Counted.{with_decisions}
 use Rattle.commands.specs.Commands.{ChangesOf, Changes, decided_to, DecidesLiteral, Decides, PlainOutcomes}
@@ -76,7 +74,7 @@ module _ {l : Limits} (n : Counters) {count : ℕ} {ds : List Decision} {st st' 
 -- ---- a literal is decided
 
 abbrev pub new_decision : (x : ℕ) (b : Bool) (level : ℕ) → tracker.Decision
-new_decision x b level = record { variable = x; value = b; level = level; clause = 0 }
+new_decision x b level = record { variable = x; value = b; level = level; clause = None }
 
 module _ {l : Limits} {x : Literal} {level k : ℕ} {st st' : ℕ → List ℕ} where
   literal_to : {d : ℕ} → ((n : Counters) → n.decisions ≡ k → Changes l (decided_to x level) n st (with_decisions d n) st')
@@ -89,9 +87,9 @@ module _ {l : Limits} {x : Literal} {level k : ℕ} {st st' : ℕ → List ℕ} 
         same = λ f q. absurd (not_one (cc));
       }
 
-module _ {l : Limits} {k : ℕ} (x : code.Literal) {level : ℕ} {st : ℕ → List ℕ} {v : Value}
+module _ {l : Limits} {k : ℕ} (x : code.Literal) {level : ℕ} {st : ℕ → List ℕ} {v : Option Bool}
     (e : v ≡ seen (evaluate (decisions k st) (literal_of x))) where
-  pub decided_again : v ≡ values.True → DecidesLiteral l (literal_of x) level k st (Ok k) st
+  pub decided_again : v ≡ Some true → DecidesLiteral l (literal_of x) level k st (Ok k) st
   decided_again q = literal_to changes (sym (falsified_true (decisions k st) (literal_of x) e q))
     where
       changes : (n : Counters) → n.decisions ≡ k → Changes l (decided_to (literal_of x) level) n st (with_decisions k n) st
@@ -102,7 +100,7 @@ module _ {l : Limits} {k : ℕ} (x : code.Literal) {level : ℕ} {st : ℕ → L
           idle : (c : Catalogue) (cl wt : List ℕ) (w : Reading) → state_of c l w n st cl wt ≡ decided_to (literal_of x) level (state_of c l w n st cl wt)
           idle c cl wt w = unfold decided_to when state_of in rw (z, undecided_seen, ← e, q)
 
-  pub decided_against_law : v ≡ values.False → DecidesLiteral l (literal_of x) level k st (Err DecidedAgainst) st
+  pub decided_against_law : v ≡ Some false → DecidesLiteral l (literal_of x) level k st (Err DecidedAgainst) st
   decided_against_law q =
       record {
         to = λ d p. absurd (not_one (cc));
@@ -111,7 +109,7 @@ module _ {l : Limits} {k : ℕ} (x : code.Literal) {level : ℕ} {st : ℕ → L
         same = λ f p. refl;
       }
 
-  pub decided_new : v ≡ values.Undecided → {y : ℕ} {b : Bool} → y ≡ (literal_of x).variable → b ≡ (literal_of x).positive
+  pub decided_new : v ≡ None → {y : ℕ} {b : Bool} → y ≡ (literal_of x).variable → b ≡ (literal_of x).positive
       → {count : ℕ} {st' : ℕ → List ℕ} → Told l count (snoc (decisions k st) (decision_of (new_decision y b level))) st st'
       → DecidesLiteral l (literal_of x) level k st (Ok count) st'
   decided_new q {y} {b} ey eb {count} {st'} t = literal_to changes (sym (falsified_undecided (decisions k st) (literal_of x) e q))
@@ -123,7 +121,7 @@ module _ {l : Limits} {k : ℕ} (x : code.Literal) {level : ℕ} {st : ℕ → L
               → set_decisions (snoc (decisions k st) (decision_of (new_decision y b level))) (state_of c l w n st cl wt)
               ≡ decided_to (literal_of x) level (state_of c l w n st cl wt)
           new c cl wt w =
-              unfold decided_to when state_of decision_of decision_by clause_by in
+              unfold decided_to when state_of decision_of clause_of in
               rw (z, reads_undecided (decisions k st) (literal_of x) v e q, ey, eb)
 
 -- ---- the command decide: its refusals in the order 4, 5, 9, 8

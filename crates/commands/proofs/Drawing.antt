@@ -1,15 +1,17 @@
 -- The entries of a condition that hold are drawn.
 use mathlib.Core.Path.{◌≡◌, refl, sym, ◌∙◌, ap}
-use mathlib.Core.Bool.{Bool, true, false, not, ◌&&◌, cond}
+use mathlib.Core.Bool.{Bool, true, false, not, ◌&&◌}
 use mathlib.Core.List.{List, []}
 use mathlib.Core.Option.{Option, none, some}
-use Prim.Native.Nat.{ℕ, ◌+◌, ◌<◌, ◌≤◌, zero-le}
+use Prim.Native.Nat.{ℕ, ◌+◌, ◌<◌, ◌≤◌}
 use native.Mathlib.Omega.{arith}
 use native.Mathlib.Decide.{dec_lt}
-use mir.Val.{bool_byte}
 use lib.Dec.{eqb}
 use lib.ListN.{length, get_or, set, length-set, get_or-eq_default}
-use borrow.Author.Tests.{not-true, eqb-true, eq-eqb, ne_eqb, le-leb, lt-leb}
+use borrow.Author.Tests.{not-true, eqb-true, le-leb, lt-leb}
+use Rattle.std.specs.Prelude as code
+use Rattle.std.specs.Prelude.{Some, None}
+use Rattle.std.specs.Option.{option_eq}
 use Rattle.std.specs.List.{list_all}
 use Rattle.std.proofs.lemmas.List.Sums.{AllPass-from_list_all}
 use Rattle.rules.specs.Lists.{any}
@@ -18,7 +20,7 @@ use Rattle.rules.specs.Catalogue.{Catalogue, no_requirement, condition_at}
 use Rattle.rules.specs.Conditions.{is_condition, disjuncts, disjuncts_if, disjuncts_of, disjunct_at}
 use Rattle.rules.specs.Records.{Command}
 use Rattle.rules.specs.Refusals.{ok, refuse, unless_any}
-use Rattle.rules.specs.Items.{condition_of, given, absent}
+use Rattle.rules.specs.Items.{given, absent}
 use Rattle.rules.specs.Opening.{Opening, holds_now, entry_holds, is_drawn, draw}
 use Rattle.rules.specs.State.{State, decided_true}
 use Rattle.rules.specs.Sheet.{command_refusals, carried_out, carry_out}
@@ -29,7 +31,7 @@ use Rattle.refusal.specs.declared.Refusal.TheVariants.{Missing}
 use Rattle.refusal.specs.declared.Thing.TheVariants as things
 use Rattle.refusal.specs.Refusing.{thing_of, refusal_of}
 use Rattle.requirement.specs.declared.ConditionalRequirement.{ConditionalRequirement}
-use Rattle.requirement.specs.Requirements.{requirement_is}
+use Rattle.requirement.specs.Requirements.{condition_is, requirement_is}
 use Rattle.tables.specs.declared.Counts.{Counts}
 use Rattle.tables.specs.Tables.{tables}
 use Rattle.cache.specs.Areas.{catalogue}
@@ -40,11 +42,12 @@ use Rattle.variable_map.specs.Mapping.{variables}
 use Rattle.decision_tracker.specs.Tracking.{decisions}
 use Rattle.entries.specs.declared.Entry as entries
 use Rattle.entries.specs.Entries.{no_entry, entry_of, waiting_in, Long}
-use Rattle.entries.specs.Deferred.{flag_of, Flags, Drawn}
+use Rattle.entries.specs.Deferred.{Flags, Drawn}
 use Rattle.entries.proofs.Drain.{length_waiting, flags_start, flags_step, Drained, drained}
 use Rattle.encoder.specs.declared.Counters.{Counters}
 use Rattle.encoder.specs.Held.{Reading, opening_of, state_of, Good}
-use Rattle.encoder.specs.Did.{limits_of, on_opening}
+use Rattle.encoder.specs.Did.{on_opening}
+use Rattle.state.specs.Limits.{limits_of}
 use Rattle.encoder.proofs.Frames.{good_kept}
 use Rattle.goals.specs.Goals.{true_of, AllGiven}
 use Rattle.judging.specs.Judging.{Judged}
@@ -65,32 +68,24 @@ none_of {flags} {b} e = record { none = λ t i. at t i }
 
 -- ---- one entry: is it drawn?
 
--- a condition by its number, against one that is wanted
-other_condition : (c k : ℕ) → (k ≡ c → ⊥) → is_condition c (condition_of k) ≡ false
-unfolding condition_of
-other_condition c k n = go (eqb k 65535)
-  where
-    go : (b : Bool) → is_condition c (cond b none (some k)) ≡ false
-    go true = refl
-    go false = ne_eqb k c n
-
-this_condition : (c k : ℕ) → k ≡ c → c < 65535 → is_condition c (condition_of k) ≡ true
-unfolding condition_of
-this_condition c k e h = rw (e, ne_eqb c 65535 (λ q. omega arith), eq-eqb c c refl)
+-- by a comparison with the condition that is wanted
+this_condition : (c : ℕ) (v : code.Option ℕ) → option_eq eqb v (Some c) ≡ is_condition c (condition_is v)
+this_condition c None = refl
+this_condition c (Some k) = refl
 
 module _ (rs : List rules.Requirement) (flags : List Bool) (c : ℕ) (e : ℕ × ℕ) (x : entries.Entry) (it : ConditionalRequirement) (ex : entry_of x ≡ e)
     (ei : requirement_is it ≡ get_or rs x.requirement no_requirement) where
-  condition_is_law : (get_or rs e.0 no_requirement).condition ≡ condition_of it.condition
+  condition_is_law : (get_or rs e.0 no_requirement).condition ≡ condition_is it.condition
   unfolding requirement_is entry_of
   condition_is_law = rw (← ex) (ap (λ (q : rules.Requirement). q.condition) (sym ei))
 
-  pub other_entry : (it.condition ≡ c → ⊥) → false ≡ is_flagged rs flags c e
+  pub other_entry : option_eq eqb it.condition (Some c) ≡ false → false ≡ is_flagged rs flags c e
   unfolding is_flagged
-  other_entry n = rw (condition_is_law, other_condition c it.condition n)
+  other_entry n = rw (condition_is_law, ← this_condition c it.condition, n)
 
-  pub its_flag : (b : Bool) → it.condition ≡ c → c < 65535 → b ≡ get_or flags x.disjunct false → b ≡ is_flagged rs flags c e
+  pub its_flag : (b : Bool) → option_eq eqb it.condition (Some c) ≡ true → b ≡ get_or flags x.disjunct false → b ≡ is_flagged rs flags c e
   unfolding is_flagged entry_of
-  its_flag b q h p = rw (condition_is_law, this_condition c it.condition q h, ← ex) p
+  its_flag b q p = rw (condition_is_law, ← this_condition c it.condition, q, ← ex) p
 
 entry_given : {c : Catalogue} (l : Limits) (n i : ℕ) (b : List ℕ) → AllGiven c (waiting_in l n b) → i < n → Entry c (get_or (waiting_in l n b) i no_entry)
 entry_given l n i b a h = each_at a.given i no_entry (omega (arith, length_waiting l n b))
@@ -115,7 +110,7 @@ module _ (k : Counts) (m u t : List ℕ) {f : ℕ → Bool} (c : ℕ) {flags : L
           same i q h = rw q (ap (λ b. eqb c c && b) (judged_in (catalogue k m u t).conditions (conditions_same k m u t) e.1 (rw q at h)))
 
   module _ (l : Limits) (n : ℕ) (b : List ℕ) (a : AllGiven (catalogue k m u t) (waiting_in l n b)) where
-    pub flags_drawn : {held : List ℕ} → Flags (is_flagged (tables k t).requirements flags c) n (waiting_in l n b) held
+    pub flags_drawn : {held : List Bool} → Flags (is_flagged (tables k t).requirements flags c) n (waiting_in l n b) held
         → Flags (is_drawn (catalogue k m u t) f c) n (waiting_in l n b) held
     flags_drawn h = record { is = λ i q. h.is i q ∙ flagged_drawn _ (entry_given l n i b a q) }
 
@@ -132,34 +127,20 @@ module _ (k : Counts) (m u t : List ℕ) {f : ℕ → Bool} (c : ℕ) {flags : L
 -- ---- a flag for each entry
 
 -- those of the first i entries
-pub record Flagging (f : ℕ × ℕ → Bool) (n : ℕ) (xs : List (ℕ × ℕ)) (i : ℕ) (held : List ℕ) : Type 0 where
+pub record Flagging (f : ℕ × ℕ → Bool) (n : ℕ) (xs : List (ℕ × ℕ)) (i : ℕ) (held : List Bool) : Type 0 where
   pub count : length held ≡ 2048
-  pub passed : i ≤ n
   pub small : n ≤ 2048
   pub flags : Flags f i xs held
 
-pub flagging_start : {f : ℕ × ℕ → Bool} {n : ℕ} {xs : List (ℕ × ℕ)} {held : List ℕ} {l : Limits} {bytes : ℕ} → length held ≡ 2048 → Long l bytes → n ≤ l.waiting → Flagging f n xs 0 held
-flagging_start e a h = record { count = e; passed = zero-le; small = omega (arith, a.waiting); flags = flags_start }
+pub flagging_start : {f : ℕ × ℕ → Bool} {n : ℕ} {xs : List (ℕ × ℕ)} {held : List Bool} {l : Limits} {bytes : ℕ} → length held ≡ 2048 → Long l bytes → n ≤ l.waiting → Flagging f n xs 0 held
+flagging_start e a h = record { count = e; small = omega (arith, a.waiting); flags = flags_start }
 
-byte_flag : (b : Bool) → bool_byte b ≡ flag_of b
-unfolding flag_of
-byte_flag true = refl
-byte_flag false = refl
+module _ {f : ℕ × ℕ → Bool} {n i : ℕ} {xs : List (ℕ × ℕ)} {held : List Bool} (r : Flagging f n xs i held) where
+  pub flagging_step : {b : Bool} → i < n → b ≡ f (get_or xs i no_entry) → Flagging f n xs (i + 1) (set held i b)
+  flagging_step {b} h t = record { count = length-set held i b ∙ r.count; small = r.small; flags = flags_step r.flags (omega (arith, r.count, r.small)) t }
 
-module _ {f : ℕ × ℕ → Bool} {n i : ℕ} {xs : List (ℕ × ℕ)} {held : List ℕ} (r : Flagging f n xs i held) where
-  pub flagging_step : {b : Bool} {x : ℕ} → i < n → b ≡ f (get_or xs i no_entry) → x ≡ bool_byte b → Flagging f n xs (i + 1) (set held i x)
-  flagging_step {b} {x} h t e =
-      record {
-        count = length-set held i x ∙ r.count;
-        passed = omega arith;
-        small = r.small;
-        flags = flags_step r.flags (omega (arith, r.count, r.small)) t (e ∙ byte_flag b);
-      }
-
-  pub flagging_end : n ≤ i → Flags f n xs held
-  flagging_end h =
-      let e : i ≡ n = omega (arith, r.passed) in
-      rw e at r.flags
+  pub flagging_end : i ≡ n → Flags f n xs held
+  flagging_end e = rw e at r.flags
 
 -- ---- the end
 
@@ -185,7 +166,7 @@ drawing x y n =
       full = n.full;
     }
 
-pub draw_end : {c : Catalogue} {l : Limits} {k : ℕ} {n : Counters} {st : ℕ → List ℕ} {held : List ℕ} {j d : ℕ} {wt wt' : List ℕ}
+pub draw_end : {c : Catalogue} {l : Limits} {k : ℕ} {n : Counters} {st : ℕ → List ℕ} {held : List Bool} {j d : ℕ} {wt wt' : List ℕ}
     → Flags (is_drawn c (true_of (variables n.variables st) (decisions n.decisions st)) k) n.waiting (waiting_in l n.waiting wt) held
     → Drawn l held n.waiting n.drawn wt j d wt' → Draws c l k n st wt (drawing j d n) wt'
 draw_end {c} {l} {k} {n} {st} {held} {j} {d} {wt} {wt'} f s = record { good = good; full = refl; runs = refl; is = state }

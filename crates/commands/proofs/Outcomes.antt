@@ -17,7 +17,7 @@ use Rattle.cache.specs.Areas.{catalogue}
 use Rattle.cache.proofs.Laws.{parts_held}
 use Rattle.encoder.specs.declared.Counters.{Counters}
 use Rattle.encoder.specs.Held.{Reading, state_of}
-use Rattle.encoder.specs.Did.{limits_of}
+use Rattle.state.specs.Limits.{limits_of}
 use Rattle.commands.specs.Commands.{ChangesOf, Changes, CarriedOut, Outcomes, PartOutcomes}
 
 -- ---- changes

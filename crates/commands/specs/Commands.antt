@@ -20,7 +20,8 @@ use Rattle.decision_tracker.specs.Tracking.{decisions}
 use Rattle.marked.specs.Marked.{Marked}
 use Rattle.encoder.specs.declared.Counters.{Counters}
 use Rattle.encoder.specs.Held.{Reading, state_of, Good}
-use Rattle.encoder.specs.Did.{limits_of, on_opening, is_full}
+use Rattle.encoder.specs.Did.{on_opening, is_full}
+use Rattle.state.specs.Limits.{limits_of}
 use Rattle.encoder.proofs.Counted.{with_decisions}
 
 -- between two records the state area changed from st to st', and the state by F

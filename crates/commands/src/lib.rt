@@ -6,8 +6,6 @@ ghost use Rattle.std.specs.List.{list_all};
 ghost use Rattle.rules.specs.Decisions.{last_level};
 ghost use Rattle.rules.specs.Records.{Command};
 ghost use Rattle.rules.proofs.Levels.{Rising};
-ghost use Rattle.tables.specs.Tables.{tables, Laid};
-ghost use Rattle.cache.specs.Areas.{catalogue};
 ghost use Rattle.clause.specs.Literals.{literal_of};
 ghost use Rattle.state.specs.Layout.{held, Fits};
 ghost use Rattle.variable_map.specs.Mapping.{Mapped};
@@ -15,17 +13,25 @@ ghost use Rattle.decision_tracker.specs.Tracking.{decisions, Kept};
 ghost use Rattle.marked.specs.Marked.{owner_of, Marked};
 ghost use Rattle.entries.specs.Entries.{no_entry, waiting_in, Long};
 ghost use Rattle.entries.specs.Deferred.{Flags};
-ghost use Rattle.goals.specs.Goals.{Catalogued, AllGiven};
+ghost use Rattle.goals.specs.Goals.{AllGiven};
 ghost use Rattle.commands.specs.Commands.{AddsOwner, Adds, is_flagged, Draws, DecidesLiteral, Decides, PlainOutcomes, PartOutcomes};
+ghost use Rattle.index.specs.Views.{catalogue_of, counts_of};
+ghost use Rattle.tables.specs.Views.{tables_of};
 
-use clause::{Literal, Value};
+use clause::Literal;
 use decision_tracker::Decision;
 use encoder::Counters;
+use index::Catalogue;
+use marked::MarkedList;
 use refusal::{Contradiction, Refusal, Thing};
+use requirement::Owner;
 use state::Limits;
-use tables::Counts;
+use tables::{Counts, Tables};
 
 // ---- add
+
+// The number that stands for the root in the state area.
+const ROOT: u16 = 1024;
 
 // Owner o is added, unless it is already: how many are then.
 fn push_added(s: &mut [u8], l: Limits, count: usize, o: u16) -> usize
@@ -33,10 +39,10 @@ fn push_added(s: &mut [u8], l: Limits, count: usize, o: u16) -> usize
     requires marked { Marked 6 7 count (held l s.old) × (o < 1025) }
     ensures { AddsOwner l (owner_of o) count (held l s.old) result (held l s.new) }
 {
-    if marked::contains(s, l, state::ADDED_MARKS, o) {
+    if marked::contains(s, l, MarkedList::Added, o) {
         return count;
     }
-    marked::push(s, l, state::ADDED, state::ADDED_MARKS, count, o)
+    marked::push(s, l, MarkedList::Added, count, o)
 }
 
 // An owner is added where so many are: how many are then. It changes no other counter, and needs none.
@@ -52,13 +58,15 @@ pub fn add_to(
     requires marked { Marked 6 7 count (held l s.old) }
     ensures { Adds k.parts l (Command.add owner) count (held l s.old) result (held l s.new) }
 {
-    if owner == 65535 {
-        return Ok(push_added(s, l, count, 1024));
+    match Owner::from(owner) {
+        Owner::Root => Ok(push_added(s, l, count, ROOT)),
+        Owner::Part(part) => {
+            if (part as usize) < k.parts {
+                return Ok(push_added(s, l, count, part));
+            }
+            Err(Refusal::Missing(Thing::Part, 1))
+        }
     }
-    if (owner as usize) < k.parts {
-        return Ok(push_added(s, l, count, owner));
-    }
-    Err(Refusal::Missing(Thing::Part, 1))
 }
 
 pub fn add(k: Counts, s: &mut [u8], l: Limits, n: Counters, owner: u16) -> Result<Counters, Refusal>
@@ -89,8 +97,7 @@ pub fn is_set(flags: &[bool], i: usize) -> bool
 
 // Is entry i one of condition c whose disjunct is flagged?
 fn is_drawn(
-    t: &[u8],
-    k: Counts,
+    tables: &Tables,
     w: &[u8],
     l: Limits,
     n: usize,
@@ -98,63 +105,54 @@ fn is_drawn(
     c: u16,
     i: usize,
 ) -> bool
-    requires laid { Laid k (length t.now) }
     requires long { Long l (length w.now) × (n ≤ l.waiting) × (i < n) }
-    requires c_bound { c < 65535 }
-    ensures { result ≡ is_flagged (tables k t.now).requirements holding.now c (get_or (waiting_in l n w.now) i no_entry) }
+    ensures { result ≡ is_flagged (tables_of tables.now).requirements holding.now c (get_or (waiting_in l n w.now) i no_entry) }
 {
     let entry = entries::waiting_at(w, l, n, i);
-    let it = tables::requirement_at(t, k, entry.requirement as usize);
-    it.condition == c && is_set(holding, entry.disjunct as usize)
+    let it = tables.requirement_at(entry.requirement as usize);
+    it.condition == Some(c) && is_set(holding, entry.disjunct as usize)
 }
 
 // Which of n entries are of condition c, with a disjunct that is flagged: a flag for each.
 fn held_flags(
-    t: &[u8],
-    k: Counts,
+    tables: &Tables,
     w: &[u8],
     l: Limits,
     n: usize,
     holding: &[bool],
     c: u16,
-) -> [u8; 2048]
-    requires laid { Laid k (length t.now) }
+) -> [bool; 2048]
     requires long { Long l (length w.now) × (n ≤ l.waiting) }
-    requires c_bound { c < 65535 }
-    ensures { Flags (is_flagged (tables k t.now).requirements holding.now c) n (waiting_in l n w.now) result }
+    ensures { Flags (is_flagged (tables_of tables.now).requirements holding.now c) n (waiting_in l n w.now) result }
 {
-    let mut flags = [0u8; 2048];
+    let mut flags = [false; 2048];
     for i in 0..n {
-        flags[i] = u8::from(is_drawn(t, k, w, l, n, holding, c, i));
+        flags[i] = is_drawn(tables, w, l, n, holding, c, i);
     }
     flags
 }
 
 // The entries of condition c that hold are drawn, in order. Each disjunct of c is judged once.
 pub fn draw(
-    marks: &[u8],
-    unions: &[u8],
-    t: &[u8],
-    k: Counts,
+    catalogue: &Catalogue,
     s: &[u8],
     w: &mut [u8],
     l: Limits,
     n: Counters,
     c: u16,
 ) -> Counters
-    requires catalogued { Catalogued k marks.now unions.now t.now }
     requires fits { Fits l (length s.now) }
     requires mapped { Mapped l n.variables (held l s.now) × Kept l n.decisions (held l s.now) }
     requires long { Long l (length w.old) × (n.waiting + n.drawn ≤ l.waiting) }
-    requires all_given { AllGiven (catalogue k marks.now unions.now t.now) (waiting_in l n.waiting w.old) }
-    requires c_lt_conditions { c < k.conditions }
-    ensures { Draws (catalogue k marks.now unions.now t.now) l c n (held l s.now) w.old result w.new }
+    requires all_given { AllGiven (catalogue_of catalogue.now) (waiting_in l n.waiting w.old) }
+    requires c_lt_conditions { c < (counts_of catalogue.now).conditions }
+    ensures { Draws (catalogue_of catalogue.now) l c n (held l s.now) w.old result w.new }
 {
-    let judged = judging::holding(marks, unions, t, k, s, l, n, c as usize);
+    let judged = judging::holding(catalogue, s, l, n, c as usize);
     if none_set(&judged) {
         return n;
     }
-    let flags = held_flags(t, k, w, l, n.waiting, &judged, c);
+    let flags = held_flags(&catalogue.index.areas.tables, w, l, n.waiting, &judged, c);
     let counts = entries::draw(w, &flags, l, n.waiting, n.drawn);
     Counters {
         waiting: counts.kept,
@@ -187,14 +185,14 @@ fn decide_literal(
     ensures { DecidesLiteral l (literal_of literal) level count (held l s.old) result (held l s.new) }
 {
     match decision_tracker::eval(s, l, count, literal) {
-        Value::True => Ok(count),
-        Value::False => Err(Refusal::DecidedAgainst),
-        Value::Undecided => {
+        Some(true) => Ok(count),
+        Some(false) => Err(Refusal::DecidedAgainst),
+        None => {
             let new = Decision {
                 variable: literal.variable(),
                 value: literal.positive(),
                 level,
-                clause: 0,
+                clause: None,
             };
             Ok(decision_tracker::decide(s, l, count, new))
         }

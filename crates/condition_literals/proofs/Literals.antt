@@ -7,7 +7,7 @@ use native.Mathlib.Numerals.{add-one}
 use native.Mathlib.Omega.{arith}
 use lib.Dec.{eqb, ltb}
 use lib.ListN.{length, get_or, take, length-map}
-use lib.Seq.{take-suc, take_all, get_or-take}
+use lib.Seq.{take-suc, take_all}
 use borrow.Author.Tests.{ltb-true, ltb-false}
 use Rattle.rules.specs.Lists.{filter, list_if, concat_map, up_to}
 use Rattle.rules.specs.Literal.{pos}
@@ -28,7 +28,7 @@ use Rattle.requirement.specs.Requirements.{requirement_is}
 use Rattle.tables.specs.declared.Counts.{Counts}
 use Rattle.tables.specs.Tables.{tables}
 use Rattle.conditions.specs.declared.Disjunct as D
-use Rattle.conditions.specs.Sizes.{ranges_of, Carries}
+use Rattle.conditions.specs.Disjuncts.{ranges_of, Carries}
 use Rattle.cache.specs.declared.Choice.TheVariants.{NonMatching}
 use Rattle.cache.specs.Areas.{catalogue}
 use Rattle.cache.specs.Lists.{asked, chosen}
@@ -43,7 +43,8 @@ use Rattle.variable_map.proofs.Laws as variables
 use Rattle.encoder.specs.declared.Counters.{Counters}
 use Rattle.encoder.specs.Held.{GoodState}
 use Rattle.encoder.specs.Did.{Looked}
-use Rattle.goals.specs.Goals.{Catalogued}
+use Rattle.std.specs.Prelude.{Some}
+use Rattle.index.specs.Catalogued.{Catalogued}
 use Rattle.goals.proofs.Parts.{both_here, both_past}
 use Rattle.firing.proofs.Required.{condition_given, its_disjuncts}
 use Rattle.firing.proofs.Given.{range_given}
@@ -77,18 +78,17 @@ module _ (n : ℕ) (st : ℕ → List ℕ) {x : ℕ} (o : Origins.Origin) (k : k
 only : {P : ℕ → Type 0} {p : ℕ} → Each P (p ∷ []) → P p
 only (Each.cons h hs) = h
 
-module _ (c : Catalogue) (r p : ℕ) (b : Bool) (vs : List Origin) (o : Origins.Origin) where
-  pub if_known : b ≡ chosen c r NonMatching p → b ≡ true → origin_of o ≡ part_origin p → AllKnown vs (list_if (chosen c r NonMatching p) (p ∷ []))
-      → known vs (origin_of o) ≡ true
+module _ (c : Catalogue) (r p : ℕ) (b : Bool) (vs : List Origin) where
+  pub if_known : b ≡ chosen c r NonMatching p → b ≡ true → AllKnown vs (list_if (chosen c r NonMatching p) (p ∷ [])) → known vs (part_origin p) ≡ true
   unfolding list_if
-  if_known e q i a = rw i (only (rw (sym e ∙ q) at a.known))
+  if_known e q a = only (rw (sym e ∙ q) at a.known)
 
   pub if_pushed : {l : Limits} {n : Counters} {st st' : ℕ → List ℕ} {count m : ℕ} (y : code.Literal)
-      → Pushes l n st count (literal_of y ∷ []) m st' → literal_of y ≡ signed (variable_of vs (origin_of o)) true → origin_of o ≡ part_origin p
+      → Pushes l n st count (literal_of y ∷ []) m st' → literal_of y ≡ signed (variable_of vs (part_origin p)) true
       → b ≡ chosen c r NonMatching p → b ≡ true
       → Pushes l n st count (part_literals vs (list_if (chosen c r NonMatching p) (p ∷ []))) m st'
   unfolding list_if signed part_literals
-  if_pushed y h d i e q = rw (sym e ∙ q, ← i, ← d) h
+  if_pushed y h d e q = rw (sym e ∙ q, ← d) h
 
 pub if_not : (c : Catalogue) (r p : ℕ) (b : Bool) → b ≡ chosen c r NonMatching p → b ≡ false → (vs : List Origin)
     {l : Limits} {n : Counters} {st : ℕ → List ℕ} {count : ℕ} → Pushes l n st count (part_literals vs (list_if (chosen c r NonMatching p) (p ∷ []))) count st
@@ -205,9 +205,9 @@ module _ (k : Counts) (m u t : List ℕ) (r : ℕ) {l : Limits} {n : Counters} {
 -- ---- a range
 
 module _ (k : Counts) (m u t : List ℕ) (r : ℕ) where
-  module _ (x : ℕ) (o : Origins.Origin) (i : origin_of o ≡ one x) (e : x ≡ get_or (tables k t).ranges r 0) where
-    named : origin_of o ≡ one (range_name (catalogue k m u t) r)
-    named = i ∙ ap one (e ∙ sym (range_name_held k m u t r))
+  module _ (x : ℕ) (e : x ≡ get_or (tables k t).ranges r 0) where
+    named : one x ≡ one (range_name (catalogue k m u t) r)
+    named = ap one (e ∙ sym (range_name_held k m u t r))
 
     module _ (b : Bool) (d : b ≡ ltb 0 (length (non_matching (catalogue k m u t) r))) (z : b ≡ false) where
       no_parts : non_matching (catalogue k m u t) r ≡ []
@@ -217,11 +217,11 @@ module _ (k : Counts) (m u t : List ℕ) (r : ℕ) where
           nothing [] q = refl
           nothing (p ∷ ps) q = let no : ⊥ = omega arith in absurd no
 
-      pub one_known : {vs : List Origin} → RangeKnown (catalogue k m u t) vs r → known vs (origin_of o) ≡ true
+      pub one_known : {vs : List Origin} → RangeKnown (catalogue k m u t) vs r → known vs (one x) ≡ true
       one_known h = rw named (range_one h no_parts)
 
       pub one_pushed : (vs : List Origin) {l : Limits} {c : Counters} {st st' : ℕ → List ℕ} {a b : ℕ} (y : code.Literal)
-          → literal_of y ≡ signed (variable_of vs (origin_of o)) false → Pushes l c st a (literal_of y ∷ []) b st'
+          → literal_of y ≡ signed (variable_of vs (one x)) false → Pushes l c st a (literal_of y ∷ []) b st'
           → Pushes l c st a (range_literals vs (range_name (catalogue k m u t) r) (non_matching (catalogue k m u t) r)) b st'
       unfolding range_literals signed
       one_pushed vs y g h = rw (no_parts, ← named, ← g) h
@@ -261,73 +261,74 @@ literals_more c vs (y ∷ ys) x =
     ap (λ us. range_literals vs (range_name c y) (non_matching c y) ++ us) (literals_more c vs ys x)
     ∙ sym (append_assoc (range_literals vs (range_name c y) (non_matching c y)) (disjunct_literals c vs ys) (range_literals vs (range_name c x) (non_matching c x)))
 
+pub few_carried : {d : D.Disjunct} {rs xs : Disjunct} → rs ≡ ranges_of d → Carries d xs → length rs ≤ 16
+few_carried e k = rw (e, k.is) (omega (arith, k.len, k.room))
+
 -- the loop at range j
-pub record Collecting (c : Catalogue) (d : D.Disjunct) (xs : Disjunct) (l : Limits) (n : Counters) (b₀ b : List ℕ) (m j : ℕ) : Type 0 where
-  pub carries : Carries d xs
-  pub given : (i : ℕ) → i < d.len → get_or d.ranges i 0 < length c.ranges
+pub record Collecting (c : Catalogue) (rs : Disjunct) (l : Limits) (n : Counters) (b₀ b : List ℕ) (m j : ℕ) : Type 0 where
+  pub given : (i : ℕ) → i < length rs → get_or rs i 0 < length c.ranges
+  pub few_ranges : length rs ≤ 16
   pub parts : length c.parts ≤ 1024
   pub fits : Fits l (length b)
   pub same : length b ≡ length b₀
   pub good : GoodState c l n (held l b)
   pub few : m ≤ 1024 * j
-  pub known : DisjunctKnown c (variables n.variables (held l b₀)) xs
-  pub pushed : Pushes l n (held l b₀) 0 (disjunct_literals c (variables n.variables (held l b₀)) (take j xs)) m (held l b)
+  pub known : DisjunctKnown c (variables n.variables (held l b₀)) rs
+  pub pushed : Pushes l n (held l b₀) 0 (disjunct_literals c (variables n.variables (held l b₀)) (take j rs)) m (held l b)
 
 module _ (k : Counts) (m u t : List ℕ) (q i : ℕ) (it : ConditionalRequirement) (e : requirement_is it ≡ get_or (tables k t).requirements q no_requirement)
-    (w : Catalogued k m u t) (h : q < k.requirements) (f : unconditional (catalogue k m u t) q ≡ false) where
-  pub disjunct_there : i < length (disjuncts_of (catalogue k m u t) q) → i < length (disjuncts (tables k t).conditions it.condition)
-  disjunct_there g = rw (its_disjuncts k m u t q it e w h f) at g
+    (w : Catalogued k m u t) (h : q < k.requirements) (f : unconditional (catalogue k m u t) q ≡ false) (x : ℕ) (z : it.condition ≡ Some x) where
+  pub disjunct_there : i < length (disjuncts_of (catalogue k m u t) q) → i < length (disjuncts (tables k t).conditions x)
+  disjunct_there g = rw (its_disjuncts k m u t q it e w h f x z) at g
 
-  pub collect_start : {d : D.Disjunct} {l : Limits} {n : Counters} (b : List ℕ) → Carries d (get_or (disjuncts (tables k t).conditions it.condition) i [])
-      → i < length (disjuncts_of (catalogue k m u t) q) → Fits l (length b) → GoodState (catalogue k m u t) l n (held l b)
-      → DisjunctKnown (catalogue k m u t) (variables n.variables (held l b)) (disjunct_at (catalogue k m u t) q i)
-      → Collecting (catalogue k m u t) d (disjunct_at (catalogue k m u t) q i) l n b b 0 0
-  collect_start b c o g s a =
-      record {
-        carries = unfold disjunct_at in rw (its_disjuncts k m u t q it e w h f) c;
-        given = λ j z. rw ranges_held (range_given k m u t it.condition i w (condition_given k m u t q it e w h f) (disjunct_there o) c j z);
-        parts = unfold ceiling in w.formed.ceilings.parts;
-        fits = g;
-        same = refl;
-        good = s;
-        few = omega arith;
-        known = a;
-        pushed = unfold disjunct_literals concat_map in push_none;
-      }
+  module _ {rs : Disjunct} (c : rs ≡ get_or (disjuncts (tables k t).conditions x) i []) where
+    pub ranges_are : rs ≡ disjunct_at (catalogue k m u t) q i
+    unfolding disjunct_at
+    ranges_are = rw (its_disjuncts k m u t q it e w h f x z) c
 
-module _ {c : Catalogue} {d : D.Disjunct} {xs : Disjunct} {l : Limits} {n : Counters} {b₀ b : List ℕ} {m j : ℕ} (x : Collecting c d xs l n b₀ b m j) where
-  at_range : j < d.len → get_or xs j 0 ≡ get_or d.ranges j 0
-  unfolding ranges_of
-  at_range h = sym (ap (λ (ys : List ℕ). get_or ys j 0) x.carries.is) ∙ get_or-take d.len d.ranges j 0 h
+    pub collect_start : {l : Limits} {n : Counters} (b : List ℕ) → length rs ≤ 16
+        → i < length (disjuncts_of (catalogue k m u t) q) → Fits l (length b) → GoodState (catalogue k m u t) l n (held l b)
+        → DisjunctKnown (catalogue k m u t) (variables n.variables (held l b)) (disjunct_at (catalogue k m u t) q i)
+        → Collecting (catalogue k m u t) rs l n b b 0 0
+    collect_start b y o g s a =
+        record {
+          given = λ j v. rw ranges_held (range_given k m u t x i w (condition_given k m u t q it e w h f x z) (disjunct_there o) c j v);
+          few_ranges = y;
+          parts = unfold ceiling in w.formed.ceilings.parts;
+          fits = g;
+          same = refl;
+          good = s;
+          few = omega arith;
+          known = rw ranges_are a;
+          pushed = unfold disjunct_literals concat_map in push_none;
+        }
 
-  pub collect_known : j < d.len → RangeKnown c (variables n.variables (held l b)) (get_or d.ranges j 0)
-  collect_known h =
-      let g : j < length xs = omega (arith, x.carries.len) in
-      rw (push_variables x.pushed, ← at_range h) (range_in x.known (at_member xs j 0 g))
+module _ {c : Catalogue} {rs : Disjunct} {l : Limits} {n : Counters} {b₀ b : List ℕ} {m j : ℕ} (x : Collecting c rs l n b₀ b m j) where
+  pub collect_known : j < length rs → RangeKnown c (variables n.variables (held l b)) (get_or rs j 0)
+  collect_known h = rw (push_variables x.pushed) (range_in x.known (at_member rs j 0 h))
 
-  pub collect_step : {m' : ℕ} (b' : List ℕ) → j < d.len → length b' ≡ length b
-      → Pushes l n (held l b) m (range_literals (variables n.variables (held l b)) (range_name c (get_or d.ranges j 0)) (non_matching c (get_or d.ranges j 0))) m' (held l b')
-      → Collecting c d xs l n b₀ b' m' (j + 1)
+  pub collect_step : {m' : ℕ} (b' : List ℕ) → j < length rs → length b' ≡ length b
+      → Pushes l n (held l b) m (range_literals (variables n.variables (held l b)) (range_name c (get_or rs j 0)) (non_matching c (get_or rs j 0))) m' (held l b')
+      → Collecting c rs l n b₀ b' m' (j + 1)
   collect_step {m'} b' h s q =
       let vs = variables n.variables (held l b₀) in
-      let r = get_or xs j 0 in
-      let g : j < length xs = omega (arith, x.carries.len) in
-      let q' : Pushes l n (held l b) m (range_literals vs (range_name c r) (non_matching c r)) m' (held l b') = rw (push_variables x.pushed, ← at_range h) at q in
+      let r = get_or rs j 0 in
+      let q' : Pushes l n (held l b) m (range_literals vs (range_name c r) (non_matching c r)) m' (held l b') = rw (push_variables x.pushed) at q in
       record {
-        carries = x.carries;
         given = x.given;
+        few_ranges = x.few_ranges;
         parts = x.parts;
         fits = rw s x.fits;
         same = s ∙ x.same;
         good = push_good q x.good;
         few = omega (arith, q'.more_counted, range_few c vs r x.parts, x.few);
         known = x.known;
-        pushed = rw (add-one j, take-suc xs j 0 g, literals_more c vs (take j xs) r) (push_then x.pushed q');
+        pushed = rw (add-one j, take-suc rs j 0 h, literals_more c vs (take j rs) r) (push_then x.pushed q');
       }
 
-  pub collect_end : d.len ≤ j → Pushes l n (held l b₀) 0 (disjunct_literals c (variables n.variables (held l b₀)) xs) m (held l b)
-  collect_end h = rw (take_all j xs (omega (arith, x.carries.len))) at x.pushed
+  pub collect_end : {xs : Disjunct} → rs ≡ xs → length rs ≤ j → Pushes l n (held l b₀) 0 (disjunct_literals c (variables n.variables (held l b₀)) xs) m (held l b)
+  collect_end e h = rw (take_all j rs h, e) at x.pushed
 
-pub collect_given : (k : Counts) (m u t : List ℕ) {d : D.Disjunct} {xs : Disjunct} {l : Limits} {n : Counters} {b₀ b : List ℕ} {a j : ℕ}
-    → Collecting (catalogue k m u t) d xs l n b₀ b a j → j < d.len → get_or d.ranges j 0 < k.ranges
+pub collect_given : (k : Counts) (m u t : List ℕ) {rs : Disjunct} {l : Limits} {n : Counters} {b₀ b : List ℕ} {a j : ℕ}
+    → Collecting (catalogue k m u t) rs l n b₀ b a j → j < length rs → get_or rs j 0 < k.ranges
 collect_given k m u t {j = j} x h = rw ranges_held at (x.given j h)

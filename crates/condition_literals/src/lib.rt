@@ -19,14 +19,14 @@ ghost use Rattle.state.specs.Layout.{held, Fits};
 ghost use Rattle.variable_map.specs.Mapping.{origin_of, in_tables, variables, Mapped, AllKnown};
 ghost use Rattle.decision_tracker.specs.Tracking.{decisions, Kept};
 ghost use Rattle.encoder.specs.Held.{literals_in, GoodState};
-ghost use Rattle.goals.specs.Goals.{Catalogued};
 ghost use Rattle.condition_literals.specs.Literals.{Pushes, part_literals, literal_false, AtHand, Named, RangeKnown, DisjunctKnown};
+ghost use Rattle.index.specs.Views.{catalogue_of, counts_of};
 
 use cache::Choice;
 use clause::Literal;
 use encoder::Counters;
-use state::Limits;
-use tables::Counts;
+use index::Catalogue;
+use state::{Limits, Region};
 use variable_map::Origin;
 
 // ---- condition literals, behind those of the stored clauses
@@ -37,7 +37,7 @@ fn push_literal(s: &mut [u8], l: Limits, n: Counters, count: usize, literal: Lit
     requires literals_le_literals { (n.literals ≤ l.literals) × (count < 65536) }
     ensures { Pushes l n (held l s.old) count (literal_of literal ∷ []) result (held l s.new) }
 {
-    state::set(s, l, state::LITERALS, n.literals + count, literal.code);
+    state::set(s, l, Region::Literals, n.literals + count, literal.code);
     count + 1
 }
 
@@ -48,16 +48,12 @@ fn literal_of(s: &[u8], l: Limits, n: Counters, o: Origin, positive: bool) -> Li
     requires o_value { (in_tables (origin_of o) ≡ true) × (known (variables n.variables (held l s.now)) (origin_of o) ≡ true) }
     ensures { literal_of result ≡ signed (variable_of (variables n.variables (held l s.now)) (origin_of o)) positive }
 {
-    let x = opening::variable_of(s, l, n, o);
-    Literal::new(x, positive)
+    Literal::new(opening::variable_of(s, l, n, o), positive)
 }
 
 // A part, if it is one of the range's non-matching.
 fn push_if(
-    marks: &[u8],
-    unions: &[u8],
-    t: &[u8],
-    k: Counts,
+    catalogue: &Catalogue,
     s: &mut [u8],
     l: Limits,
     n: Counters,
@@ -65,105 +61,90 @@ fn push_if(
     r: usize,
     p: usize,
 ) -> usize
-    requires catalogued { Catalogued k marks.now unions.now t.now }
     requires fits { Fits l (length s.old) }
-    requires good_state { GoodState (catalogue k marks.now unions.now t.now) l n (held l s.old) }
+    requires good_state { GoodState (catalogue_of catalogue.now) l n (held l s.old) }
     requires count_bound { (count < 65536) × (p < 1024) }
-    requires all_known { AllKnown (variables n.variables (held l s.old)) (list_if (chosen (catalogue k marks.now unions.now t.now) r NonMatching p) (p ∷ [])) }
-    ensures { Pushes l n (held l s.old) count (part_literals (variables n.variables (held l s.old)) (list_if (chosen (catalogue k marks.now unions.now t.now) r NonMatching p) (p ∷ []))) result (held l s.new) }
+    requires all_known { AllKnown (variables n.variables (held l s.old)) (list_if (chosen (catalogue_of catalogue.now) r NonMatching p) (p ∷ [])) }
+    ensures { Pushes l n (held l s.old) count (part_literals (variables n.variables (held l s.old)) (list_if (chosen (catalogue_of catalogue.now) r NonMatching p) (p ∷ []))) result (held l s.new) }
 {
-    if cache::chosen(marks, unions, t, k, r, Choice::NonMatching, p) {
-        let literal = literal_of(s, l, n, variable_map::part(p as u16), true);
+    if catalogue.index.areas.chosen(r, Choice::NonMatching, p) {
+        let literal = literal_of(s, l, n, Origin::Part(p as u16), true);
         return push_literal(s, l, n, count, literal);
     }
     count
 }
 
 fn part_literals(
-    marks: &[u8],
-    unions: &[u8],
-    t: &[u8],
-    k: Counts,
+    catalogue: &Catalogue,
     s: &mut [u8],
     l: Limits,
     n: Counters,
     count: usize,
     r: usize,
 ) -> usize
-    requires catalogued { Catalogued k marks.now unions.now t.now }
     requires fits { Fits l (length s.old) }
-    requires good_state { GoodState (catalogue k marks.now unions.now t.now) l n (held l s.old) }
+    requires good_state { GoodState (catalogue_of catalogue.now) l n (held l s.old) }
     requires count_bound { count < 32768 }
-    requires all_known { AllKnown (variables n.variables (held l s.old)) (non_matching (catalogue k marks.now unions.now t.now) r) }
-    ensures { Pushes l n (held l s.old) count (part_literals (variables n.variables (held l s.old)) (non_matching (catalogue k marks.now unions.now t.now) r)) result (held l s.new) }
+    requires all_known { AllKnown (variables n.variables (held l s.old)) (non_matching (catalogue_of catalogue.now) r) }
+    ensures { Pushes l n (held l s.old) count (part_literals (variables n.variables (held l s.old)) (non_matching (catalogue_of catalogue.now) r)) result (held l s.new) }
 {
     let mut m = count;
-    let mut p = index::first_chosen(marks, unions, t, k, r, Choice::NonMatching);
-    while p < k.parts {
-        m = push_if(marks, unions, t, k, s, l, n, m, r, p);
-        p = index::next_chosen(marks, unions, t, k, r, Choice::NonMatching, p);
+    let mut p = catalogue.index.first_chosen(r, Choice::NonMatching);
+    while p < catalogue.index.areas.tables.counts.parts {
+        m = push_if(catalogue, s, l, n, m, r, p);
+        p = catalogue.index.next_chosen(r, Choice::NonMatching, p);
     }
     m
 }
 
 // The literals of a fired range: its non-matching parts; if none, "not one-of-name".
 fn range_literals(
-    marks: &[u8],
-    unions: &[u8],
-    t: &[u8],
-    k: Counts,
+    catalogue: &Catalogue,
     s: &mut [u8],
     l: Limits,
     n: Counters,
     count: usize,
     r: usize,
 ) -> usize
-    requires catalogued { Catalogued k marks.now unions.now t.now }
     requires fits { Fits l (length s.old) }
-    requires count_bound { (count < 32768) × (r < k.ranges) }
-    requires good_state { GoodState (catalogue k marks.now unions.now t.now) l n (held l s.old) }
-    requires range_known { RangeKnown (catalogue k marks.now unions.now t.now) (variables n.variables (held l s.old)) r }
-    ensures { Pushes l n (held l s.old) count (range_literals (variables n.variables (held l s.old)) (range_name (catalogue k marks.now unions.now t.now) r) (non_matching (catalogue k marks.now unions.now t.now) r)) result (held l s.new) }
+    requires count_bound { (count < 32768) × (r < (counts_of catalogue.now).ranges) }
+    requires good_state { GoodState (catalogue_of catalogue.now) l n (held l s.old) }
+    requires range_known { RangeKnown (catalogue_of catalogue.now) (variables n.variables (held l s.old)) r }
+    ensures { Pushes l n (held l s.old) count (range_literals (variables n.variables (held l s.old)) (range_name (catalogue_of catalogue.now) r) (non_matching (catalogue_of catalogue.now) r)) result (held l s.new) }
 {
-    if index::has_non_matching(marks, unions, t, k, r) {
-        return part_literals(marks, unions, t, k, s, l, n, count, r);
+    if catalogue.index.has_non_matching(r) {
+        return part_literals(catalogue, s, l, n, count, r);
     }
     let literal = literal_of(
         s,
         l,
         n,
-        variable_map::one(tables::range_name(t, k, r)),
+        Origin::One(catalogue.index.areas.tables.range_name(r)),
         false,
     );
     push_literal(s, l, n, count, literal)
 }
 
 pub fn disjunct_literals(
-    marks: &[u8],
-    unions: &[u8],
-    t: &[u8],
-    k: Counts,
+    catalogue: &Catalogue,
     s: &mut [u8],
     l: Limits,
     n: Counters,
     q: usize,
     i: usize,
 ) -> usize
-    requires catalogued { Catalogued k marks.now unions.now t.now }
     requires fits { Fits l (length s.old) }
-    requires good_state { GoodState (catalogue k marks.now unions.now t.now) l n (held l s.old) }
-    requires q_lt_requirements { (q < k.requirements) × (unconditional (catalogue k marks.now unions.now t.now) q ≡ false) × (i < length (disjuncts_of (catalogue k marks.now unions.now t.now) q)) }
-    requires disjunct_known { DisjunctKnown (catalogue k marks.now unions.now t.now) (variables n.variables (held l s.old)) (disjunct_at (catalogue k marks.now unions.now t.now) q i) }
-    ensures { Pushes l n (held l s.old) 0 (disjunct_literals (catalogue k marks.now unions.now t.now) (variables n.variables (held l s.old)) (disjunct_at (catalogue k marks.now unions.now t.now) q i)) result (held l s.new) }
+    requires good_state { GoodState (catalogue_of catalogue.now) l n (held l s.old) }
+    requires q_lt_requirements { (q < (counts_of catalogue.now).requirements) × (unconditional (catalogue_of catalogue.now) q ≡ false) × (i < length (disjuncts_of (catalogue_of catalogue.now) q)) }
+    requires disjunct_known { DisjunctKnown (catalogue_of catalogue.now) (variables n.variables (held l s.old)) (disjunct_at (catalogue_of catalogue.now) q i) }
+    ensures { Pushes l n (held l s.old) 0 (disjunct_literals (catalogue_of catalogue.now) (variables n.variables (held l s.old)) (disjunct_at (catalogue_of catalogue.now) q i)) result (held l s.new) }
 {
-    let it = tables::requirement_at(t, k, q);
-    let d = conditions::disjunct_of(t, k, it.condition as usize, i);
+    let it = catalogue.index.areas.tables.requirement_at(q);
+    let condition = it.condition.unwrap() as usize;
+    let disjunct = catalogue.conditions().disjunct_of(condition, i);
     let mut m = 0;
-    let mut j = 0;
-    while j < d.len {
-        let r = d.ranges[j];
-        m = range_literals(marks, unions, t, k, s, l, n, m, r as usize);
-        j += 1;
+    for range in disjunct.ranges() {
+        m = range_literals(catalogue, s, l, n, m, *range as usize);
     }
     m
 }
@@ -176,25 +157,20 @@ fn literals_false(s: &[u8], l: Limits, n: Counters, count: usize) -> bool
     requires kept { Kept l n.decisions (held l s.now) × (n.literals + count ≤ l.literals) }
     ensures { result ≡ all (literal_false (decisions n.decisions (held l s.now))) (literals_in ((held l s.now) 19) n.literals count) }
 {
-    let mut j = 0;
-    while j < count {
+    for j in 0..count {
         let literal = Literal {
-            code: state::get(s, l, state::LITERALS, n.literals + j),
+            code: state::get(s, l, Region::Literals, n.literals + j),
         };
         if !decision_tracker::falsified(s, l, n.decisions, literal) {
             return false;
         }
-        j += 1;
     }
     true
 }
 
 // There are literals besides the owner's, `count` of the condition and the candidates, and all are decided false.
 pub fn rest_false(
-    marks: &[u8],
-    unions: &[u8],
-    t: &[u8],
-    k: Counts,
+    catalogue: &Catalogue,
     s: &[u8],
     l: Limits,
     n: Counters,
@@ -202,23 +178,17 @@ pub fn rest_false(
     ranges: usize,
     count: usize,
 ) -> bool
-    requires catalogued { Catalogued k marks.now unions.now t.now }
     requires fits { Fits l (length s.now) }
-    requires good_state { GoodState (catalogue k marks.now unions.now t.now) l n (held l s.now) }
-    requires q_lt_requirements { q < k.requirements }
-    requires at_hand { AtHand (catalogue k marks.now unions.now t.now) q ranges (held l s.now) }
-    requires named { Named (catalogue k marks.now unions.now t.now) q (variables n.variables (held l s.now)) }
+    requires good_state { GoodState (catalogue_of catalogue.now) l n (held l s.now) }
+    requires q_lt_requirements { q < (counts_of catalogue.now).requirements }
+    requires at_hand { AtHand (catalogue_of catalogue.now) q ranges (held l s.now) }
+    requires named { Named (catalogue_of catalogue.now) q (variables n.variables (held l s.now)) }
     requires count_bound { n.literals + count ≤ l.literals }
-    ensures { result ≡ all_false (decisions n.decisions (held l s.now)) (literals_in ((held l s.now) 19) n.literals count ++ map pos (map (part_variable (variables n.variables (held l s.now))) (candidates (catalogue k marks.now unions.now t.now) (goal_at (catalogue k marks.now unions.now t.now) q)))) }
+    ensures { result ≡ all_false (decisions n.decisions (held l s.now)) (literals_in ((held l s.now) 19) n.literals count ++ map pos (map (part_variable (variables n.variables (held l s.now))) (candidates (catalogue_of catalogue.now) (goal_at (catalogue_of catalogue.now) q)))) }
 {
     if count == 0 {
-        if goals::all_false(marks, unions, t, k, s, l, n, ranges) {
-            return goals::some_candidate(marks, unions, t, k, s, l, ranges);
-        }
-        return false;
+        return goals::all_false(catalogue, s, l, n, ranges)
+            && goals::some_candidate(catalogue, s, l, ranges);
     }
-    if literals_false(s, l, n, count) {
-        return goals::all_false(marks, unions, t, k, s, l, n, ranges);
-    }
-    false
+    literals_false(s, l, n, count) && goals::all_false(catalogue, s, l, n, ranges)
 }

@@ -1,13 +1,9 @@
--- Sizes of conditions, and the disjunct that the code carries.
-use Rattle.std.specs.Prelude.{◌≡◌, List, [], ◌∷◌, ◌++◌, ℕ, ◌+◌, ◌<◌, ◌≤◌, max, length, get_or, take}
+-- Sizes of conditions.
+use Rattle.std.specs.Prelude.{◌≡◌, List, [], ◌∷◌, ℕ, ◌<◌, ◌≤◌, max, length, get_or}
 use Rattle.rules.specs.Catalogue.{Condition, leaf, joined, no_condition}
 use Rattle.rules.specs.Conditions.{Disjunct, disjuncts}
-use Rattle.tables.specs.declared.Counts.{Counts}
 use Rattle.tables.specs.declared.Size as S
-use Rattle.tables.specs.Tables.{Size, Tables, listed, tables, Laid}
-use Rattle.conditions.specs.declared.Disjunct as D
-use Rattle.conditions.specs.declared.Source.{Source}
-use Rattle.conditions.specs.declared.Source.TheVariants.{Range, Half, Halves}
+use Rattle.tables.specs.Tables.{Size, Tables, listed}
 
 -- ---- sizes
 
@@ -50,53 +46,3 @@ pub record Counted (cs : List Condition) (c n : ℕ) : Type 0 where
   pub is : n ≡ length (disjuncts cs c)
   pub some : 1 ≤ n
   pub most : n ≤ 64
-
--- ---- the disjunct that the code carries
-
-unfoldable pub ranges_of : D.Disjunct → List ℕ
-ranges_of d = take d.len d.ranges
-
-pub record Carries (d : D.Disjunct) (xs : Disjunct) : Type 0 where
-  pub len : d.len ≡ length xs
-  pub room : d.len ≤ 16
-  pub is : ranges_of d ≡ xs
-
--- r is d with ranges more behind it
-pub record Appended (d : D.Disjunct) (more : List ℕ) (r : D.Disjunct) : Type 0 where
-  pub len : r.len ≡ d.len + length more
-  pub is : ranges_of r ≡ ranges_of d ++ more
-
--- ---- where disjunct i of condition c comes from
-
-unfoldable pub worked : List Condition → Source → Disjunct
-worked cs (Range r) = r ∷ []
-worked cs (Half c i) = get_or (disjuncts cs c) i []
-worked cs (Halves l i r j) = get_or (disjuncts cs l) i [] ++ get_or (disjuncts cs r) j []
-
--- a disjunct of an earlier condition than c
-pub record Before (cs : List Condition) (c half i : ℕ) : Type 0 where
-  pub earlier : half < c
-  pub there : i < length (disjuncts cs half)
-
-abbrev pub AllBefore : List Condition → ℕ → Source → Type 0
-AllBefore cs c (Range r) = Unit {0}
-AllBefore cs c (Half h i) = Before cs c h i
-AllBefore cs c (Halves l i r j) = Before cs c l i × Before cs c r j
-
-pub record From (cs : List Condition) (c i : ℕ) (s : Source) : Type 0 where
-  pub is : get_or (disjuncts cs c) i [] ≡ worked cs s
-  pub before : AllBefore cs c s
-
--- disjunct j of condition h, which is no later one, is disjunct i of condition c
-pub record Follows (cs : List Condition) (c i h j : ℕ) : Type 0 where
-  pub is : get_or (disjuncts cs c) i [] ≡ get_or (disjuncts cs h) j []
-  pub early : h ≤ c
-  pub there : j < length (disjuncts cs h)
-
--- disjunct i of condition c is there, with room for it behind n ranges
-pub record Asked (k : Counts) (bytes : List ℕ) (c i n : ℕ) : Type 0 where
-  pub laid : Laid k (length bytes)
-  pub sized : Sized (tables k bytes)
-  pub given : c < k.conditions
-  pub there : i < length (disjuncts (tables k bytes).conditions c)
-  pub room : n + length (get_or (disjuncts (tables k bytes).conditions c) i []) ≤ 16

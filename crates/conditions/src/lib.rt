@@ -2,86 +2,51 @@
 // Nothing is stored but sizes: disjunct i is worked out when it is asked for.
 #![tactic(auto)]
 
-ghost use Rattle.std.specs.Prelude.{◌≡◌, [], ◌∷◌, ◌<◌, max, length, get_or};
+ghost use Rattle.std.specs.Prelude.{◌≡◌, [], ◌∷◌, ◌+◌, ◌<◌, ◌≤◌, length, get_or};
 ghost use Rattle.rules.specs.Lists.{snoc};
-ghost use Rattle.rules.specs.Catalogue.{joined};
 ghost use Rattle.rules.specs.Conditions.{disjuncts};
-ghost use Rattle.rules.specs.Items.{operator_of};
-ghost use Rattle.tables.specs.Tables.{tables, Laid, size_is};
-ghost use Rattle.conditions.specs.Sizes.{size_of, Sized, HasSize, Counted, Carries, Appended, From, Follows, Asked};
+ghost use Rattle.tables.specs.Tables.{size_is, condition_is};
+ghost use Rattle.tables.specs.Views.{tables_of};
+ghost use Rattle.conditions.specs.Sizes.{size_of, Earlier, Sized, HasSize, Counted};
+ghost use Rattle.conditions.specs.Props.{sized_prop};
 
-use tables::{Counts, Size};
+use tables::{Condition, Size, Tables};
 
 // A disjunct: its first `len` ranges must all hold.
 #[derive(Clone, Copy)]
 pub struct Disjunct {
     pub ranges: [u16; 16],
     pub len: usize,
+    pub ghost bounded: { len ≤ 16 },
 }
 
-// ---- sizes
+impl Disjunct {
+    ghost use Rattle.conditions.specs.Disjuncts.{ranges_of, Appended};
 
-fn larger(a: u16, b: u16) -> u16
-    ensures { result ≡ max a b }
-{
-    if a < b { b } else { a }
-}
-
-// The size of condition c.
-fn size(t: &[u8], k: Counts, c: usize) -> Size
-    requires laid { Laid k (length t.now) }
-    requires sized { Sized (tables k t.now) }
-    requires c_lt_conditions { c < k.conditions }
-    ensures { HasSize (tables k t.now).conditions c result }
-{
-    tables::condition_size(t, k, c)
-}
-
-// How many disjuncts condition c has.
-pub fn count(t: &[u8], k: Counts, c: usize) -> usize
-    requires laid { Laid k (length t.now) }
-    requires sized { Sized (tables k t.now) }
-    requires c_lt_conditions { c < k.conditions }
-    ensures { Counted (tables k t.now).conditions c result }
-{
-    size(t, k, c).count as usize
-}
-
-// The size of a condition with these halves.
-pub fn joined_size(t: &[u8], k: Counts, operator: u8, left: u16, right: u16) -> Size
-    requires laid { Laid k (length t.now) }
-    requires sized { Sized (tables k t.now) }
-    requires left_lt_conditions { (left < k.conditions) × (right < k.conditions) }
-    ensures { size_is result ≡ size_of (disjuncts
-        (snoc (tables k t.now).conditions (joined (operator_of operator) left right))
-        (length (tables k t.now).conditions)) }
-{
-    let l = size(t, k, left as usize);
-    let r = size(t, k, right as usize);
-    if operator == 0 {
-        return Size {
-            count: l.count * r.count,
-            longest: l.longest + r.longest,
-        };
+    // No range yet.
+    pub fn new() -> Disjunct
+        ensures { (ranges_of result ≡ []) × (result.len ≡ 0) }
+    {
+        Disjunct {
+            ranges: [0; 16],
+            len: 0,
+        }
     }
-    Size {
-        count: l.count + r.count,
-        longest: larger(l.longest, r.longest),
+
+    pub fn ranges(&self) -> &[u16]
+        ensures { result.now ≡ ranges_of self.now }
+    {
+        &self.ranges[..self.len]
     }
-}
 
-// ---- disjuncts
-
-// One range more.
-fn pushed(d: Disjunct, range: u16) -> Disjunct
-    requires { d.len < 16 }
-    ensures { Appended d (range ∷ []) result }
-{
-    let at = d.len;
-    let mut more = d;
-    more.ranges[at] = range;
-    more.len = at + 1;
-    more
+    // One range more.
+    fn push(&mut self, range: u16)
+        requires { self.old.len < 16 }
+        ensures { Appended self.old (range ∷ []) self.new }
+    {
+        self.ranges[self.len] = range;
+        self.len += 1;
+    }
 }
 
 // Where a disjunct comes from: it is one range, or a disjunct of one half, or one of each.
@@ -100,140 +65,143 @@ pub enum Source {
     },
 }
 
-// Disjunct i of condition c: an `or` has those of its left half and then those of its right one, an `and` all those of its right half behind
-// each of its left one.
-pub fn source_of(t: &[u8], k: Counts, c: usize, i: usize) -> Source
-    requires laid { Laid k (length t.now) }
-    requires sized { Sized (tables k t.now) }
-    requires c_lt_conditions { c < k.conditions }
-    requires i_in_bounds { i < length (disjuncts (tables k t.now).conditions c) }
-    ensures { From (tables k t.now).conditions c i result }
-{
-    let it = tables::condition_at(t, k, c);
-    if it.operator == 2 {
-        return Source::Range(it.left);
-    }
-    let left = it.left as usize;
-    let right = it.right as usize;
-    if it.operator == 0 {
-        let count = count(t, k, right);
-        let outer = i / count;
-        let inner = i % count;
-        return Source::Halves {
-            left,
-            first: outer,
-            right,
-            second: inner,
-        };
-    }
-    let count = count(t, k, left);
-    if i < count {
-        return Source::Half {
-            condition: left,
-            index: i,
-        };
-    }
-    Source::Half {
-        condition: right,
-        index: i - count,
-    }
-}
-
-// A disjunct, by its condition and its place among the condition's.
+// The conditions in tables whose sizes are right.
 #[derive(Clone, Copy)]
-struct Place {
-    condition: usize,
-    index: usize,
+pub struct Conditions<'a> {
+    pub tables: Tables<'a>,
+    pub ghost sized: { Sized (tables_of tables) } by { sized_prop (tables_of tables) },
 }
 
-// The same disjunct as one of a half, where condition c is an `or`.
-fn half(t: &[u8], k: Counts, c: usize, i: usize) -> Place
-    requires laid { Laid k (length t.now) }
-    requires sized { Sized (tables k t.now) }
-    requires c_lt_conditions { c < k.conditions }
-    requires i_in_bounds { i < length (disjuncts (tables k t.now).conditions c) }
-    ensures { Follows (tables k t.now).conditions c i result.condition result.index }
-{
-    match source_of(t, k, c, i) {
-        Source::Half { condition, index } => Place { condition, index },
-        Source::Range(_) => Place {
-            condition: c,
-            index: i,
-        },
-        Source::Halves {
-            left: _,
-            first: _,
-            right: _,
-            second: _,
-        } => Place {
-            condition: c,
-            index: i,
-        },
+impl Conditions<'_> {
+    ghost use Rattle.conditions.specs.Disjuncts.{Carries, Appended, From, conditions_of};
+
+    // ---- sizes
+
+    // The size of a condition.
+    fn size(&self, condition: usize) -> Size
+        requires { condition < self.now.tables.counts.conditions }
+        ensures { HasSize (conditions_of self.now) condition result }
+    {
+        self.tables.condition_size(condition)
     }
-}
 
-// The same disjunct as one of a condition that is no `or`.
-fn followed(t: &[u8], k: Counts, c: usize, i: usize) -> Place
-    requires laid { Laid k (length t.now) }
-    requires sized { Sized (tables k t.now) }
-    requires c_lt_conditions { c < k.conditions }
-    requires i_in_bounds { i < length (disjuncts (tables k t.now).conditions c) }
-    ensures { Follows (tables k t.now).conditions c i result.condition result.index }
-{
-    let mut condition = c;
-    let mut index = i;
-    let mut next = half(t, k, c, i);
-    while next.condition < condition {
-        condition = next.condition;
-        index = next.index;
-        next = half(t, k, condition, index);
+    // How many disjuncts a condition has.
+    pub fn count(&self, condition: usize) -> usize
+        requires { condition < self.now.tables.counts.conditions }
+        ensures { Counted (conditions_of self.now) condition result }
+    {
+        self.size(condition).count as usize
     }
-    Place { condition, index }
-}
 
-// Where disjunct i of condition c comes from, past the halves of an `or`.
-fn source_past_or(t: &[u8], k: Counts, c: usize, i: usize) -> Source
-    requires laid { Laid k (length t.now) }
-    requires sized { Sized (tables k t.now) }
-    requires c_lt_conditions { c < k.conditions }
-    requires i_in_bounds { i < length (disjuncts (tables k t.now).conditions c) }
-    ensures { From (tables k t.now).conditions c i result }
-{
-    let place = followed(t, k, c, i);
-    source_of(t, k, place.condition, place.index)
-}
-
-// The ranges of disjunct i of condition c behind those of d. A half has a smaller number, so the number falls at each call.
-pub fn disjunct_behind(t: &[u8], k: Counts, c: usize, i: usize, d: Disjunct) -> Disjunct
-    requires { Asked k t.now c i d.len }
-    ensures { Appended d (get_or (disjuncts (tables k t.now).conditions c) i []) result }
-{
-    match source_past_or(t, k, c, i) {
-        Source::Range(r) => pushed(d, r),
-        Source::Half { condition, index } => disjunct_behind(t, k, condition, index, d),
-        Source::Halves {
-            left,
-            first,
-            right,
-            second,
-        } => {
-            let begun = disjunct_behind(t, k, left, first, d);
-            disjunct_behind(t, k, right, second, begun)
+    // The size of a condition that would be the next one.
+    pub fn next_size(&self, next: Condition) -> Size
+        requires { Earlier self.now.tables.counts.conditions (condition_is next) }
+        ensures { size_is result ≡ size_of (disjuncts (snoc (conditions_of self.now) (condition_is next)) (length (conditions_of self.now))) }
+    {
+        match next {
+            Condition::Range(_) => Size {
+                count: 1,
+                longest: 1,
+            },
+            Condition::And { left, right } => {
+                let left = self.size(left as usize);
+                let right = self.size(right as usize);
+                Size {
+                    count: left.count * right.count,
+                    longest: left.longest + right.longest,
+                }
+            },
+            Condition::Or { left, right } => {
+                let left = self.size(left as usize);
+                let right = self.size(right as usize);
+                Size {
+                    count: left.count + right.count,
+                    longest: left.longest.max(right.longest),
+                }
+            },
         }
     }
-}
 
-// Disjunct i of condition c.
-pub fn disjunct_of(t: &[u8], k: Counts, c: usize, i: usize) -> Disjunct
-    requires laid { Laid k (length t.now) }
-    requires sized { Sized (tables k t.now) }
-    requires c_lt_conditions { c < k.conditions }
-    requires i_in_bounds { i < length (disjuncts (tables k t.now).conditions c) }
-    ensures { Carries result (get_or (disjuncts (tables k t.now).conditions c) i []) }
-{
-    let none = Disjunct {
-        ranges: [0; 16],
-        len: 0,
-    };
-    disjunct_behind(t, k, c, i, none)
+    // ---- disjuncts
+
+    // Disjunct i of a condition: an `or` has those of its left half and then those of its right one, an `and` all those of its right half
+    // behind each of its left one.
+    pub fn source_of(&self, condition: usize, i: usize) -> Source
+        requires given { condition < self.now.tables.counts.conditions }
+        requires there { i < length (disjuncts (conditions_of self.now) condition) }
+        ensures { From (conditions_of self.now) condition i result }
+    {
+        match self.tables.condition_at(condition) {
+            Condition::Range(range) => Source::Range(range),
+            Condition::And { left, right } => {
+                let count = self.count(right as usize);
+                Source::Halves {
+                    left: left as usize,
+                    first: i / count,
+                    right: right as usize,
+                    second: i % count,
+                }
+            },
+            Condition::Or { left, right } => {
+                let count = self.count(left as usize);
+                if i < count {
+                    Source::Half {
+                        condition: left as usize,
+                        index: i,
+                    }
+                } else {
+                    Source::Half {
+                        condition: right as usize,
+                        index: i - count,
+                    }
+                }
+            },
+        }
+    }
+
+    // Where the disjunct comes from, past the halves of an `or`.
+    fn source_past_or(&self, condition: usize, i: usize) -> Source
+        requires given { condition < self.now.tables.counts.conditions }
+        requires there { i < length (disjuncts (conditions_of self.now) condition) }
+        ensures { From (conditions_of self.now) condition i result }
+    {
+        let mut source = self.source_of(condition, i);
+        while let Source::Half { condition, index } = source {
+            source = self.source_of(condition, index);
+        }
+        source
+    }
+
+    // The ranges of the disjunct behind those of d. A half has a smaller number, so the number falls at each call.
+    pub fn push_disjunct(&self, condition: usize, i: usize, d: &mut Disjunct)
+        requires given { condition < self.now.tables.counts.conditions }
+        requires there { i < length (disjuncts (conditions_of self.now) condition) }
+        requires room { d.old.len + length (get_or (disjuncts (conditions_of self.now) condition) i []) ≤ 16 }
+        ensures { Appended d.old (get_or (disjuncts (conditions_of self.now) condition) i []) d.new }
+    {
+        match self.source_past_or(condition, i) {
+            Source::Range(range) => d.push(range),
+            Source::Half { condition, index } => self.push_disjunct(condition, index, d),
+            Source::Halves {
+                left,
+                first,
+                right,
+                second,
+            } => {
+                self.push_disjunct(left, first, d);
+                self.push_disjunct(right, second, d);
+            },
+        }
+    }
+
+    // The disjunct itself.
+    pub fn disjunct_of(&self, condition: usize, i: usize) -> Disjunct
+        requires given { condition < self.now.tables.counts.conditions }
+        requires there { i < length (disjuncts (conditions_of self.now) condition) }
+        ensures { Carries result (get_or (disjuncts (conditions_of self.now) condition) i []) }
+    {
+        let mut d = Disjunct::new();
+        self.push_disjunct(condition, i, &mut d);
+        d
+    }
 }

@@ -7,6 +7,7 @@ use native.Mathlib.Omega.{arith}
 use native.Mathlib.Nat.{add-zero}
 use native.Mathlib.Decide.{dec_lt}
 use lib.ListN.{length}
+use Rattle.std.specs.Prelude.{Option, None, Some, is_some}
 use Rattle.rules.specs.Lists.{snoc, when}
 use Rattle.rules.specs.Catalogue.{Catalogue}
 use Rattle.rules.specs.Variables.{Origin, known, part_origin}
@@ -18,32 +19,28 @@ use Rattle.cache.specs.Areas.{catalogue}
 use Rattle.cache.specs.Lists.{chosen}
 use Rattle.cache.specs.declared.Choice.TheVariants.{NonMatching}
 use Rattle.index.specs.Chains.{Skips}
-use Rattle.index.proofs.Selecting.{skips_none}
 use Rattle.index.proofs.Walking.{walk}
 use Rattle.state.specs.declared.Limits.{Limits}
 use Rattle.state.specs.Layout.{held}
-use Rattle.variable_map.specs.declared.Origin as code
-use Rattle.variable_map.specs.Mapping.{origin_of, variables, place}
-use Rattle.variable_map.proofs.Places.{placed, unplaced}
+use Rattle.variable_map.specs.Mapping.{variables, found}
 use Rattle.decision_tracker.specs.Tracking.{decisions}
-use Rattle.solver.specs.declared.Stored.{Stored}
-use Rattle.solver.specs.Rows.{rows, row_of}
+use Rattle.solver.specs.declared.Clause.TheVariants as clauses
+use Rattle.solver.specs.Rows.{Row, rows}
+use Rattle.solver.specs.Clauses.{clause_row, literal_count}
 use Rattle.encoder.specs.declared.Counters.{Counters}
 use Rattle.encoder.specs.declared.Run.{Run}
 use Rattle.encoder.specs.Held.{run_of, Good, GoodAlone, LongEnough, KnownUnlessFull}
 use Rattle.encoder.specs.Did.{Looked, StateDid, ClausesDid, PlainDid, is_full}
 use Rattle.encoder.proofs.Steps.{state_same}
-use Rattle.storing.specs.Adding.{pair_of, Stores}
+use Rattle.storing.specs.Adding.{Stores}
 use Rattle.storing.proofs.Storing.{store_more}
 use Rattle.storing.proofs.Added.{aux_out_idle}
 use Rattle.storing.proofs.Adding.{good_can_add}
 use Rattle.parts.specs.declared.Naming.TheVariants.{Variable}
 use Rattle.parts.specs.declared.Adding.TheVariants.{AuxOut}
 use Rattle.parts.specs.Parts.{selected_of, naming_of, adding_of, parts_for}
-use Rattle.parts.proofs.Names.{NamedSoFar, naming_first, naming_step, naming_other, naming_variable, naming_due, due_selected, known_idle}
+use Rattle.parts.proofs.Names.{NamedSoFar, naming_first, naming_step, naming_other, naming_variable, naming_due, due_selected, variable_some, variable_none, known_idle}
 use Rattle.parts.proofs.Clauses.{AddedSoFar, aux_out_added, selected_known, adding_selected, adding_other, adding_next}
-use Rattle.constraints.specs.declared.outside.Step.{Step}
-use Rattle.constraints.specs.declared.outside.Step.TheVariants.{To, Left}
 use Rattle.constraints.specs.Outside.{outside, lacks, Finds, with_clauses, Appends}
 
 -- ---- which parts
@@ -62,23 +59,21 @@ and_true : (b : Bool) → b ≡ (b && true)
 and_true true = refl
 and_true false = refl
 
-module _ (c : Catalogue) (vs : List Origin) (r p : ℕ) (o : code.Origin) {x : ℕ} (e : origin_of o ≡ part_origin p) (h : x ≡ place vs (origin_of o)) where
-  pub lacks_not : 0 < x → false ≡ lacks c vs r p
-  unfolding lacks
-  lacks_not l = let q : known vs (part_origin p) ≡ true = rw e at (placed vs (origin_of o) x h l) in rw q (and_false (selected_of c (outside r) p))
+module _ (c : Catalogue) (vs : List Origin) (r p : ℕ) {x : Option ℕ} (h : x ≡ found vs (part_origin p)) where
+  module _ {none : Bool} (z : is_some x ≡ not none) where
+    pub lacks_not : none ≡ false → false ≡ lacks c vs r p
+    unfolding lacks
+    lacks_not i = rw (variable_some vs p x h (rw i at z)) (and_false (selected_of c (outside r) p))
 
-  pub lacks_chosen : {b : Bool} → x ≤ 0 → b ≡ chosen c r NonMatching p → b ≡ lacks c vs r p
-  unfolding lacks selected_of
-  lacks_chosen l d = let q : known vs (part_origin p) ≡ false = rw e at (unplaced vs (origin_of o) x h l) in rw (q, ← d) (and_true _)
+    pub lacks_chosen : {b : Bool} → none ≡ true → b ≡ chosen c r NonMatching p → b ≡ lacks c vs r p
+    unfolding lacks selected_of
+    lacks_chosen i d = rw (variable_none vs p x h (rw i at z), ← d) (and_true _)
 
 module _ (c : Catalogue) (vs : List Origin) (r : ℕ) {n : ℕ} where
   -- a part that is not outside the range lacks nothing
   fewer : {from x : ℕ} → Skips n (selected_of c (outside r)) from x → Skips n (lacks c vs r) from x
   unfolding lacks
   fewer s = record { onward = s.onward; inside = s.inside; none = λ i a b. rw (s.none i a b) }
-
-  pub find_start : {from : ℕ} → from ≤ n → Skips n (lacks c vs r) from from
-  find_start h = skips_none n (lacks c vs r) _ h
 
   pub find_next : {from p x : ℕ} {b : Bool} → Skips n (lacks c vs r) from p → b ≡ lacks c vs r p → b ≡ false → Skips n (chosen c r NonMatching) (p + 1) x
       → Skips n (lacks c vs r) from x
@@ -90,12 +85,6 @@ module _ (c : Catalogue) (vs : List Origin) (r : ℕ) {n : ℕ} where
 
       both : (i : ℕ) → from ≤ i → i < x → lacks c vs r i ≡ false
       both i a b = elim (dec_lt i p) [ yes l ↦ s.none i a l | no l ↦ elim (dec_lt i (p + 1)) [ yes w ↦ here i (omega arith) w | no w ↦ (fewer (outside_skips c r z)).none i (omega arith) b ] ]
-
-  pub find_here : {from p : ℕ} {b : Bool} → Skips n (lacks c vs r) from p → b ≡ lacks c vs r p → b ≡ true → Finds n (lacks c vs r) from p
-  find_here s e f = record { skips = s; here = λ l. sym e ∙ f }
-
-  pub find_none : {from p : ℕ} → Skips n (lacks c vs r) from p → n ≤ p → Finds n (lacks c vs r) from p
-  find_none s h = record { skips = s; here = λ l. (let no : ⊥ = omega arith in absurd no) }
 
 -- ---- they are named
 
@@ -129,12 +118,12 @@ module _ {c : Catalogue} {l : Limits} {r count : ℕ} {n₀ : Counters} {s₀ : 
       → ToName c l r count n₀ s₀ n₀ s₀ x
   name_first_law g z f = record { done = name_on f (naming_first g (outside_skips c r z)); next = f.here }
 
-  pub name_next : {n n' : Counters} {s s' : List ℕ} {p x y : ℕ} (o : code.Origin) → ToName c l r count n₀ s₀ n s p → p < count → origin_of o ≡ part_origin p
-      → PlainDid l (λ c v. add_variable (origin_of o)) n (held l s) n' (held l s') → length s' ≡ length s → Skips count (chosen c r NonMatching) (p + 1) x
+  pub name_next : {n n' : Counters} {s s' : List ℕ} {p x y : ℕ} → ToName c l r count n₀ s₀ n s p → p < count
+      → PlainDid l (λ c v. add_variable (part_origin p)) n (held l s) n' (held l s') → length s' ≡ length s → Skips count (chosen c r NonMatching) (p + 1) x
       → Finds count (lacks c (variables n'.variables (held l s')) r) x y → ToName c l r count n₀ s₀ n' s' y
-  name_next {n} {s = s} {p = p} o a h e d i z f =
+  name_next {n} {s = s} {p = p} a h d i z f =
       record {
-        done = name_on f (naming_due a.done h (outside_skips c r z) (due_selected (outside r) p {b = true} (sym is_outside)) refl i (naming_variable o p e d Variable refl));
+        done = name_on f (naming_due a.done h (outside_skips c r z) (due_selected (outside r) p {b = true} (sym is_outside)) refl i (naming_variable p d Variable refl));
         next = f.here;
       }
     where
@@ -147,13 +136,13 @@ module _ {c : Catalogue} {l : Limits} {r count : ℕ} {n₀ : Counters} {s₀ : 
 
 -- ---- their clauses
 
-left_is_none : {m : ℕ} {A : Type 0} → Left ≡ To m → A
+left_is_none : {m : ℕ} {A : Type 0} → None ≡ Some m → A
 left_is_none e = let z : ◌≡◌ {A = ℕ} 0 1 = cc in let no : ⊥ = omega arith in absurd no
 
-same_number : {m x : ℕ} → To m ≡ To x → m ≡ x
+same_number : {m x : ℕ} → Some m ≡ Some x → m ≡ x
 same_number e = cc
 
-pub append_left : (c : Catalogue) (l : Limits) (r y : ℕ) (n : Counters) (st : ℕ → List ℕ) (count p : ℕ) (cl : List ℕ) → Appends c l r y n st count p cl Left cl
+pub append_left : (c : Catalogue) (l : Limits) (r y : ℕ) (n : Counters) (st : ℕ → List ℕ) (count p : ℕ) (cl : List ℕ) → Appends c l r y n st count p cl None cl
 append_left c l r y n st count p cl = record { to = λ m e. left_is_none e; left = λ e. refl }
 
 is_selected : (c : Catalogue) (r p : ℕ) (b : Bool) → b ≡ chosen c r NonMatching p → b ≡ selected_of c (outside r) p
@@ -162,7 +151,7 @@ is_selected c r p b e = e
 
 stored_as : {c : Catalogue} {l : Limits} {r y : ℕ} {n : Counters} {st : ℕ → List ℕ} {count p : ℕ} {cl : List ℕ} (more : ℕ) {cl' : List ℕ}
     → ((run : Run) → ClausesDid c l (λ v. when (selected_of c (outside r) p) (adding_of (run_of run) (AuxOut y) p)) (with_clauses count n) st cl (with_clauses more n) st cl')
-    → Appends c l r y n st count p cl (To more) cl'
+    → Appends c l r y n st count p cl (Some more) cl'
 stored_as {c} {l} {r} {y} {n} {st} {count} {p} {cl} more {cl'} d =
     record {
       to = λ m e run. subst (λ (z : ℕ). ClausesDid c l (λ v. when (selected_of c (outside r) p) (adding_of (run_of run) (AuxOut y) p)) (with_clauses count n) st cl (with_clauses z n) st cl') (same_number e) (d run);
@@ -170,7 +159,7 @@ stored_as {c} {l} {r} {y} {n} {st} {count} {p} {cl} more {cl'} d =
     }
 
 pub append_other : (c : Catalogue) (l : Limits) (r y : ℕ) (n : Counters) (st : ℕ → List ℕ) (count p : ℕ) (cl : List ℕ) {b : Bool} → b ≡ chosen c r NonMatching p → not b ≡ true
-    → Appends c l r y n st count p cl (To count) cl
+    → Appends c l r y n st count p cl (Some count) cl
 append_other c l r y n st count p cl {b} e f =
     stored_as count (λ run. adding_other (run_of run) (outside r) (AuxOut y) p (is_selected c r p b e) (unless b f))
   where
@@ -182,10 +171,10 @@ append_other c l r y n st count p cl {b} e f =
 module _ (k : Counts) (m u t : List ℕ) {l : Limits} (r y : ℕ) {n : Counters} {st : ℕ → List ℕ} {count p : ℕ} {cl : List ℕ} {b : Bool}
     (e : b ≡ chosen (catalogue k m u t) r NonMatching p) (f : not b ≡ false) (h : p < k.parts)
     (g : Good (catalogue k m u t) l (with_clauses count n) st cl []) {bytes w : ℕ} (long : LongEnough l bytes w)
-    (a : KnownUnlessFull (is_full n) (variables n.variables st) (parts_for (catalogue k m u t) (outside r))) (o : code.Origin) (is : origin_of o ≡ part_origin p) {x : ℕ}
-    (looked : Looked (variables n.variables st) (origin_of o) x) {d : Bool} (z : d ≡ is_true (decisions n.decisions st) x) (v : d ≡ false) where
-  pub append_more : {row : Stored} {more : ℕ} {cl' : List ℕ} → count < l.clauses → row ≡ pair_of 7 x y 0 → more ≡ count + 1 → rows more cl' ≡ snoc (rows count cl) (row_of row)
-      → Appends (catalogue k m u t) l r y n st count p cl (To more) cl'
+    (a : KnownUnlessFull (is_full n) (variables n.variables st) (parts_for (catalogue k m u t) (outside r))) {x : ℕ}
+    (looked : Looked (variables n.variables st) (part_origin p) x) {d : Bool} (z : d ≡ is_true (decisions n.decisions st) x) (v : d ≡ false) where
+  pub append_more : {row : Row} {more : ℕ} {cl' : List ℕ} → count < l.clauses → row ≡ clause_row (clauses.AuxOut x y) 0 → more ≡ count + 1 → rows more cl' ≡ snoc (rows count cl) row
+      → Appends (catalogue k m u t) l r y n st count p cl (Some more) cl'
   append_more {more = more} {cl'} room j q rs = stored_as more added
     where
       told : b ≡ selected_of (catalogue k m u t) (outside r) p
@@ -195,28 +184,25 @@ module _ (k : Counts) (m u t : List ℕ) {l : Limits} (r y : ℕ) {n : Counters}
       selected true i = refl
       selected false i = sym i
 
-      stored : Stores l (pair_of 7 x y 0) (with_clauses count n) cl (with_clauses more n) cl'
-      stored = unfold pair_of in rw add-zero at (store_more {l = l} {n = with_clauses count n} {row = pair_of 7 x y 0} room q (rw j at rs))
+      stored : Stores l (clauses.AuxOut x y) 0 (with_clauses count n) cl (with_clauses more n) cl'
+      stored = rw add-zero at (store_more {l = l} {n = with_clauses count n} {literals = 0} room q rs j (unfold literal_count clause_row in refl))
 
       added : (run : Run)
           → ClausesDid (catalogue k m u t) l (λ v. when (selected_of (catalogue k m u t) (outside r) p) (adding_of (run_of run) (AuxOut y) p)) (with_clauses count n) st cl (with_clauses more n) st cl'
       added run =
           adding_selected (run_of run) (outside r) (AuxOut y) p told (selected b f)
-          (aux_out_added o (with_clauses count n) st is looked (selected_known k m u t (outside r) a h told (selected b f)) (AuxOut y) refl
-          (aux_out_idle {r = run} (good_can_add g long) z stored refl v))
+          (aux_out_added (with_clauses count n) st looked (selected_known k m u t (outside r) a h told (selected b f)) (AuxOut y) refl
+          (aux_out_idle {r = run} (good_can_add g long) z stored v))
 
 -- ---- one after another
 
-module _ {c : Catalogue} {l : Limits} (run : Run) {r y parts : ℕ} {n₀ : Counters} {s₀ cl₀ : List ℕ} {n : Counters} {s cl : List ℕ} {count p : ℕ} {step : Step} {cl' : List ℕ}
+module _ {c : Catalogue} {l : Limits} (run : Run) {r y parts : ℕ} {n₀ : Counters} {s₀ cl₀ : List ℕ} {n : Counters} {s cl : List ℕ} {count p : ℕ} {step : Option ℕ} {cl' : List ℕ}
     (a : AddedSoFar c l (run_of run) (outside r) (AuxOut y) parts n₀ s₀ cl₀ (with_clauses count n) s cl p) (d : Appends c l r y n (held l s) count p cl step cl') where
-  pub appended : {more x : ℕ} → step ≡ To more → p < parts → length cl' ≡ length cl → Skips parts (chosen c r NonMatching) (p + 1) x
+  pub appended : {more x : ℕ} → step ≡ Some more → p < parts → length cl' ≡ length cl → Skips parts (chosen c r NonMatching) (p + 1) x
       → AddedSoFar c l (run_of run) (outside r) (AuxOut y) parts n₀ s₀ cl₀ (with_clauses more n) s cl' x
   appended e h i z = adding_next a h refl i (d.to _ e run) (outside_skips c r z)
 
-  pub left_good : step ≡ Left → Good c l (with_clauses count n) (held l s) cl' []
-  left_good e = rw (d.left e) a.good
-
-  pub left_added : {n' : Counters} {s' cl'' : List ℕ} {x : ℕ} → step ≡ Left → p < parts → length s' ≡ length s → length cl'' ≡ length cl' → length cl' ≡ length cl
+  pub left_added : {n' : Counters} {s' cl'' : List ℕ} {x : ℕ} → step ≡ None → p < parts → length s' ≡ length s → length cl'' ≡ length cl' → length cl' ≡ length cl
       → ClausesDid c l (λ v. when (selected_of c (outside r) p) (adding_of (run_of run) (AuxOut y) p)) (with_clauses count n) (held l s) cl' n' (held l s') cl''
       → Skips parts (chosen c r NonMatching) (p + 1) x → AddedSoFar c l (run_of run) (outside r) (AuxOut y) parts n₀ s₀ cl₀ (with_clauses n'.clauses n') s' cl'' x
   left_added e h j w i b z = adding_next a h j (w ∙ i) (rw (d.left e) at b) (outside_skips c r z)

@@ -20,6 +20,7 @@ use Rattle.rules.proofs.DistinctEnough.{fold_append}
 use Rattle.rules.proofs.ClauseByClause.{add_clause, emit_one_by_one}
 use Rattle.rules.proofs.Capped.{add_variable}
 use Rattle.rules.proofs.Bools.{or_none}
+use Rattle.requirement.specs.Requirements.{owner_is}
 use Rattle.tables.specs.declared.Counts.{Counts}
 use Rattle.tables.specs.declared.Constraint as code
 use Rattle.tables.specs.Tables.{tables, constraint_is}
@@ -29,7 +30,6 @@ use Rattle.state.specs.declared.Limits.{Limits}
 use Rattle.variable_map.specs.declared.Origin as variable_map
 use Rattle.variable_map.specs.Mapping.{origin_of}
 use Rattle.variable_map.proofs.Places.{known_after}
-use Rattle.marked.specs.Marked.{owner_of}
 use Rattle.encoder.specs.declared.Counters.{Counters}
 use Rattle.encoder.specs.Did.{ClausesDid, PlainDid}
 use Rattle.encoder.proofs.Steps.{clauses_none, state_then_clauses}
@@ -38,7 +38,7 @@ use Rattle.parts.specs.declared.Adding.TheVariants.{Constrains, AuxOut}
 use Rattle.parts.specs.Parts.{naming_of, clause_for, adding_of}
 use Rattle.parts.proofs.Clauses.{adds_are}
 use Rattle.parts.proofs.Serving.{names_are, task_served}
-use Rattle.owners.specs.Owners.{owner_is, serving}
+use Rattle.owners.specs.Owners.{serving}
 use Rattle.constraints.specs.Constraints.{constrain_few, add_violation, constrain_many}
 use Rattle.constraints.proofs.Owners.{range_at, owner_at_law}
 
@@ -155,24 +155,24 @@ module _ (c : Catalogue) (run : Run) (i : ℕ) where
 
 -- ---- for the code: the owner has got its variable
 
-module _ (k : Counts) (m u t : List ℕ) (i : ℕ) (it : code.Constraint) (e : constraint_is it ≡ get_or (tables k t).constraints i no_constraint) (x : ℕ)
-    (f : owner_of x ≡ owner_is it.owner) (w : variable_map.Origin) (g : origin_of w ≡ chosen (owner_of x)) (run : Run)
+module _ (k : Counts) (m u t : List ℕ) (i : ℕ) (it : code.Constraint) (e : constraint_is it ≡ get_or (tables k t).constraints i no_constraint)
+    (w : variable_map.Origin) (g : origin_of w ≡ chosen (owner_is it.owner)) (run : Run)
     {l : Limits} {n n' n'' : Counters} {st st' st'' : ℕ → List ℕ} {cl cl' : List ℕ} (d : PlainDid l (λ c v. add_variable (origin_of w)) n st n' st') {y : ℕ}
     (a : Counted y (non_matching (catalogue k m u t) it.range)) where
-  pub few_served : y < 4 → ClausesDid (catalogue k m u t) l (λ v. constrain_few (catalogue k m u t) run (owner_of x) it.range) n' st' cl n'' st'' cl'
+  pub few_served : y < 4 → ClausesDid (catalogue k m u t) l (λ v. constrain_few (catalogue k m u t) run (owner_is it.owner) it.range) n' st' cl n'' st'' cl'
       → ClausesDid (catalogue k m u t) l (λ v. serving (catalogue k m u t) run (constraint i)) n st cl n'' st'' cl'
   unfolding serving
   few_served h b =
       let held : Catalogue = catalogue k m u t in
       let q : few (non_matching held (constraint_at held i).range) ≡ true = rw (range_at k m u t i it e) (is_few held it.range a h) in
       task_served held run (constraint i) (λ p z. unfold serve in refl) (state_then_clauses (d.is held) b)
-      (λ v s. rw (g, ← owner_at_law k m u t i it e x f, ← range_at k m u t i it e) (few_serves held run i q s))
+      (λ v s. rw (g, ← owner_at_law k m u t i it e, ← range_at k m u t i it e) (few_serves held run i q s))
 
-  pub many_served : 4 ≤ y → ClausesDid (catalogue k m u t) l (λ v. constrain_many (catalogue k m u t) run (owner_of x) it.range) n' st' cl n'' st'' cl'
+  pub many_served : 4 ≤ y → ClausesDid (catalogue k m u t) l (λ v. constrain_many (catalogue k m u t) run (owner_is it.owner) it.range) n' st' cl n'' st'' cl'
       → ClausesDid (catalogue k m u t) l (λ v. serving (catalogue k m u t) run (constraint i)) n st cl n'' st'' cl'
   unfolding serving
   many_served h b =
       let held : Catalogue = catalogue k m u t in
       let q : few (non_matching held (constraint_at held i).range) ≡ false = rw (range_at k m u t i it e) (is_many held it.range a h) in
       task_served held run (constraint i) (λ p z. unfold serve in refl) (state_then_clauses (d.is held) b)
-      (λ v s. rw (g, ← owner_at_law k m u t i it e x f, ← range_at k m u t i it e) (many_serves held run i q s))
+      (λ v s. rw (g, ← owner_at_law k m u t i it e, ← range_at k m u t i it e) (many_serves held run i q s))

@@ -1,9 +1,10 @@
 -- A constraint's clauses, few or through a violation: a law for each way out.
-use mathlib.Core.Path.{◌≡◌, ◌∙◌, ap}
-use mathlib.Core.Bool.{Bool, true, false, not}
+use mathlib.Core.Path.{◌≡◌, refl, sym, ◌∙◌, ap}
+use mathlib.Core.Bool.{Bool, true, false, not, true≢false}
 use mathlib.Core.List.{List, []}
 use Prim.Native.Nat.{ℕ, ◌<◌}
 use native.Mathlib.Omega.{arith}
+use Rattle.std.specs.Prelude.{Option, None, Some, is_some}
 use Rattle.rules.specs.Lists.{fold, when}
 use Rattle.rules.specs.Clause.{aux_owner}
 use Rattle.rules.specs.Catalogue.{Owner, Catalogue}
@@ -15,8 +16,9 @@ use Rattle.rules.proofs.Places.{with_variable_known}
 use Rattle.rules.proofs.Capped.{add_variable}
 use Rattle.state.specs.declared.Limits.{Limits}
 use Rattle.variable_map.specs.declared.Origin as code
-use Rattle.variable_map.specs.Mapping.{origin_of, variables, Mapped}
+use Rattle.variable_map.specs.Mapping.{origin_of, variables, found, Mapped}
 use Rattle.variable_map.proofs.Laws.{count}
+use Rattle.variable_map.proofs.Places.{found_known, found_none}
 use Rattle.encoder.specs.declared.Counters.{Counters}
 use Rattle.encoder.specs.declared.Run.{Run}
 use Rattle.encoder.specs.Held.{run_of, Reading, state_of, GoodAlone, KnownUnlessFull}
@@ -36,6 +38,12 @@ use Rattle.constraints.specs.Constraints.{Knows, constrain_few, add_violation, c
 
 -- ---- origins that have their variables
 
+pub new_is : (vs : List Origin) (o : Origin) (r : Option ℕ) (b : Bool) → is_some r ≡ not b → r ≡ found vs o → b ≡ not (known vs o)
+new_is vs o (Some x) true e f = absurd (true≢false e)
+new_is vs o (Some x) false e f = rw (found_known vs o (Some x) f x refl).0
+new_is vs o None true e f = rw (found_none vs o None f refl)
+new_is vs o None false e f = absurd (true≢false (sym e))
+
 module _ {c : Catalogue} {l : Limits} {n n' : Counters} {st st' : ℕ → List ℕ} where
   pub knows_after : {F : Reading → State → State} {o : Origin} → StateDid c l F n st n' st' → GoodAlone c l n st → Knows (is_full n) (variables n.variables st) o
       → Knows (is_full n') (variables n'.variables st') o
@@ -43,20 +51,21 @@ module _ {c : Catalogue} {l : Limits} {n n' : Counters} {st st' : ℕ → List �
       let b = d.is g.clauses [] in
       record { known = λ e. still_known b g.good e o (k.known (not_full b g.good e)) }
 
-  pub named_knows : (w : code.Origin) {o : Origin} → origin_of w ≡ o → PlainDid l (λ c v. add_variable (origin_of w)) n st n' st' → GoodAlone c l n st
-      → Knows (is_full n') (variables n'.variables st') o
-  named_knows w i d g =
+  pub named_knows : {o : Origin} → PlainDid l (λ c v. add_variable o) n st n' st' → GoodAlone c l n st → Knows (is_full n') (variables n'.variables st') o
+  named_knows {o} d g =
       let v : Reading = record { truth = λ p. false; drawn = [] } in
-      record {
-        known = λ e. rw (variables_after_law ((d.is c).is g.clauses []) g.good e v, ← i) (unfold add_variable in with_variable_known (origin_of w) _);
-      }
+      record { known = λ e. rw (variables_after_law ((d.is c).is g.clauses []) g.good e v) (unfold add_variable in with_variable_known o _) }
+
+  -- of an origin by the code's
+  pub owner_knows : (w : code.Origin) {o : Origin} → origin_of w ≡ o → PlainDid l (λ c v. add_variable (origin_of w)) n st n' st' → GoodAlone c l n st
+      → Knows (is_full n') (variables n'.variables st') o
+  owner_knows w i d g = rw i at (named_knows d g)
 
 pub looked_is : {vs : List Origin} {x : ℕ} (w : code.Origin) {o : Origin} → origin_of w ≡ o → Looked vs (origin_of w) x → known vs o ≡ true → x ≡ variable_of vs o
 looked_is {vs} w i k h = k.is (rw i h) ∙ ap (variable_of vs) i
 
-pub looked_below : {l : Limits} (n : ℕ) (st : ℕ → List ℕ) {x : ℕ} (w : code.Origin) {o : Origin} → origin_of w ≡ o → Mapped l n st → Looked (variables n st) (origin_of w) x
-    → known (variables n st) o ≡ true → x < l.variables
-looked_below n st w i m k h = omega (arith, m.room, k.below (rw i h), count n st)
+pub looked_below : {l : Limits} (n : ℕ) (st : ℕ → List ℕ) {x : ℕ} {o : Origin} → Mapped l n st → Looked (variables n st) o x → known (variables n st) o ≡ true → x < l.variables
+looked_below n st m k h = omega (arith, m.room, k.below h, count n st)
 
 pub non_matching_known : (c : Catalogue) (r : ℕ) {full : Bool} {vs : List Origin} → KnownUnlessFull full vs (non_matching c r) → KnownUnlessFull full vs (parts_for c (Chosen r NonMatching))
 non_matching_known c r a = rw (non_matching_parts c r) a
@@ -117,13 +126,13 @@ module _ {c : Catalogue} {l : Limits} (run : Run) (o : Owner) (r : ℕ) {n n' : 
         is = λ wt. did_as (g.is c wt) (λ v s. violation_widens c (run_of run) o r new s) (λ _ f v. unfold add_violation state_of when in rw (e, ← i, ← j));
       }
 
-module _ {c : Catalogue} {l : Limits} (run : Run) (o : Owner) (r : ℕ) (w : code.Origin) {n n₁ n₂ : Counters} {st st₁ st₂ : ℕ → List ℕ} {new : Bool}
-    (e : new ≡ not (known (variables n.variables st) (violation r))) (i : origin_of w ≡ violation r)
-    (d₁ : PlainDid l (λ c v. add_variable (origin_of w)) n st n₁ st₁)
+module _ {c : Catalogue} {l : Limits} (run : Run) (o : Owner) (r : ℕ) {n n₁ n₂ : Counters} {st st₁ st₂ : ℕ → List ℕ} {new : Bool}
+    (e : new ≡ not (known (variables n.variables st) (violation r)))
+    (d₁ : PlainDid l (λ c v. add_variable (violation r)) n st n₁ st₁)
     (d₂ : StateDid c l (λ v. fold (naming_of c Variable) (parts_for c (Chosen r NonMatching))) n₁ st₁ n₂ st₂) where
   -- all variables are there
   named : StateDid c l (λ v s. fold (naming_of c Variable) (non_matching c r) (add_variable (violation r) s)) n st n₂ st₂
-  named = rw (i, non_matching_parts c r) at (state_then (d₁.is c) d₂)
+  named = rw (non_matching_parts c r) at (state_then (d₁.is c) d₂)
 
   many : (cl : List ℕ) (v : Reading) (wt : List ℕ)
       → add_violation c (run_of run) o r new (fold (naming_of c Variable) (non_matching c r) (add_variable (violation r) (state_of c l v n st cl wt)))

@@ -1,5 +1,5 @@
 -- The parts outside a range, its non-matching parts, gone through with few numbers.
-use Rattle.std.specs.Prelude.{◌≡◌, Bool, true, not, ◌&&◌, List, ℕ, ◌<◌}
+use Rattle.std.specs.Prelude.{◌≡◌, Bool, true, not, ◌&&◌, Option, None, Some, List, ℕ, ◌<◌}
 use Rattle.rules.specs.Lists.{when}
 use Rattle.rules.specs.Catalogue.{Catalogue}
 use Rattle.rules.specs.Variables.{Origin, known, part_origin}
@@ -15,8 +15,6 @@ use Rattle.parts.specs.declared.Parts.{Parts}
 use Rattle.parts.specs.declared.Parts.TheVariants.{Chosen}
 use Rattle.parts.specs.declared.Adding.TheVariants.{AuxOut}
 use Rattle.parts.specs.Parts.{selected_of, adding_of}
-use Rattle.constraints.specs.declared.outside.Step.{Step}
-use Rattle.constraints.specs.declared.outside.Step.TheVariants.{To, Left}
 
 abbrev pub outside : ℕ → Parts
 outside r = Chosen r NonMatching
@@ -35,7 +33,7 @@ abbrev pub with_clauses : ℕ → Counters → Counters
 with_clauses x n = counting x n.literals n
 
 -- y is the violation of range r. Behind `count` clauses that of part p is stored, if p is outside r; or it is left, and nothing is stored.
-pub record Appends (c : Catalogue) (l : Limits) (r y : ℕ) (n : Counters) (st : ℕ → List ℕ) (count p : ℕ) (cl : List ℕ) (x : Step) (cl' : List ℕ) : Type 0 where
-  pub to : (m : ℕ) → x ≡ To m → (run : Run)
+pub record Appends (c : Catalogue) (l : Limits) (r y : ℕ) (n : Counters) (st : ℕ → List ℕ) (count p : ℕ) (cl : List ℕ) (x : Option ℕ) (cl' : List ℕ) : Type 0 where
+  pub to : (m : ℕ) → x ≡ Some m → (run : Run)
       → ClausesDid c l (λ v. when (selected_of c (outside r) p) (adding_of (run_of run) (AuxOut y) p)) (with_clauses count n) st cl (with_clauses m n) st cl'
-  pub left : x ≡ Left → cl' ≡ cl
+  pub left : x ≡ None → cl' ≡ cl

@@ -3,12 +3,13 @@ use mathlib.Core.Path.{◌≡◌, refl, sym, ◌∙◌, ap, subst}
 use mathlib.Core.Logic.{◌≢◌}
 use mathlib.Core.Bool.{Bool, true, false}
 use mathlib.Core.List.{List, [], ◌∷◌, map}
-use mathlib.Core.Option.{none, some}
-use Prim.Native.Nat.{ℕ, ◌+◌, ◌*◌, ◌-◌, ◌<◌, ◌≤◌}
+use mathlib.Core.Option.{some}
+use Prim.Native.Nat.{ℕ, zero, suc, ◌+◌, ◌*◌, ◌-◌, ◌<◌, ◌≤◌}
 use native.Mathlib.Numerals.{add-one}
 use native.Mathlib.Decide.{dec_lt, ℕ_discrete}
 use native.Mathlib.Omega.{arith}
 use lib.Dec.{eqb, leb}
+use mir.Val.{bool_byte}
 use lib.ListN.{length, get_or, set, length-set, length-map, get_or-eq_default}
 use lib.Seq.{get_or-set_same, get_or-set_other}
 use borrow.Author.Tests.{le-leb, lt-leb}
@@ -20,17 +21,16 @@ use Rattle.rules.proofs.Evaluation.{Undecided, undecided_out, undecided_in}
 use Rattle.rules.proofs.Levels.{Rising, last_highest}
 use Rattle.regions.specs.Regions.{stored}
 use Rattle.clause.specs.declared.Literal as clause
-use Rattle.clause.specs.declared.Value.{Value}
-use Rattle.clause.specs.declared.Value.TheVariants as values
-use Rattle.clause.specs.Literals.{literal_of, value_of}
+use Rattle.std.specs.Prelude.{Option, None, Some, SomeIff}
+use Rattle.clause.specs.Literals.{literal_of}
 use Rattle.clause.specs.Literals as literals
 use Rattle.state.specs.declared.Limits.{Limits}
 use Rattle.state.specs.Layout.{held, Fits}
 use Rattle.state.specs.Changed.{Changed, Blank}
-use Rattle.state.proofs.Changed.{stored_here, changed_stored, changed_none, changed_then, changed_within, length_values, length_decisions}
+use Rattle.state.proofs.Changed.{stored_here, changed_stored, changed_then, changed_within, length_values, length_decisions}
 use Rattle.state.proofs.Rows.{length_rows, row_at_law, rows_more, rows_same}
 use Rattle.decision_tracker.specs.declared.Decision as code
-use Rattle.decision_tracker.specs.Tracking.{clause_by, decision_by, decision_of, decision_in, decisions, no_decision, seen, number_of, Kept, Free, Rowed, Told, Dropped}
+use Rattle.decision_tracker.specs.Tracking.{clause_of, clause_number, clause_by, decision_by, decision_of, decision_in, decisions, no_decision, seen, number_of, Kept, Free, Rowed, Told, Dropped}
 use Rattle.decision_tracker.proofs.Lists.{filter_all, filter_last, each_first, pairwise_first, pairwise_last, few}
 use Rattle.decision_tracker.proofs.Values.{evaluate_other, evaluate_new, seen_decided, literal_value, reads_undecided}
 
@@ -56,15 +56,6 @@ pub kept_none : (l : Limits) (st : ℕ → List ℕ) → Blank 17 st → Kept l 
 unfolding decisions up_to evaluate seen number_of
 kept_none l st z = record { room = omega arith; values = z.zeros; below = Each.nil; once = Pairwise.nil }
 
--- the clause i, as a row has it
-pub clause_some : (i : ℕ) → clause_by (i + 1) ≡ some i
-unfolding clause_by
-clause_some i = rw add-one
-
-pub clause_none : clause_by 0 ≡ none
-unfolding clause_by
-clause_none = refl
-
 -- while a variable below n is undecided, there are fewer than n decisions
 pub fewer : (n x : ℕ) {ds : List Decision} → Each (λ (e : Decision). e.variable < n) ds → Pairwise (λ (e f : Decision). e.variable ≢ f.variable) ds
     → x < n → is_undecided (evaluate ds (pos x)) ≡ true → length ds < n
@@ -85,59 +76,64 @@ room_for {l} {d} {x} {st} f = rw (count d st) at (fewer l.variables x f.kept.bel
 pub variable_free : (ds : List Decision) (k : Literal) → is_undecided (evaluate ds k) ≡ true → is_undecided (evaluate ds (pos k.variable)) ≡ true
 variable_free ds k u = ap is_undecided (undecided_in ds (pos k.variable) (undecided_out ds k u))
 
-pub literal_free : {l : Limits} {d y : ℕ} {st : ℕ → List ℕ} {v : Value} (x : clause.Literal) → Kept l d st → y ≡ (literal_of x).variable
-    → (literal_of x).variable < l.variables → v ≡ seen (evaluate (decisions d st) (literal_of x)) → v ≡ values.Undecided → Free l d y st
+pub literal_free : {l : Limits} {d y : ℕ} {st : ℕ → List ℕ} {v : Option Bool} (x : clause.Literal) → Kept l d st → y ≡ (literal_of x).variable
+    → (literal_of x).variable < l.variables → v ≡ seen (evaluate (decisions d st) (literal_of x)) → v ≡ None → Free l d y st
 literal_free {d = d} {st = st} {v = v} x p n h e q =
     record { kept = p; exists = rw n h; free = rw n (variable_free (decisions d st) (literal_of x) (reads_undecided (decisions d st) (literal_of x) v e q)) }
 
 -- ---- values
 
-pub number_true : (b : Bool) → b ≡ true → 2 ≡ number_of (value_of b)
+none_law : (v : Option Bool) → number_of v ≡ 0 → None ≡ v
 unfolding number_of
-number_true b e = rw e
+none_law None e = refl
+none_law (Some false) e = let no : ⊥ = omega arith in absurd no
+none_law (Some true) e = let no : ⊥ = omega arith in absurd no
 
-pub number_false : (b : Bool) → b ≡ false → 1 ≡ number_of (value_of b)
+false_law : (v : Option Bool) → number_of v ≡ 1 → Some false ≡ v
 unfolding number_of
-number_false b e = rw e
+false_law None e = let no : ⊥ = omega arith in absurd no
+false_law (Some false) e = refl
+false_law (Some true) e = let no : ⊥ = omega arith in absurd no
 
-is_undecided_law : (v : Value) → number_of v ≡ 0 → values.Undecided ≡ v
+true_law : (v : Option Bool) → (number_of v ≡ 0 → ⊥) → (number_of v ≡ 1 → ⊥) → Some true ≡ v
 unfolding number_of
-is_undecided_law values.Undecided e = refl
-is_undecided_law values.False e = let no : ⊥ = omega arith in absurd no
-is_undecided_law values.True e = let no : ⊥ = omega arith in absurd no
-
-is_false : (v : Value) → number_of v ≡ 1 → values.False ≡ v
-unfolding number_of
-is_false values.Undecided e = let no : ⊥ = omega arith in absurd no
-is_false values.False e = refl
-is_false values.True e = let no : ⊥ = omega arith in absurd no
-
-is_true : (v : Value) → (number_of v ≡ 0 → ⊥) → (number_of v ≡ 1 → ⊥) → values.True ≡ v
-unfolding number_of
-is_true values.Undecided a b = absurd (a refl)
-is_true values.False a b = absurd (b refl)
-is_true values.True a b = refl
+true_law None a b = absurd (a refl)
+true_law (Some false) a b = absurd (b refl)
+true_law (Some true) a b = refl
 
 module _ (l : Limits) (d x n : ℕ) (st : ℕ → List ℕ) (k : Kept l d st) (e : n ≡ get_or (st 17) x 0) where
-  pub value_undecided : n ≡ 0 → values.Undecided ≡ seen (evaluate (decisions d st) (pos x))
-  value_undecided z = is_undecided_law _ (sym (k.values x) ∙ (sym e ∙ z))
+  pub value_undecided : n ≡ 0 → None ≡ seen (evaluate (decisions d st) (pos x))
+  value_undecided z = none_law _ (sym (k.values x) ∙ (sym e ∙ z))
 
-  pub value_false : n ≡ 1 → values.False ≡ seen (evaluate (decisions d st) (pos x))
-  value_false z = is_false _ (sym (k.values x) ∙ (sym e ∙ z))
+  pub value_false : n ≡ 1 → Some false ≡ seen (evaluate (decisions d st) (pos x))
+  value_false z = false_law _ (sym (k.values x) ∙ (sym e ∙ z))
 
-  pub value_true : (n ≡ 0 → ⊥) → (n ≡ 1 → ⊥) → values.True ≡ seen (evaluate (decisions d st) (pos x))
-  value_true a b = is_true _ (λ z. a (e ∙ (k.values x ∙ z))) (λ z. b (e ∙ (k.values x ∙ z)))
+  pub value_true : (n ≡ 0 → ⊥) → (n ≡ 1 → ⊥) → Some true ≡ seen (evaluate (decisions d st) (pos x))
+  value_true a b = true_law _ (λ z. a (e ∙ (k.values x ∙ z))) (λ z. b (e ∙ (k.values x ∙ z)))
 
-pub eval_is : (ds : List Decision) (k : clause.Literal) (x : ℕ) (v r : Value) → x ≡ (literal_of k).variable → v ≡ seen (evaluate ds (pos x))
+pub eval_is : (ds : List Decision) (k : clause.Literal) (x : ℕ) (v r : Option Bool) → x ≡ (literal_of k).variable → v ≡ seen (evaluate ds (pos x))
     → r ≡ literals.held (literal_of k) v → r ≡ seen (evaluate ds (literal_of k))
 eval_is ds k x v r e f g = g ∙ rw (f, e) (literal_value ds (literal_of k))
 
 -- ---- rows
 
-pub decision_is : (st : ℕ → List ℕ) (d i x y k c : ℕ) → i < d → x ≡ get_or (st 18) (4 * i) 0 → y ≡ get_or (st 18) (4 * i + 1) 0 → k ≡ get_or (st 18) (4 * i + 2) 0
-    → c ≡ get_or (st 18) (4 * i + 3) 0 → decision_of (record { variable = x; value = eqb y 1; level = k; clause = c }) ≡ get_or (decisions d st) i no_decision
+clause_read : (r : Option ℕ) (n : ℕ) → SomeIff r (1 ≤ n) (n - 1) → clause_of r ≡ clause_by n
+unfolding clause_of clause_by
+clause_read None zero h = refl
+clause_read None (suc n) h = absurd (h (omega arith))
+clause_read (Some i) zero h = let no : ⊥ = omega (arith, h.0) in absurd no
+clause_read (Some i) (suc n) h = ap some (omega (arith, h.1))
+
+clause_stored : (r : Option ℕ) → clause_by (clause_number r) ≡ clause_of r
+unfolding clause_of clause_by clause_number
+clause_stored None = refl
+clause_stored (Some i) = rw add-one
+
+pub decision_is : (st : ℕ → List ℕ) (d i x y k n : ℕ) (c : Option ℕ) → i < d → x ≡ get_or (st 18) (4 * i) 0 → y ≡ get_or (st 18) (4 * i + 1) 0 → k ≡ get_or (st 18) (4 * i + 2) 0
+    → n ≡ get_or (st 18) (4 * i + 3) 0 → SomeIff c (1 ≤ n) (n - 1) → decision_of (record { variable = x; value = eqb y 1; level = k; clause = c }) ≡ get_or (decisions d st) i no_decision
 unfolding decision_of decisions
-decision_is st d i x y k c h e₀ e₁ e₂ e₃ = rw (row_at_law (decision_in (st 18)) no_decision d i h, e₀, e₁, e₂, e₃) (unfold decision_in in refl)
+decision_is st d i x y k n c h e₀ e₁ e₂ e₃ r =
+    rw (row_at_law (decision_in (st 18)) no_decision d i h, clause_read c n r, e₀, e₁, e₂, e₃) (unfold decision_in decision_by in refl)
 
 split : (d : ℕ) (st : ℕ → List ℕ) → decisions (d + 1) st ≡ snoc (decisions d st) (decision_in (st 18) d)
 unfolding decisions
@@ -242,34 +238,40 @@ module _ (l : Limits) (d x y k c : ℕ) (b b₁ b₂ b₃ b₄ : List ℕ) (fits
         row_new (held l b 18) (held l b₄ 18) d x y k c at_18 in_region,
       )
 
-  pub row_pushed : Rowed d (decision_by x (eqb y 1) k c) (held l b) (held l b₄)
-  row_pushed =
+  pub row_pushed : (new : Decision) → decision_by x (eqb y 1) k c ≡ new → Rowed d new (held l b) (held l b₄)
+  row_pushed new e =
       record {
-        is = one_more;
+        is = rw (← e) one_more;
         rest =
             changed_then (changed_stored 18 (4 * d) x e₁ (unfold any in refl))
             (changed_then (changed_stored 18 (4 * d + 1) y e₂ (unfold any in refl))
             (changed_then (changed_stored 18 (4 * d + 2) k e₃ (unfold any in refl)) (changed_stored 18 (4 * d + 3) c e₄ (unfold any in refl))));
       }
 
+value_stored : (b : Bool) → eqb (bool_byte b) 1 ≡ b
+value_stored true = refl
+value_stored false = refl
+
+pub stored_is : (new : code.Decision) (y c : ℕ) → y ≡ bool_byte new.value → c ≡ clause_number new.clause → decision_by new.variable (eqb y 1) new.level c ≡ decision_of new
+unfolding decision_by decision_of
+stored_is new y c e f = rw (e, f, value_stored, clause_stored)
+
 -- ---- one decision more
 
-module _ (l : Limits) (d y n : ℕ) (new : code.Decision) (b b₁ b₂ : List ℕ) (fits : Fits l (length b)) (f : Free l d new.variable (held l b))
-    (p : eqb y 1 ≡ new.value) (g : Rowed d (decision_by new.variable (eqb y 1) new.level new.clause) (held l b) (held l b₁))
-    (q : n ≡ number_of (value_of new.value)) (e : held l b₂ ≡ stored (held l b₁) 17 new.variable n) where
+module _ (l : Limits) (d n : ℕ) (new : code.Decision) (b b₁ b₂ : List ℕ) (fits : Fits l (length b)) (f : Free l d new.variable (held l b))
+    (g : Rowed d (decision_of new) (held l b) (held l b₁)) (q : n ≡ number_of (Some new.value)) (e : held l b₂ ≡ stored (held l b₁) 17 new.variable n) where
   at_17 : held l b₂ 17 ≡ set (held l b 17) new.variable n
   at_17 = rw (e, stored_here (held l b₁) 17 new.variable n, g.rest.same 17 (unfold any in refl))
 
   is_now : decisions (d + 1) (held l b₂) ≡ snoc (decisions d (held l b)) (decision_of new)
-  unfolding decision_of
-  is_now = decisions_kept (changed_stored {js = 17 ∷ []} 17 new.variable n e (unfold any in refl)) (d + 1) (unfold any in refl) ∙ rw p at g.is
+  is_now = decisions_kept (changed_stored {js = 17 ∷ []} 17 new.variable n e (unfold any in refl)) (d + 1) (unfold any in refl) ∙ g.is
 
   free : Undecided (decisions d (held l b)) new.variable
   free = undecided_out (decisions d (held l b)) (pos new.variable) f.free
 
   value_now : (x : ℕ) → Dec (x ≡ new.variable)
       → get_or (set (held l b 17) new.variable n) x 0 ≡ number_of (seen (evaluate (snoc (decisions d (held l b)) (decision_of new)) (pos x)))
-  unfolding decision_of decision_by
+  unfolding decision_of
   value_now x (yes z) =
       rw (z, evaluate_new (decision_of new) (pos new.variable) free refl, seen_decided new.value new.level)
       (get_or-set_same (held l b 17) new.variable n 0 (rw (length_values l b fits) f.exists) ∙ q)
@@ -283,8 +285,8 @@ module _ (l : Limits) (d y n : ℕ) (new : code.Decision) (b b₁ b₂ : List �
       record {
         room = omega arith;
         values = λ x. rw (at_17, is_now) (value_now x (ℕ_discrete x new.variable));
-        below = rw is_now (each_snoc f.kept.below (unfold decision_of decision_by in f.exists));
-        once = rw is_now (pairwise_snoc f.kept.once (unfold decision_of decision_by in free));
+        below = rw is_now (each_snoc f.kept.below (unfold decision_of in f.exists));
+        once = rw is_now (pairwise_snoc f.kept.once (unfold decision_of in free));
       } in
       record {
         kept = kept;
@@ -336,9 +338,11 @@ module _ (l : Limits) (r x : ℕ) (st st' : ℕ → List ℕ) (k : Kept l (r + 1
         once = rw left (pairwise_first (decisions r st) last once);
       }
 
-pub dropped : (l : Limits) (d x : ℕ) (st st' : ℕ → List ℕ) → 0 < d → Kept l d st → x ≡ get_or (st 18) (4 * (d - 1)) 0 → st' ≡ stored st 17 x 0
+pub dropped : (l : Limits) (d x n : ℕ) (st st' : ℕ → List ℕ) → 0 < d → Kept l d st → x ≡ get_or (st 18) (4 * (d - 1)) 0 → n ≡ number_of None → st' ≡ stored st 17 x n
     → Dropped l d (d - 1) st st'
-dropped l d x st st' h k e g =
+unfolding number_of
+dropped l d x n st st' h k e z q =
+    let g : st' ≡ stored st 17 x 0 = rw z at q in
     let p : d ≡ d - 1 + 1 = omega arith in
     record { less = p; kept = kept_left l (d - 1) x st st' (subst (λ (n : ℕ). Kept l n st) p k) e g; rest = others l (d - 1) x st st' (subst (λ (n : ℕ). Kept l n st) p k) e g }
 
@@ -360,9 +364,6 @@ pub record Undoing (l : Limits) (level d : ℕ) (b₀ : List ℕ) (k : ℕ) (b :
   pub rising : Rising (decisions k (held l b))
   pub same : up_to_level level (decisions k (held l b)) ≡ up_to_level level (decisions d (held l b₀))
   pub rest : Changed (17 ∷ 18 ∷ []) (held l b₀) (held l b)
-
-pub undo_start : (l : Limits) (level d : ℕ) (b : List ℕ) → Fits l (length b) → Kept l d (held l b) → Rising (decisions d (held l b)) → Undoing l level d b d b
-undo_start l level d b f k r = record { fits = f; long = refl; kept = k; rising = r; same = refl; rest = changed_none (17 ∷ 18 ∷ []) (held l b) }
 
 -- a last level above another is that of some decision
 pub some_left : (d r level : ℕ) (st : ℕ → List ℕ) → r ≡ last_level (decisions d st) → level < r → 0 < d

@@ -12,9 +12,10 @@ use Rattle.rules.specs.Decisions.{Decision, Evaluation, undecided, satisfied, fa
 use Rattle.rules.proofs.Bools.{by_cases}
 use Rattle.rules.proofs.Each.{Each}
 use Rattle.rules.proofs.Evaluation.{Undecided}
-use Rattle.clause.specs.declared.Value.{Value}
-use Rattle.clause.specs.declared.Value.TheVariants as values
-use Rattle.clause.specs.Literals.{value_of, held}
+use mathlib.Core.Bool.{beq}
+use Rattle.std.specs.Prelude.{Option, None, Some}
+use Rattle.std.specs.Option.{option_eq}
+use Rattle.clause.specs.Literals.{held}
 use Rattle.decision_tracker.specs.Tracking.{seen, says_undecided, says_false, says_true}
 
 -- ---- one decision more
@@ -33,12 +34,12 @@ evaluate_new d l (Each.cons {x} n ns) e = rw (ne_eqb l.variable x.variable (λ q
 
 -- ---- without the level
 
-pub seen_decided : (b : Bool) (k : ℕ) → seen (decided_as b k) ≡ value_of b
+pub seen_decided : (b : Bool) (k : ℕ) → seen (decided_as b k) ≡ Some b
 unfolding seen decided_as
 seen_decided true k = refl
 seen_decided false k = refl
 
-held_value : (l : Literal) (b : Bool) → held l (value_of b) ≡ value_of (same l.positive b)
+held_value : (l : Literal) (b : Bool) → held l (Some b) ≡ Some (same l.positive b)
 unfolding held
 held_value l true = refl
 held_value l false = refl
@@ -72,42 +73,39 @@ satisfied_seen undecided = refl
 satisfied_seen (satisfied k) = refl
 satisfied_seen (falsified k) = refl
 
-pub reads_undecided : (ds : List Decision) (l : Literal) (v : Value) → v ≡ seen (evaluate ds l) → v ≡ values.Undecided → is_undecided (evaluate ds l) ≡ true
+pub reads_undecided : (ds : List Decision) (l : Literal) (v : Option Bool) → v ≡ seen (evaluate ds l) → v ≡ None → is_undecided (evaluate ds l) ≡ true
 reads_undecided ds l v e q = undecided_seen (evaluate ds l) ∙ rw (← e, q)
 
 -- ---- what the code answers of a variable or a literal
 
-module _ (ds : List Decision) (k : Literal) {v : Value} (e : v ≡ seen (evaluate ds k)) where
-  pub falsified_undecided : v ≡ values.Undecided → false ≡ is_falsified (evaluate ds k)
+module _ (ds : List Decision) (k : Literal) {v : Option Bool} (e : v ≡ seen (evaluate ds k)) where
+  pub falsified_undecided : v ≡ None → false ≡ is_falsified (evaluate ds k)
   falsified_undecided q = rw (falsified_seen, ← e, q)
 
-  pub falsified_false : v ≡ values.False → true ≡ is_falsified (evaluate ds k)
+  pub falsified_false : v ≡ Some false → true ≡ is_falsified (evaluate ds k)
   falsified_false q = rw (falsified_seen, ← e, q)
 
-  pub falsified_true : v ≡ values.True → false ≡ is_falsified (evaluate ds k)
+  pub falsified_true : v ≡ Some true → false ≡ is_falsified (evaluate ds k)
   falsified_true q = rw (falsified_seen, ← e, q)
 
-module _ (ds : List Decision) (x : ℕ) {v : Value} (e : v ≡ seen (evaluate ds (pos x))) where
-  pub true_undecided : v ≡ values.Undecided → false ≡ is_true ds x
-  unfolding is_true
-  true_undecided q = rw (satisfied_seen, ← e, q)
+-- by a comparison with a value
+eq_true : (v : Option Bool) → option_eq beq v (Some true) ≡ says_true v
+eq_true None = refl
+eq_true (Some true) = refl
+eq_true (Some false) = refl
 
-  pub true_false : v ≡ values.False → false ≡ is_true ds x
-  unfolding is_true
-  true_false q = rw (satisfied_seen, ← e, q)
+eq_false : (v : Option Bool) → option_eq beq v (Some false) ≡ says_false v
+eq_false None = refl
+eq_false (Some true) = refl
+eq_false (Some false) = refl
 
-  pub true_true : v ≡ values.True → true ≡ is_true ds x
-  unfolding is_true
-  true_true q = rw (satisfied_seen, ← e, q)
+pub falsified_is : (ds : List Decision) (k : Literal) (v : Option Bool) (b : Bool) → v ≡ seen (evaluate ds k) → b ≡ option_eq beq v (Some false) → b ≡ is_falsified (evaluate ds k)
+falsified_is ds k v b e q = rw (falsified_seen, ← e, ← eq_false v) q
 
-  pub false_undecided : v ≡ values.Undecided → false ≡ is_false ds x
-  unfolding is_false
-  false_undecided q = falsified_undecided ds (pos x) e q
+pub true_is : (ds : List Decision) (x : ℕ) (v : Option Bool) (b : Bool) → v ≡ seen (evaluate ds (pos x)) → b ≡ option_eq beq v (Some true) → b ≡ is_true ds x
+unfolding is_true
+true_is ds x v b e q = rw (satisfied_seen, ← e, ← eq_true v) q
 
-  pub false_false : v ≡ values.False → true ≡ is_false ds x
-  unfolding is_false
-  false_false q = falsified_false ds (pos x) e q
-
-  pub false_true : v ≡ values.True → false ≡ is_false ds x
-  unfolding is_false
-  false_true q = falsified_true ds (pos x) e q
+pub false_is : (ds : List Decision) (x : ℕ) (v : Option Bool) (b : Bool) → v ≡ seen (evaluate ds (pos x)) → b ≡ option_eq beq v (Some false) → b ≡ is_false ds x
+unfolding is_false
+false_is ds x v b e q = falsified_is ds (pos x) v b e q

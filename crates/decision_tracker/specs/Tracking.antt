@@ -1,19 +1,27 @@
 -- Decisions in the state area: region 18 has a row of four numbers for each, region 17 a number for each variable's value.
-use Rattle.std.specs.Prelude.{◌≡◌, ◌≢◌, Bool, true, false, List, [], ◌∷◌, map, ℕ, zero, suc, ◌+◌, ◌*◌, ◌<◌, ◌≤◌, eqb, get_or}
-use Rattle.std.proofs.Math.Option.{Option, none, some}
+use Rattle.std.specs.Prelude.{◌≡◌, ◌≢◌, Bool, true, false, not, Option, None, Some, List, [], ◌∷◌, map, ℕ, zero, suc, ◌+◌, ◌*◌, ◌<◌, ◌≤◌, eqb, get_or}
+use Rattle.std.proofs.Math.Option as rules
+use Rattle.std.proofs.Math.Option.{none, some}
 use Rattle.rules.specs.Lists.{snoc, up_to}
 use Rattle.rules.specs.Literal.{pos}
 use Rattle.rules.specs.Decisions.{Decision, Evaluation, undecided, satisfied, falsified, evaluate, is_undecided}
 use Rattle.rules.proofs.Each.{Each, Pairwise}
-use Rattle.clause.specs.declared.Value.{Value}
-use Rattle.clause.specs.declared.Value.TheVariants.{Undecided, False, True}
 use Rattle.state.specs.declared.Limits.{Limits}
 use Rattle.state.specs.Changed.{Changed}
 use Rattle.decision_tracker.specs.declared.Decision as code
 
 -- ---- decisions
 
-unfoldable pub clause_by : ℕ → Option ℕ
+unfoldable pub clause_of : Option ℕ → rules.Option ℕ
+clause_of None = none
+clause_of (Some i) = some i
+
+-- a clause as a row has it: its number and one more, or 0
+unfoldable pub clause_number : Option ℕ → ℕ
+clause_number None = 0
+clause_number (Some i) = i + 1
+
+unfoldable pub clause_by : ℕ → rules.Option ℕ
 clause_by zero = none
 clause_by (suc i) = some i
 
@@ -21,7 +29,7 @@ unfoldable pub decision_by : (variable : ℕ) (value : Bool) (level clause : ℕ
 decision_by x b k i = record { variable = x; value = b; level = k; clause = clause_by i }
 
 unfoldable pub decision_of : code.Decision → Decision
-decision_of d = decision_by d.variable d.value d.level d.clause
+decision_of d = record { variable = d.variable; value = d.value; level = d.level; clause = clause_of d.clause }
 
 unfoldable pub decision_in : List ℕ → ℕ → Decision
 decision_in w i = decision_by (get_or w (4 * i) 0) (eqb (get_or w (4 * i + 1) 0) 1) (get_or w (4 * i + 2) 0) (get_or w (4 * i + 3) 0)
@@ -35,31 +43,29 @@ no_decision = record { variable = 0; value = false; level = 0; clause = none }
 -- ---- values
 
 -- an evaluation without its level
-unfoldable pub seen : Evaluation → Value
-seen undecided = Undecided
-seen (satisfied k) = True
-seen (falsified k) = False
+unfoldable pub seen : Evaluation → Option Bool
+seen undecided = None
+seen (satisfied k) = Some true
+seen (falsified k) = Some false
 
-unfoldable pub number_of : Value → ℕ
-number_of Undecided = 0
-number_of False = 1
-number_of True = 2
+-- a value as the area has it
+unfoldable pub number_of : Option Bool → ℕ
+number_of None = 0
+number_of (Some false) = 1
+number_of (Some true) = 2
 
 -- what a value says
-abbrev pub says_undecided : Value → Bool
-says_undecided Undecided = true
-says_undecided False = false
-says_undecided True = false
+abbrev pub says_undecided : Option Bool → Bool
+says_undecided None = true
+says_undecided (Some b) = false
 
-abbrev pub says_false : Value → Bool
-says_false Undecided = false
-says_false False = true
-says_false True = false
+abbrev pub says_false : Option Bool → Bool
+says_false None = false
+says_false (Some b) = not b
 
-abbrev pub says_true : Value → Bool
-says_true Undecided = false
-says_true False = false
-says_true True = true
+abbrev pub says_true : Option Bool → Bool
+says_true None = false
+says_true (Some b) = b
 
 -- there are d decisions, each of another variable, and every variable has its value
 pub record Kept (l : Limits) (d : ℕ) (st : ℕ → List ℕ) : Type 0 where

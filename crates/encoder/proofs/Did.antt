@@ -18,7 +18,8 @@ use Rattle.entries.specs.Entries.{drawn_in}
 use Rattle.marked.proofs.Laws.{listed_same, marked_same}
 use Rattle.encoder.specs.declared.Counters.{Counters}
 use Rattle.encoder.specs.Held.{Reading, state_of, Good}
-use Rattle.encoder.specs.Did.{limits_of, room_of, beyond, Widens, filled, Beside, Did, PlainDid, is_full}
+use Rattle.encoder.specs.Did.{room_of, beyond, Widens, filled, Beside, Did, PlainDid, is_full}
+use Rattle.state.specs.Limits.{limits_of}
 use Rattle.encoder.proofs.Frames.{good_filled}
 
 -- ---- the test for a limit that would have been passed

@@ -33,7 +33,8 @@ use Rattle.tables.proofs.Listed.{listed_length}
 use Rattle.solver.specs.Rows.{Row, rows}
 use Rattle.encoder.specs.declared.Counters.{Counters}
 use Rattle.encoder.specs.Held.{Reading, state_of, opening_of, goal_variables, clause_in, clauses_in, Sound, GoodState, GoodClauses, Good}
-use Rattle.encoder.specs.Did.{limits_of, filled}
+use Rattle.encoder.specs.Did.{filled}
+use Rattle.state.specs.Limits.{limits_of}
 
 -- ---- the state area
 

@@ -3,3 +3,4 @@ pub mod Steps
 pub mod Counted
 pub mod Frames
 pub mod Widening
+pub mod Clauses

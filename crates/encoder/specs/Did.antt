@@ -8,13 +8,11 @@ use Rattle.rules.specs.State.{State, set_opening}
 use Rattle.rules.specs.Limits as rules
 use Rattle.rules.proofs.Grows.{Grows}
 use Rattle.state.specs.declared.Limits.{Limits}
+use Rattle.state.specs.Limits.{limits_of}
 use Rattle.marked.specs.Marked.{listed, Marked}
 use Rattle.entries.specs.Entries.{drawn_in}
 use Rattle.encoder.specs.declared.Counters.{Counters}
 use Rattle.encoder.specs.Held.{Reading, state_of, Good}
-
-unfoldable pub limits_of : Limits → rules.Limits
-limits_of l = record { variables = l.variables; clauses = l.clauses; condition_literals = l.literals; waiting = l.waiting }
 
 -- a limit would have been passed
 abbrev pub is_full : Counters → Bool

@@ -23,7 +23,8 @@ use Rattle.line.specs.Line.{queued}
 use Rattle.entries.specs.Entries.{drawn_in}
 use Rattle.encoder.specs.declared.Counters.{Counters}
 use Rattle.encoder.specs.Held.{Reading, task_in, opening_of, state_of}
-use Rattle.encoder.specs.Did.{limits_of, beyond}
+use Rattle.encoder.specs.Did.{beyond}
+use Rattle.state.specs.Limits.{limits_of}
 use Rattle.naming.specs.Alike.{AlikeIn}
 use Rattle.naming.proofs.Alike.{in_same, join_all_same}
 use Rattle.serving.specs.Line.{taken, Point}

@@ -24,7 +24,8 @@ use Rattle.marked.specs.Marked.{listed}
 use Rattle.encoder.specs.declared.Counters.{Counters}
 use Rattle.encoder.specs.declared.Run.{Run}
 use Rattle.encoder.specs.Held.{Reading, run_of, opening_of, state_of, LongEnough, Good}
-use Rattle.encoder.specs.Did.{limits_of, room_of, ClausesDid, is_full}
+use Rattle.encoder.specs.Did.{room_of, ClausesDid, is_full}
+use Rattle.state.specs.Limits.{limits_of}
 use Rattle.encoder.proofs.Steps.{long_same}
 use Rattle.naming.specs.Alike.{AlikeIn}
 use Rattle.naming.proofs.Alike.{in_same}

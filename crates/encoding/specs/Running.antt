@@ -7,7 +7,8 @@ use Rattle.rules.specs.Limits.{above}
 use Rattle.rules.proofs.Reached.{Given, Reached}
 use Rattle.state.specs.declared.Limits.{Limits}
 use Rattle.encoder.specs.declared.Counters.{Counters}
-use Rattle.encoder.specs.Did.{limits_of, is_full}
+use Rattle.encoder.specs.Did.{is_full}
+use Rattle.state.specs.Limits.{limits_of}
 pub use Rattle.beginning.specs.Beginning.{Holds, Reaches}
 
 -- the run was carried out, or would end above a limit

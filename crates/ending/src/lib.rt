@@ -3,19 +3,18 @@
 #![tactic(auto)]
 
 ghost use Rattle.std.specs.Prelude.{◌≡◌, [], length};
-ghost use Rattle.cache.specs.Areas.{catalogue};
 ghost use Rattle.state.specs.Layout.{held, Fits};
 ghost use Rattle.encoder.specs.Held.{LongEnough};
-ghost use Rattle.goals.specs.Goals.{Catalogued};
 ghost use Rattle.beginning.specs.Beginning.{Reaches};
 ghost use Rattle.text.specs.Text.{Addressable};
 ghost use Rattle.line_fields.specs.Listed.{Lists};
 ghost use Rattle.ending.specs.Ending.{Prints, Finishes};
+ghost use Rattle.index.specs.Views.{catalogue_of};
 
 use encoder::Counters;
+use index::Catalogue;
 use refusal::{Refusal, RefusedAt};
 use state::Limits;
-use tables::Counts;
 
 // How long the listing of a job is, and how many variables and clauses it has.
 #[derive(Clone, Copy, Debug, PartialEq, Eq)]
@@ -27,10 +26,7 @@ pub struct Accepted {
 
 // How long the listing is, or one more than `room` if it is longer than that. Nothing is written.
 fn measure(
-    marks: &[u8],
-    unions: &[u8],
-    t: &[u8],
-    k: Counts,
+    catalogue: &Catalogue,
     s: &[u8],
     clauses: &[u8],
     w: &[u8],
@@ -38,21 +34,17 @@ fn measure(
     n: Counters,
     room: usize,
 ) -> usize
-    requires catalogued { Catalogued k marks.now unions.now t.now }
     requires fits { Fits l (length s.now) × Addressable room }
     requires long_enough { LongEnough l (length clauses.now) (length w.now) }
-    requires reaches { Reaches (catalogue k marks.now unions.now t.now) l n (held l s.now) clauses.now w.now }
-    ensures { Lists (catalogue k marks.now unions.now t.now) l n (held l s.now) clauses.now w.now room result [] [] }
+    requires reaches { Reaches (catalogue_of catalogue.now) l n (held l s.now) clauses.now w.now }
+    ensures { Lists (catalogue_of catalogue.now) l n (held l s.now) clauses.now w.now room result [] [] }
 {
-    listing::write(marks, unions, t, k, s, clauses, w, l, n, &mut [], room)
+    listing::write(catalogue, s, clauses, w, l, n, &mut [], room)
 }
 
 // The listing is written if it fits into the area.
 fn print(
-    marks: &[u8],
-    unions: &[u8],
-    t: &[u8],
-    k: Counts,
+    catalogue: &Catalogue,
     s: &[u8],
     clauses: &[u8],
     w: &[u8],
@@ -60,21 +52,20 @@ fn print(
     n: Counters,
     out: &mut [u8],
 ) -> Result<Accepted, RefusedAt>
-    requires catalogued { Catalogued k marks.now unions.now t.now }
     requires fits { Fits l (length s.now) }
     requires long_enough { LongEnough l (length clauses.now) (length w.now) }
-    requires reaches { Reaches (catalogue k marks.now unions.now t.now) l n (held l s.now) clauses.now w.now }
-    ensures { Prints (catalogue k marks.now unions.now t.now) l n (held l s.now) clauses.now w.now result out.old out.new }
+    requires reaches { Reaches (catalogue_of catalogue.now) l n (held l s.now) clauses.now w.now }
+    ensures { Prints (catalogue_of catalogue.now) l n (held l s.now) clauses.now w.now result out.old out.new }
 {
     let room = out.len();
-    let length = measure(marks, unions, t, k, s, clauses, w, l, n, room);
+    let length = measure(catalogue, s, clauses, w, l, n, room);
     if room < length {
         return Err(RefusedAt {
             refusal: Refusal::ListingFull,
             at: 0,
         });
     }
-    listing::write(marks, unions, t, k, s, clauses, w, l, n, out, room);
+    listing::write(catalogue, s, clauses, w, l, n, out, room);
     Ok(Accepted {
         length,
         variables: n.variables,
@@ -84,10 +75,7 @@ fn print(
 
 // The end of a job: nothing added or drawn may be left, and the listing must fit.
 pub fn finish(
-    marks: &[u8],
-    unions: &[u8],
-    t: &[u8],
-    k: Counts,
+    catalogue: &Catalogue,
     s: &[u8],
     clauses: &[u8],
     w: &[u8],
@@ -95,11 +83,10 @@ pub fn finish(
     n: Counters,
     out: &mut [u8],
 ) -> Result<Accepted, RefusedAt>
-    requires catalogued { Catalogued k marks.now unions.now t.now }
     requires fits { Fits l (length s.now) }
     requires long_enough { LongEnough l (length clauses.now) (length w.now) }
-    requires reaches { Reaches (catalogue k marks.now unions.now t.now) l n (held l s.now) clauses.now w.now }
-    ensures { Finishes (catalogue k marks.now unions.now t.now) l n (held l s.now) clauses.now w.now result out.old out.new }
+    requires reaches { Reaches (catalogue_of catalogue.now) l n (held l s.now) clauses.now w.now }
+    ensures { Finishes (catalogue_of catalogue.now) l n (held l s.now) clauses.now w.now result out.old out.new }
 {
     if n.added != 0 || n.drawn != 0 {
         return Err(RefusedAt {
@@ -107,5 +94,5 @@ pub fn finish(
             at: 0,
         });
     }
-    print(marks, unions, t, k, s, clauses, w, l, n, out)
+    print(catalogue, s, clauses, w, l, n, out)
 }

@@ -23,6 +23,7 @@ pub struct Counts {
     pub drawn: usize,
 }
 
+#[tactic(auto, using(crate::proofs::Laws::row_is))]
 fn row_at(w: &[u8], at: usize) -> Entry
     requires { (at < 4096) × (4 * at + 3 < length w.now) }
     ensures { entry_of result ≡ row_at_index w.now at }
@@ -44,6 +45,7 @@ fn set_row(w: &mut [u8], at: usize, e: Entry)
 }
 
 // Entry i of the n that wait.
+#[tactic(auto, using(crate::proofs::Laws::waiting_is))]
 pub fn waiting_at(w: &[u8], l: Limits, n: usize, i: usize) -> Entry
     requires { Long l (length w.now) × (n ≤ l.waiting) × (i < n) }
     ensures { entry_of result ≡ get_or (waiting_in l n w.now) i no_entry }
@@ -52,6 +54,7 @@ pub fn waiting_at(w: &[u8], l: Limits, n: usize, i: usize) -> Entry
 }
 
 // Entry i of the n that were drawn.
+#[tactic(auto, using(crate::proofs::Laws::drawn_is))]
 pub fn drawn_at(w: &[u8], l: Limits, n: usize, i: usize) -> Entry
     requires { Long l (length w.now) × (n ≤ l.waiting) × (i < n) }
     ensures { entry_of result ≡ get_or (drawn_in l n w.now) i no_entry }
@@ -78,11 +81,12 @@ pub fn push_drawn(w: &mut [u8], l: Limits, n: usize, e: Entry) -> usize
 }
 
 // Of n that wait, the one at place i is drawn where it is held.
-fn draw_held(w: &mut [u8], held: &[u8], l: Limits, n: usize, drawn: usize, i: usize) -> usize
+#[tactic(auto, using(crate::proofs::Drain::free_stays, crate::proofs::Drain::held_drawn))]
+fn draw_held(w: &mut [u8], held: &[bool], l: Limits, n: usize, drawn: usize, i: usize) -> usize
     requires { Long l (length w.old) × (n ≤ l.waiting) × (i < n) × (drawn < l.waiting) × (i < length held.now) }
     ensures { DrawnAt l held.now n i drawn w.old result w.new }
 {
-    if held[i] == 0 {
+    if !held[i] {
         return drawn;
     }
     let e = waiting_at(w, l, n, i);
@@ -90,33 +94,31 @@ fn draw_held(w: &mut [u8], held: &[u8], l: Limits, n: usize, drawn: usize, i: us
 }
 
 // Of n that wait, those that are held are drawn, in order. They still wait.
-fn draw_all(w: &mut [u8], held: &[u8], l: Limits, n: usize, drawn: usize) -> usize
+#[tactic(auto, using(crate::proofs::Drain::drawing_start, crate::proofs::Drain::drawing_step, crate::proofs::Drain::drawing_end))]
+fn draw_all(w: &mut [u8], held: &[bool], l: Limits, n: usize, drawn: usize) -> usize
     requires { Long l (length w.old) × (n + drawn ≤ l.waiting) × (n ≤ length held.now) }
     ensures { DrawnAll l held.now n drawn w.old result w.new }
 {
     let mut r = drawn;
-    let mut i = 0;
-    while i < n {
+    for i in 0..n {
         r = draw_held(w, held, l, n, r, i);
-        i += 1;
     }
     r
 }
 
-// The first n records wait, and no others.
-fn store(w: &mut [u8], l: Limits, records: [Entry; 2048], n: usize)
-    requires { Long l (length w.old) × (n ≤ l.waiting) }
-    ensures { Stored l records n w.old w.new }
+// The records wait, and no others.
+#[tactic(auto, using(crate::proofs::Drain::storing_start, crate::proofs::Drain::storing_step, crate::proofs::Drain::storing_end))]
+fn store(w: &mut [u8], l: Limits, records: &[Entry])
+    requires { Long l (length w.old) × (length records.now ≤ l.waiting) }
+    ensures { Stored l records.now w.old w.new }
 {
-    let mut i = 0;
-    while i < n {
-        let e = records[i];
-        i = push_waiting(w, l, i, e);
+    for (i, e) in records.iter().enumerate() {
+        push_waiting(w, l, i, *e);
     }
 }
 
 // Of n that wait, those that are held are drawn, and the others are left, both in order.
-pub fn draw(w: &mut [u8], held: &[u8], l: Limits, n: usize, drawn: usize) -> Counts
+pub fn draw(w: &mut [u8], held: &[bool], l: Limits, n: usize, drawn: usize) -> Counts
     requires { Long l (length w.old) × (n + drawn ≤ l.waiting) × (n ≤ length held.now) }
     ensures { Drawn l held.now n drawn w.old result.kept result.drawn w.new }
 {
@@ -124,9 +126,11 @@ pub fn draw(w: &mut [u8], held: &[u8], l: Limits, n: usize, drawn: usize) -> Cou
     if more == drawn {
         return Counts { kept: n, drawn };
     }
-    let left = deferred::remaining(w, held, n);
-    let records = left.records;
-    let kept = left.n;
-    store(w, l, records, kept);
+    let mut records = [Entry {
+        requirement: 0,
+        disjunct: 0,
+    }; 2048];
+    let kept = deferred::remaining(&mut records, w, held, n);
+    store(w, l, &records[..kept]);
     Counts { kept, drawn: more }
 }

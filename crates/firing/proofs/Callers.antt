@@ -20,7 +20,7 @@ use Rattle.encoder.specs.declared.Counters.{Counters}
 use Rattle.encoder.specs.Held.{Reading, fired_now, task_from, task_in, state_of}
 use Rattle.encoder.specs.Did.{on_opening}
 use Rattle.goals.specs.Goals.{true_of}
-use Rattle.firing.specs.declared.Indices.{Indices}
+use Rattle.firing.specs.declared.disjuncts.Indices.{Indices}
 use Rattle.firing.specs.Firing.{judging, Lists, waits, queued, queued_if, condition_served}
 
 -- what is decided true, as the code tests it

@@ -15,14 +15,10 @@ use Rattle.rules.proofs.Each.{Each, each_append, each_imp, each_map, each_at}
 use Rattle.rules.proofs.WellFormed.{ConditionFits, WellFormed}
 use Rattle.tables.specs.declared.Counts.{Counts}
 use Rattle.tables.specs.Tables.{tables}
-use Rattle.conditions.specs.declared.Disjunct as D
-use Rattle.conditions.specs.Sizes.{Carries}
-use Rattle.conditions.proofs.Laws.{range_at}
 use Rattle.cache.specs.Areas.{catalogue}
 use Rattle.cache.proofs.Laws.{ranges_held, conditions_held, conditions_same}
-use Rattle.variable_map.specs.declared.Origin as code
-use Rattle.variable_map.specs.Mapping.{origin_of, in_tables}
-use Rattle.goals.specs.Goals.{Catalogued}
+use Rattle.variable_map.specs.Mapping.{in_tables}
+use Rattle.index.specs.Catalogued.{Catalogued}
 use Rattle.owners.proofs.Names.{range_low}
 
 module _ (c : Catalogue) where
@@ -60,17 +56,17 @@ module _ (c : Catalogue) where
     unfolding disjuncts
     disjuncts_given k h = below_given (suc k) k h
 
--- a range of the disjunct that the code carries
-pub range_given : (k : Counts) (m u t : List ℕ) (x i : ℕ) {d : D.Disjunct} → Catalogued k m u t → x < k.conditions → i < length (disjuncts (tables k t).conditions x)
-    → Carries d (get_or (disjuncts (tables k t).conditions x) i []) → (j : ℕ) → j < d.len → get_or d.ranges j 0 < k.ranges
-range_given k m u t x i {d} w h g e j b =
+-- a range of a disjunct
+pub range_given : (k : Counts) (m u t : List ℕ) (x i : ℕ) → Catalogued k m u t → x < k.conditions → i < length (disjuncts (tables k t).conditions x)
+    → {rs : List ℕ} → rs ≡ get_or (disjuncts (tables k t).conditions x) i [] → (j : ℕ) → j < length rs → get_or rs j 0 < k.ranges
+range_given k m u t x i w h g {rs} e j b =
     let c = catalogue k m u t in
     let ds = rw (conditions_same k m u t) at (disjuncts_given c w.formed x (rw conditions_held h)) in
-    let low : get_or (get_or (disjuncts (tables k t).conditions x) i []) j 0 < length c.ranges = each_at (each_at ds i [] g) j 0 (omega (arith, e.len)) in
-    omega (arith, range_at e j b, ranges_held k m u t)
+    let here : j < length (get_or (disjuncts (tables k t).conditions x) i []) = rw e at b in
+    let low : get_or rs j 0 < length c.ranges = rw e (each_at (each_at ds i [] g) j 0 here) in
+    omega (arith, ranges_held k m u t)
 
 -- one-of-name of a given range has its place among the variables
-pub one_fits : (k : Counts) (m u t : List ℕ) (r : ℕ) {x : ℕ} (o : code.Origin) → Catalogued k m u t → r < k.ranges → x ≡ get_or (tables k t).ranges r 0 → origin_of o ≡ one x
-    → in_tables (origin_of o) ≡ true
+pub one_fits : (k : Counts) (m u t : List ℕ) (r : ℕ) {x : ℕ} → Catalogued k m u t → r < k.ranges → x ≡ get_or (tables k t).ranges r 0 → in_tables (one x) ≡ true
 unfolding in_tables
-one_fits k m u t r {x} o w h e i = rw i (lt-ltb x 64 (range_low k m u t w.formed w.kept h e))
+one_fits k m u t r {x} w h e = lt-ltb x 64 (range_low k m u t w.formed w.kept h e)

@@ -15,12 +15,13 @@ use Rattle.requirement.specs.declared.ConditionalRequirement.{ConditionalRequire
 use Rattle.requirement.specs.Requirements.{requirement_is}
 use Rattle.tables.specs.declared.Counts.{Counts}
 use Rattle.tables.specs.Tables.{tables}
+use Rattle.std.specs.Prelude.{Some}
 use Rattle.conditions.specs.Sizes.{Counted}
 use Rattle.cache.specs.Areas.{catalogue}
-use Rattle.goals.specs.Goals.{Catalogued}
+use Rattle.index.specs.Catalogued.{Catalogued}
 use Rattle.judging.specs.Judging.{Judged}
-use Rattle.firing.specs.declared.Judgement.{Judgement}
-use Rattle.firing.specs.declared.Indices.{Indices}
+use Rattle.firing.specs.declared.disjuncts.Judgement.{Judgement}
+use Rattle.firing.specs.declared.disjuncts.Indices.{Indices}
 use Rattle.firing.specs.Firing.{judging, Judges, flagging, indices_in, Lists}
 use Rattle.firing.proofs.Required.{its_disjuncts}
 
@@ -28,11 +29,11 @@ use Rattle.firing.proofs.Required.{its_disjuncts}
 
 pub judges : (k : Counts) (m us t : List ℕ) {f : ℕ → Bool} (q : ℕ) (it : ConditionalRequirement) {count : ℕ} (flags : List Bool)
     → requirement_is it ≡ get_or (tables k t).requirements q no_requirement → Catalogued k m us t → q < k.requirements → unconditional (catalogue k m us t) q ≡ false
-    → Counted (tables k t).conditions it.condition count → Judged (catalogue k m us t) f (disjuncts (tables k t).conditions it.condition) flags
-    → Judges (catalogue k m us t) f q (record { flags = flags; count = count })
+    → (x : ℕ) → it.condition ≡ Some x → Counted (tables k t).conditions x count → Judged (catalogue k m us t) f (disjuncts (tables k t).conditions x) flags
+    → (b : count ≤ 64) → Judges (catalogue k m us t) f q (record { flags = flags; count = count; bounded = b })
 unfolding entry_holds disjunct_at
-judges k m us t q it flags e w h u n j =
-    let own = its_disjuncts k m us t q it e w h u in
+judges k m us t q it flags e w h u x f n j b =
+    let own = its_disjuncts k m us t q it e w h u x f in
     record { few = n.most; all = n.is ∙ sym (ap length own); is = λ i l. rw own (j.is i (omega (arith, n.is))) }
 
 -- ---- one disjunct
@@ -71,9 +72,6 @@ passing_same p r i (suc n) m h e =
     (λ t. filter_passes p i (up_to (suc i) n) (same ∙ t) ∙ (rest ∙ sym (filter_passes r i (up_to (suc i) n) t)))
 
 module _ {c : Catalogue} {f : ℕ → Bool} {q : ℕ} {j : Judgement} (d : Judges c f q j) where
-  pub judged_few : j.count ≤ 64
-  judged_few = d.few
-
   pub judged_listed : (holds : Bool) {is : Indices} → Lists is (filter (flagging j.flags holds) (up_to 0 j.count)) → Lists is (filter (judging c f q holds) (indices c q))
   unfolding indices
   judged_listed holds x =

@@ -26,7 +26,7 @@ use Rattle.encoder.proofs.Did.{widens_then, did_then, did_as}
 use Rattle.encoder.proofs.Widening.{Lengthens, lengthens_same, lengthens_then, queue_lengthens, open_names_lengthens, widens_opening}
 use Rattle.encoder.proofs.Steps.{good_waiting, good_alone, state_same, state_then}
 use Rattle.goals.specs.Goals.{true_of}
-use Rattle.firing.specs.declared.Indices.{Indices}
+use Rattle.firing.specs.declared.disjuncts.Indices.{Indices}
 use Rattle.firing.specs.Firing.{judging, indices_in, Lists, waits, queued, queued_if, condition_served, EntriesDid}
 use Rattle.firing.proofs.Required.{goal_is}
 use Rattle.firing.proofs.Waitings.{waits_widens}

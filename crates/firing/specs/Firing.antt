@@ -11,8 +11,8 @@ use Rattle.state.specs.declared.Limits.{Limits}
 use Rattle.encoder.specs.declared.Counters.{Counters}
 use Rattle.encoder.specs.Held.{Reading, task_in, fired_now}
 use Rattle.encoder.specs.Did.{on_opening, Did}
-use Rattle.firing.specs.declared.Judgement.{Judgement}
-use Rattle.firing.specs.declared.Indices.{Indices}
+use Rattle.firing.specs.declared.disjuncts.Judgement.{Judgement}
+use Rattle.firing.specs.declared.disjuncts.Indices.{Indices}
 
 -- whether a disjunct holds, or whether it does not
 unfoldable pub judging : Catalogue → (ℕ → Bool) → ℕ → (holds : Bool) → ℕ → Bool

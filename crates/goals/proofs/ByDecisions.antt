@@ -1,6 +1,6 @@
 -- Some matching part of a range is decided true exactly where some decision makes one true.
 use mathlib.Core.Path.{◌≡◌, refl, sym, ◌∙◌, ap}
-use mathlib.Core.Bool.{Bool, true, false, not, ◌&&◌, ◌||◌, cond, false≢true}
+use mathlib.Core.Bool.{Bool, true, false, not, ◌&&◌, ◌||◌, false≢true}
 use mathlib.Core.List.Memᴰ
 use mathlib.Core.List.{List, [], ◌∷◌}
 use Prim.Native.Nat.{ℕ, ◌+◌, ◌<◌, ◌≤◌}
@@ -9,12 +9,12 @@ use native.Mathlib.Omega.{arith}
 use lib.Dec.{eqb, ltb}
 use lib.ListN.{length, get_or, drop, drop_of_length-le}
 use lib.Seq.{drop-cons}
-use borrow.Author.Tests.{eqb-true, ne_eqb, lt-ltb, le-ltb, ltb-true, not-true, not-false}
+use borrow.Author.Tests.{eqb-true, lt-ltb, le-ltb, ltb-true, not-true, not-false}
 use Rattle.rules.specs.Lists.{any, up_to}
 use Rattle.rules.specs.Called.{◌∈◌}
 use Rattle.rules.specs.Truth.{same}
 use Rattle.rules.specs.Literal.{pos}
-use Rattle.rules.specs.Catalogue.{root, part, range, union, Catalogue}
+use Rattle.rules.specs.Catalogue.{root, part, Catalogue}
 use Rattle.rules.specs.Candidates.{matching}
 use Rattle.rules.specs.Variables.{Origin, chosen, forbid, one, violation, gate, known, part_origin, part_variable}
 use Rattle.rules.specs.Decisions.{Decision, decided_as, evaluate, is_satisfied, is_true}
@@ -28,7 +28,8 @@ use Rattle.cache.specs.Lists as cache
 use Rattle.cache.proofs.Laws.{parts_held}
 use Rattle.cache.proofs.Lists.{matching_is}
 use Rattle.variable_map.specs.declared.Origin as code
-use Rattle.variable_map.specs.Mapping.{origin_by, origin_of}
+use Rattle.variable_map.specs.declared.Origin.TheVariants.{Root, Part, Forbid, One, Violation, Gate}
+use Rattle.variable_map.specs.Mapping.{origin_of}
 use Rattle.decision_tracker.specs.declared.Decision as decided
 use Rattle.decision_tracker.specs.Tracking.{no_decision, decision_by, decision_of, decisions}
 use Rattle.decision_tracker.proofs.Laws as Laws
@@ -140,22 +141,18 @@ module _ (k : Counts) (m u t : List ℕ) (vs : List Origin) (ds : List Decision)
 
 -- ---- one decision
 
-not_part : (f : ℕ → Bool) (o : code.Origin) → (o.kind ≡ 1 → ⊥) → of_part f (origin_of o) ≡ false
-unfolding origin_of origin_by
-not_part f o n = rw (ne_eqb o.kind 1 n) (others (eqb o.kind 0) (eqb o.kind 2) (eqb o.kind 3) (eqb o.kind 4) (eqb o.kind 5))
-  where
-    others : (a b c d e : Bool)
-        → of_part f (cond a (chosen root) (cond b (forbid o.number o.bit) (cond c (one o.number) (cond d (violation o.number) (cond e (gate (range o.number)) (gate (union o.number))))))) ≡ false
-    others true b c d e = unfold of_part in refl
-    others false true c d e = unfold of_part in refl
-    others false false true d e = unfold of_part in refl
-    others false false false true e = unfold of_part in refl
-    others false false false false true = unfold of_part in refl
-    others false false false false false = unfold of_part in refl
+not_part : (f : ℕ → Bool) (o : code.Origin) → ((p : ℕ) → o ≡ Part p → ⊥) → of_part f (origin_of o) ≡ false
+unfolding of_part
+not_part f Root n = refl
+not_part f (Part p) n = absurd (n p refl)
+not_part f (Forbid name bit) n = refl
+not_part f (One name) n = refl
+not_part f (Violation r) n = refl
+not_part f (Gate q) n = refl
 
-its_part : (f : ℕ → Bool) (o : code.Origin) → o.kind ≡ 1 → of_part f (origin_of o) ≡ f o.number
-unfolding origin_of origin_by of_part
-its_part f o e = rw e
+its_part : (f : ℕ → Bool) (o : code.Origin) (p : ℕ) → o ≡ Part p → of_part f (origin_of o) ≡ f p
+unfolding of_part
+its_part f o p e = rw e
 
 module _ (c : Catalogue) (vs : List Origin) (ds : List Decision) (r i : ℕ) (d : decided.Decision) (e : decision_of d ≡ get_or ds i no_decision) where
   pub decides_false : not d.value ≡ true → false ≡ decides_for c vs ds r (get_or ds i no_decision)
@@ -167,11 +164,11 @@ module _ (c : Catalogue) (vs : List Origin) (ds : List Decision) (r i : ℕ) (d 
     unfolding decides_for decision_of decision_by
     decides_is = rw (← e, not-false d.value q, h)
 
-    pub decides_other : (o.kind ≡ 1 → ⊥) → false ≡ decides_for c vs ds r (get_or ds i no_decision)
+    pub decides_other : ((p : ℕ) → o ≡ Part p → ⊥) → false ≡ decides_for c vs ds r (get_or ds i no_decision)
     decides_other n = sym (decides_is ∙ not_part (true_match c vs ds r) o n)
 
-    pub decides_part : (b : Bool) → o.kind ≡ 1 → b ≡ true_match c vs ds r o.number → b ≡ decides_for c vs ds r (get_or ds i no_decision)
-    decides_part b n g = g ∙ sym (decides_is ∙ its_part (true_match c vs ds r) o n)
+    pub decides_part : (b : Bool) (p : ℕ) → o ≡ Part p → b ≡ true_match c vs ds r p → b ≡ decides_for c vs ds r (get_or ds i no_decision)
+    decides_part b p q g = g ∙ sym (decides_is ∙ its_part (true_match c vs ds r) o p q)
 
 -- ---- the loop at decision i: none of those passed makes one true
 

@@ -20,7 +20,7 @@ use Rattle.cache.specs.Areas.{catalogue}
 use Rattle.cache.specs.Lists.{CountedTo}
 use Rattle.index.specs.Members.{At, Passes}
 use Rattle.index.proofs.Unions.{union_ranges, total_start, total_here, total_step, ranges_end, at_next}
-use Rattle.goals.specs.Goals.{Catalogued}
+use Rattle.index.specs.Catalogued.{Catalogued}
 
 -- the favoured first, and as many
 pub length_sorted : (c : Catalogue) (r : ℕ) → length (sorted c r) ≡ length (matching c r)

@@ -2,32 +2,34 @@
 use mathlib.Core.Path.{◌≡◌, refl, sym, ◌∙◌, ap}
 use mathlib.Core.Bool.{Bool, true, false, not, ◌&&◌, ◌||◌}
 use mathlib.Core.List.{List, [], ◌∷◌}
-use Prim.Native.Nat.{ℕ, ◌+◌, ◌-◌, ◌<◌, ◌≤◌}
+use Prim.Native.Nat.{ℕ, ◌+◌, ◌<◌, ◌≤◌}
 use native.Mathlib.Numerals.{add-one}
 use native.Mathlib.Omega.{arith}
 use lib.Dec.{eqb}
 use lib.ListN.{length, get_or, drop, length-append, drop_of_length-le}
-use lib.Seq.{drop-cons, get_or-take}
+use lib.Seq.{drop-cons}
 use borrow.Author.Tests.{eq-eqb, ne_eqb, lt-ltb, not-true, not-false}
+use Rattle.std.specs.Prelude.{Option, None, Some}
 use Rattle.rules.specs.Lists.{any, all, concat_map}
 use Rattle.rules.specs.Catalogue.{Catalogue}
 use Rattle.rules.specs.Candidates.{matching}
-use Rattle.rules.specs.Conditions.{Disjunct}
+use Rattle.rules.specs.Conditions.{Disjunct, disjuncts}
 use Rattle.rules.specs.Variables.{Origin, known, part_origin, part_variable}
 use Rattle.rules.specs.Decisions.{Decision, is_true, is_false}
 use Rattle.rules.specs.Opening.{holds_now}
 use Rattle.rules.proofs.Each.{Each, each_left, each_right}
 use Rattle.tables.specs.declared.Counts.{Counts}
+use Rattle.tables.specs.declared.Tables.{Tables}
+use Rattle.tables.specs.Views.{tables_of}
 use Rattle.conditions.specs.declared.Disjunct as D
-use Rattle.conditions.specs.Sizes.{ranges_of, Carries}
+use Rattle.conditions.specs.Disjuncts.{ranges_of, Carries}
 use Rattle.cache.specs.declared.Choice.TheVariants.{Matching}
 use Rattle.cache.specs.Areas.{catalogue}
 use Rattle.cache.specs.Lists.{chosen, CountedTo}
 use Rattle.index.specs.Chains.{Skips}
 use Rattle.index.proofs.Walking.{walk}
-use Rattle.variable_map.specs.declared.Origin as code
-use Rattle.variable_map.specs.Mapping.{origin_by, origin_of, in_tables, place, AllKnown}
-use Rattle.variable_map.proofs.Places.{place_known, placed, unplaced}
+use Rattle.variable_map.specs.Mapping.{in_tables, found, AllKnown}
+use Rattle.variable_map.proofs.Places.{found_known, found_none}
 use Rattle.encoder.specs.Did.{Looked}
 use Rattle.marked.specs.Marked.{listed, Marked}
 use Rattle.marked.proofs.Laws.{length_listed}
@@ -36,32 +38,23 @@ use Rattle.goals.proofs.Parts.{all_both, onward, onward_start, onward_here, onwa
 
 -- ---- one part
 
-pub origin_is : (p : ℕ) → origin_of (record { kind = 1; number = p; bit = 0 }) ≡ part_origin p
-unfolding origin_of origin_by
-origin_is p = refl
-
-module _ (p : ℕ) (o : code.Origin) (e : origin_of o ≡ part_origin p) where
-  pub part_in_tables : p < 1024 → in_tables (origin_of o) ≡ true
+module _ (p : ℕ) where
+  pub part_in_tables : p < 1024 → in_tables (part_origin p) ≡ true
   unfolding in_tables
-  part_in_tables h = rw e (lt-ltb p 1024 h)
+  part_in_tables h = lt-ltb p 1024 h
 
   module _ (vs : List Origin) (ds : List Decision) where
-    pub true_some : (x : ℕ) (b : Bool) → x ≡ place vs (origin_of o) → 0 < x → b ≡ is_true ds (x - 1) → b ≡ true_of vs ds p
-    unfolding true_of
-    true_some x b f h d =
-        let f' : x ≡ place vs (part_origin p) = rw e at f in
-        let k = placed vs (part_origin p) x f' h in
-        let q : x - 1 ≡ part_variable vs p = omega (arith, f' ∙ place_known vs (part_origin p) k) in
-        rw (k, ← q) d
+    module _ (r : Option ℕ) (e : r ≡ found vs (part_origin p)) where
+      pub true_some : (x : ℕ) (b : Bool) → r ≡ Some x → b ≡ is_true ds x → b ≡ true_of vs ds p
+      unfolding true_of
+      true_some x b q d = let k = found_known vs (part_origin p) r e x q in rw (k.0, ← k.1) d
 
-    pub true_none : (x : ℕ) → x ≡ place vs (origin_of o) → x ≤ 0 → false ≡ true_of vs ds p
-    unfolding true_of
-    true_none x f h = rw (unplaced vs (part_origin p) x (rw e at f) h)
+      pub true_none : r ≡ None → false ≡ true_of vs ds p
+      unfolding true_of
+      true_none q = rw (found_none vs (part_origin p) r e q)
 
-    pub false_is : (x : ℕ) (b : Bool) → Looked vs (origin_of o) x → known vs (part_origin p) ≡ true → b ≡ is_false ds x → b ≡ is_false ds (part_variable vs p)
-    false_is x b y k d =
-        let q : x ≡ part_variable vs p = rw e at (y.is (rw e k)) in
-        d ∙ ap (is_false ds) q
+    pub false_is : (x : ℕ) (b : Bool) → Looked vs (part_origin p) x → known vs (part_origin p) ≡ true → b ≡ is_false ds x → b ≡ is_false ds (part_variable vs p)
+    false_is x b y k d = d ∙ ap (is_false ds) (y.is k)
 
 -- ---- some matching part of a range is decided true
 
@@ -109,35 +102,36 @@ module _ (k : Counts) (m u t : List ℕ) (r : ℕ) (f : ℕ → Bool) where
 -- ---- each range of a disjunct has such a part
 
 -- the loop at range j
-pub record Holding (c : Catalogue) (f : ℕ → Bool) (d : D.Disjunct) (xs : Disjunct) (j : ℕ) : Type 0 where
-  pub carries : Carries d xs
+pub record Holding (c : Catalogue) (f : ℕ → Bool) (xs : Disjunct) (j : ℕ) : Type 0 where
   pub is : holds_now c f (drop j xs) ≡ holds_now c f xs
 
-pub hold_start : (c : Catalogue) (f : ℕ → Bool) {d : D.Disjunct} {xs : Disjunct} → Carries d xs → Holding c f d xs 0
-hold_start c f k = record { carries = k; is = refl }
+pub hold_start : (c : Catalogue) (f : ℕ → Bool) (xs : Disjunct) → Holding c f xs 0
+hold_start c f xs = record { is = refl }
 
-module _ {c : Catalogue} {f : ℕ → Bool} {d : D.Disjunct} {xs : Disjunct} {j : ℕ} (x : Holding c f d xs j) where
-  module _ (b : Bool) (h : j < d.len) (e : b ≡ any f (matching c (get_or d.ranges j 0))) where
+-- its ranges are the disjunct's
+pub carried : {t t' : Tables} {d : D.Disjunct} {items : List ℕ} (c i : ℕ) → t ≡ t' → items ≡ ranges_of d → Carries d (get_or (disjuncts (tables_of t).conditions c) i [])
+    → items ≡ get_or (disjuncts (tables_of t').conditions c) i []
+carried c i e q k = q ∙ (k.is ∙ ap (λ (t : Tables). get_or (disjuncts (tables_of t).conditions c) i []) e)
+
+module _ {c : Catalogue} {f : ℕ → Bool} {xs items : Disjunct} {j : ℕ} (x : Holding c f xs j) (k : items ≡ xs) where
+  module _ (b : Bool) (h : j < length items) (e : b ≡ any f (matching c (get_or items j 0))) where
     tested : (b && holds_now c f (drop (j + 1) xs)) ≡ holds_now c f xs
-    unfolding holds_now all ranges_of
+    unfolding holds_now all
     tested =
-        let k = x.carries in
-        let at : get_or xs j 0 ≡ get_or d.ranges j 0 = sym (ap (λ (l : List ℕ). get_or l j 0) k.is) ∙ get_or-take d.len d.ranges j 0 h in
-        rw (e, ← at, add-one j) (sym (ap (holds_now c f) (drop-cons xs j 0 (omega arith))) ∙ x.is)
+        let h' : j < length xs = rw k at h in
+        rw (e, k, add-one j) (sym (ap (holds_now c f) (drop-cons xs j 0 h')) ∙ x.is)
 
-    pub hold_step : b ≡ true → Holding c f d xs (j + 1)
-    hold_step q = record { carries = x.carries; is = rw q at tested }
+    pub hold_step : b ≡ true → Holding c f xs (j + 1)
+    hold_step q = record { is = rw q at tested }
 
     pub hold_fails : b ≡ false → false ≡ holds_now c f xs
     hold_fails q = rw q at tested
 
-  pub hold_end : d.len ≤ j → true ≡ holds_now c f xs
+  pub hold_end : length items ≤ j → true ≡ holds_now c f xs
   unfolding holds_now all
   hold_end h =
-      let k = x.carries in
-      let g : length xs ≤ j = omega arith in
-      let e : drop j xs ≡ [] = drop_of_length-le xs g in
-      rw e at x.is
+      let h' : length xs ≤ j = rw k at h in
+      rw (drop_of_length-le xs h') at x.is
 
 -- ---- every matching part of a range is decided false
 

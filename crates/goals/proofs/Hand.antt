@@ -26,7 +26,8 @@ use Rattle.state.specs.Changed.{Changed}
 use Rattle.state.proofs.Changed.{changed_none, changed_then}
 use Rattle.marked.specs.Marked.{listed, is_marked, Marked, Free, Pushed}
 use Rattle.marked.proofs.Laws.{free_after, listed_after, mark_room}
-use Rattle.goals.specs.Goals.{Catalogued, noted, Notes, Gathers}
+use Rattle.index.specs.Catalogued.{Catalogued}
+use Rattle.goals.specs.Goals.{noted, Notes, Gathers}
 
 -- ---- one number more
 
@@ -44,6 +45,10 @@ module _ {m x : ℕ} {st : ℕ → List ℕ} (b : Bool) (k : Marked 14 15 m st) 
   note_new h p = record { marked = p.marked; is = p.list ∙ rw (sym (listed_after x b k e) ∙ h); others = p.others }
 
 -- ---- the ranges of a union
+
+-- a row as the lent rows have it
+pub member_is : {n n' : ℕ} {us us' : List ℕ} (i : ℕ) (a : Member) → us' ≡ us → n' ≡ n → row_of a ≡ get_or (rows n' us') i no_row → row_of a ≡ get_or (rows n us) i no_row
+member_is i a e f q = rw (e, f) at q
 
 -- the loop at place i: the list at hand is that of the rows before
 pub record Gathering (k : Counts) (us : List ℕ) (u : ℕ) (l : Limits) (b₀ b : List ℕ) (m i : ℕ) : Type 0 where

@@ -5,20 +5,11 @@ use Rattle.rules.specs.Variables.{Origin, chosen, forbid, one, violation, gate, 
 use Rattle.rules.specs.Decisions.{Decision, is_true, is_false}
 use Rattle.rules.specs.Catalogue.{root, part, Catalogue}
 use Rattle.rules.proofs.Each.{Each}
-use Rattle.rules.proofs.WellFormed.{WellFormed}
 use Rattle.rules.proofs.Valid.{Entry}
-use Rattle.tables.specs.declared.Counts.{Counts}
 use Rattle.cache.specs.declared.Choice.TheVariants.{Matching}
-use Rattle.cache.specs.Areas.{catalogue}
 use Rattle.cache.specs.Lists as cache
-use Rattle.index.specs.Indexed.{Indexed}
 use Rattle.state.specs.Changed.{Changed}
 use Rattle.marked.specs.Marked.{listed, Marked}
-
--- the areas hold a catalogue in which every number names something given
-pub record Catalogued (k : Counts) (m u t : List ℕ) : Type 0 where
-  pub kept : Indexed k m u t
-  pub formed : WellFormed (catalogue k m u t)
 
 -- one number more, unless it is there: a step of `distinct`
 unfoldable pub noted : ℕ → List ℕ → List ℕ

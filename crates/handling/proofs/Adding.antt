@@ -1,33 +1,33 @@
 -- The clauses of a requirement, by its shape.
 use mathlib.Core.Path.{◌≡◌, refl, sym, ◌∙◌}
-use mathlib.Core.Bool.{Bool, true, false, not}
+use mathlib.Core.Bool.{Bool, true, false, not, false≢true, true≢false}
 use mathlib.Core.List.{List, [], ◌++◌, map}
 use Prim.Native.Nat.{ℕ, ◌+◌, ◌-◌, ◌<◌, ◌≤◌}
 use native.Mathlib.Omega.{arith}
 use lib.ListN.{length}
+use Rattle.std.specs.Prelude.{Option, Some, None, is_some}
 use Rattle.rules.specs.Lists.{when}
 use Rattle.rules.specs.Literal.{Literal, pos}
 use Rattle.rules.specs.Clause.{requires, any_gate}
-use Rattle.rules.specs.Catalogue.{Catalogue, owner_at, goal_at}
+use Rattle.rules.specs.Catalogue.{Goal, Catalogue, owner_at, goal_at}
 use Rattle.rules.specs.Candidates.{candidates}
 use Rattle.rules.specs.Conditions.{disjunct_at}
 use Rattle.rules.specs.Decisions.{all_false}
-use Rattle.rules.specs.Items as items
-use Rattle.rules.specs.Variables.{chosen, gate, known, variable_of, part_variable}
+use Rattle.rules.specs.Variables.{Origin, chosen, gate, known, variable_of, part_variable}
 use Rattle.rules.specs.Encoding.{disjunct_literals}
 use Rattle.rules.specs.State.{State}
 use Rattle.rules.specs.State as rules
 use Rattle.rules.proofs.Places.{with_variable_known}
 use Rattle.rules.proofs.Capped.{add_variable}
 use Rattle.rules.proofs.ClauseByClause.{add_clause}
-use Rattle.requirement.specs.Requirements.{form_of, number_of}
 use Rattle.state.specs.declared.Limits.{Limits}
-use Rattle.variable_map.specs.declared.Origin as code
-use Rattle.variable_map.specs.Mapping.{origin_of, variables}
+use Rattle.variable_map.specs.Mapping.{found, variables}
+use Rattle.variable_map.proofs.Places.{found_known, found_none}
 use Rattle.decision_tracker.specs.Tracking.{decisions}
 use Rattle.encoder.specs.declared.Counters.{Counters}
 use Rattle.encoder.specs.declared.Run.{Run}
-use Rattle.encoder.specs.Held.{run_of, Reading, literals_in, goal_variables, state_of, Good}
+use Rattle.encoder.specs.Held.{run_of, Reading, literals_in, state_of, Good}
+use Rattle.encoder.specs.Clauses.{candidate_variables}
 use Rattle.encoder.specs.Did.{Widens, filled, Did, ClausesDid, PlainDid, is_full}
 use Rattle.encoder.proofs.Did.{widens_then, did_as, did_then, did_stop}
 use Rattle.encoder.proofs.Widening.{add_clause_widens, add_clause_variables}
@@ -38,7 +38,6 @@ use Rattle.condition_literals.specs.Literals.{Found, Named, Pushes}
 use Rattle.handling.specs.Handling.{add_direct, add_gate, add_through_gate, add_fired}
 use Rattle.handling.proofs.Widening.{direct_widens, gate_widens, through_gate_widens, fired_widens}
 use Rattle.condition_literals.proofs.Pushing.{pushed_count, pushed_are, push_variables, push_did}
-use Rattle.handling.proofs.Owning.{goal_own}
 
 none_first : (w : List ℕ) (a : ℕ) → literals_in w a 0 ≡ []
 unfolding literals_in
@@ -46,20 +45,20 @@ none_first w a = refl
 
 -- ---- an owner's requires
 
-module _ {c : Catalogue} {l : Limits} {r : Run} {q : ℕ} {n n' : Counters} {st : ℕ → List ℕ} {cl cl' : List ℕ} {x f j : ℕ} {all : Bool}
-    (g : items.goal_of f j ≡ goal_at c q) (h : Named c q (variables n.variables st)) where
+module _ {c : Catalogue} {l : Limits} {r : Run} {q : ℕ} {n n' : Counters} {st : ℕ → List ℕ} {cl cl' : List ℕ} {x : ℕ} {goal : Goal} {all : Bool}
+    (g : goal ≡ goal_at c q) (h : Named c q (variables n.variables st)) where
   requires_did : {count : ℕ} (ks : List Literal) → length ks ≡ count → (n.literals + count ≤ l.literals → literals_in (st 19) n.literals count ≡ ks)
       → (n.literals + count ≤ l.literals
       → all ≡ all_false (decisions n.decisions st) (ks ++ map pos (map (part_variable (variables n.variables st)) (candidates c (goal_at c q)))))
-      → AddsRequires l r x count f j all n st cl n' cl' → (wt : List ℕ)
+      → AddsRequires l r x count goal all n st cl n' cl' → (wt : List ℕ)
       → Did c l (λ v s. add_clause (run_of r) (requires x ks (map (part_variable s.variables) (candidates c (goal_at c q)))) s) n st cl wt n' st cl' wt
-  unfolding goal_variables
+  unfolding candidate_variables
   requires_did ks e i a d wt = did_as (d.is c wt ks e (rw g h.candidates) i (λ p. rw g (a p))) (λ v s. add_clause_widens _ _ s) (λ _ _ v. rw g)
 
   pub direct_added : Found l (variables n.variables st) (chosen (owner_at c q)) x
       → all ≡ all_false (decisions n.decisions st)
       (literals_in (st 19) n.literals 0 ++ map pos (map (part_variable (variables n.variables st)) (candidates c (goal_at c q))))
-      → AddsRequires l r x 0 f j all n st cl n' cl' → ClausesDid c l (λ v. add_direct c (run_of r) q) n st cl n' st cl'
+      → AddsRequires l r x 0 goal all n st cl n' cl' → ClausesDid c l (λ v. add_direct c (run_of r) q) n st cl n' st cl'
   direct_added o a d =
       record {
         is = λ wt. did_as (requires_did [] refl (λ _. none_first (st 19) n.literals) (λ _. rw (none_first (st 19) n.literals) at a) d wt)
@@ -74,10 +73,10 @@ module _ {c : Catalogue} {l : Limits} {q : ℕ} {n : Counters} {st st₁ : ℕ �
   abbrev ks : List Literal
   ks = disjunct_literals c (variables n.variables st) (disjunct_at c q i)
 
-  fired_did : (r : Run) {n' : Counters} {cl cl' : List ℕ} {x f j : ℕ} {all : Bool} → items.goal_of f j ≡ goal_at c q → x ≡ variable_of (variables n.variables st) (chosen (owner_at c q))
+  fired_did : (r : Run) {n' : Counters} {cl cl' : List ℕ} {x : ℕ} {goal : Goal} {all : Bool} → goal ≡ goal_at c q → x ≡ variable_of (variables n.variables st) (chosen (owner_at c q))
       → (n.literals + count ≤ l.literals
       → all ≡ all_false (decisions n.decisions st₁) (ks ++ map pos (map (part_variable (variables n.variables st₁)) (candidates c (goal_at c q)))))
-      → AddsRequires l r x count f j all n st₁ cl n' cl' → ClausesDid c l (λ v. add_fired c (run_of r) q i) n st cl n' st₁ cl'
+      → AddsRequires l r x count goal all n st₁ cl n' cl' → ClausesDid c l (λ v. add_fired c (run_of r) q i) n st cl n' st₁ cl'
   fired_did r {cl = cl} g o a d =
       record {
         is = λ wt. did_as (did_then ((push_did p).is cl wt) (requires_did g (rw (push_variables p) h) ks (sym (pushed_count p)) (pushed_are p) a d wt))
@@ -87,11 +86,11 @@ module _ {c : Catalogue} {l : Limits} {q : ℕ} {n : Counters} {st st₁ : ℕ �
   pub fired_named : Named c q (variables n.variables st₁)
   fired_named = rw (push_variables p) h
 
-  pub fired_added : (r : Run) {n' : Counters} {cl cl' : List ℕ} {x f j : ℕ} {all : Bool} → items.goal_of f j ≡ goal_at c q → Found l (variables n.variables st₁) (chosen (owner_at c q)) x
+  pub fired_added : (r : Run) {n' : Counters} {cl cl' : List ℕ} {x : ℕ} {goal : Goal} {all : Bool} → goal ≡ goal_at c q → Found l (variables n.variables st₁) (chosen (owner_at c q)) x
       → n.literals ≤ l.literals → count ≤ l.literals - n.literals
       → all ≡ all_false (decisions n.decisions st₁)
       (literals_in (st₁ 19) n.literals count ++ map pos (map (part_variable (variables n.variables st₁)) (candidates c (goal_at c q))))
-      → AddsRequires l r x count f j all n st₁ cl n' cl' → ClausesDid c l (λ v. add_fired c (run_of r) q i) n st cl n' st₁ cl'
+      → AddsRequires l r x count goal all n st₁ cl n' cl' → ClausesDid c l (λ v. add_fired c (run_of r) q i) n st cl n' st₁ cl'
   fired_added r g o u b a d =
       let room : n.literals + count ≤ l.literals = omega arith in
       fired_did r g (rw (push_variables p) at o.is) (λ _. rw (pushed_are p room) at a) d
@@ -99,8 +98,8 @@ module _ {c : Catalogue} {l : Limits} {q : ℕ} {n : Counters} {st st₁ : ℕ �
   pub fired_over : (r : Run) {n' : Counters} {cl : List ℕ} → n.literals ≤ l.literals → l.literals - n.literals < count → n' ≡ filled n → ClausesDid c l (λ v. add_fired c (run_of r) q i) n st cl n' st₁ cl
   fired_over r u b e =
       let more : l.literals < n.literals + count = omega arith in
-      fired_did r {x = variable_of (variables n.variables st) (chosen (owner_at c q))} {f = form_of (goal_at c q)} {j = number_of (goal_at c q)} {all = false}
-      (goal_own c q) refl (λ room. let no : ⊥ = omega arith in absurd no) (requires_over more e)
+      fired_did r {x = variable_of (variables n.variables st) (chosen (owner_at c q))} {goal = goal_at c q} {all = false}
+      refl refl (λ room. let no : ⊥ = omega arith in absurd no) (requires_over more e)
 
 -- ---- a gate's own
 
@@ -108,12 +107,12 @@ module _ {c : Catalogue} {l : Limits} (r : Run) (q : ℕ) {new : Bool} {n : Coun
   pub gate_old : new ≡ false → ClausesDid c l (λ v. add_gate c (run_of r) q new) n st cl n st cl
   gate_old e = clauses_none (λ v s. unfold add_gate when in rw e)
 
-  pub gate_added : {n' : Counters} {st' : ℕ → List ℕ} {cl' : List ℕ} {y f j : ℕ} {all : Bool} → new ≡ true → items.goal_of f j ≡ goal_at c q
+  pub gate_added : {n' : Counters} {st' : ℕ → List ℕ} {cl' : List ℕ} {y : ℕ} {goal : Goal} {all : Bool} → new ≡ true → goal ≡ goal_at c q
       → Named c q (variables n.variables st) → Found l (variables n.variables st) (gate (goal_at c q)) y
       → all ≡ all_false (decisions n.decisions st)
       (literals_in (st 19) n.literals 0 ++ map pos (map (part_variable (variables n.variables st)) (candidates c (goal_at c q))))
-      → AddsGated l r y f j all n st cl n' st' cl' → ClausesDid c l (λ v. add_gate c (run_of r) q new) n st cl n' st' cl'
-  unfolding goal_variables
+      → AddsGated l r y goal all n st cl n' st' cl' → ClausesDid c l (λ v. add_gate c (run_of r) q new) n st cl n' st' cl'
+  unfolding candidate_variables
   gate_added e g h o a d =
       record {
         is = λ wt. did_as (d.is c wt (rw g h.candidates) (rw g (rw (none_first (st 19) n.literals) at a)))
@@ -147,17 +146,33 @@ module _ (c : Catalogue) (r : rules.Run) (q : ℕ) where
   unfolding after_gate add_through_gate
   through_is s new e = rw e
 
+-- it is new where it has no variable
+new_by : (vs : List Origin) (o : Origin) (r : Option ℕ) (b : Bool) → is_some r ≡ not b → r ≡ found vs o → b ≡ not (known vs o)
+new_by vs o None b h e = rw (found_none vs o None e refl) (go b h)
+  where
+    go : (b : Bool) → false ≡ not b → b ≡ true
+    go true z = refl
+    go false z = absurd (false≢true z)
+new_by vs o (Some x) b h e = rw (found_known vs o (Some x) e x refl).0 (go b h)
+  where
+    go : (b : Bool) → true ≡ not b → b ≡ false
+    go true z = absurd (true≢false z)
+    go false z = refl
+
+pub new_gate : (vs : List Origin) (o o' : Origin) (r : Option ℕ) (b : Bool) → o ≡ o' → is_some r ≡ not b → r ≡ found vs o → b ≡ not (known vs o')
+new_gate vs o o' r b i h e = rw i at (new_by vs o r b h e)
+
 -- named, it has one
-pub gate_known : {c : Catalogue} {l : Limits} (q : ℕ) {n n₁ : Counters} {st st₁ : ℕ → List ℕ} {cl : List ℕ} (w : code.Origin) → origin_of w ≡ gate (goal_at c q)
-    → PlainDid l (λ c v. add_variable (origin_of w)) n st n₁ st₁ → Good c l n st cl [] → is_full n₁ ≡ false
+pub gate_known : {c : Catalogue} {l : Limits} (q : ℕ) {n n₁ : Counters} {st st₁ : ℕ → List ℕ} {cl : List ℕ} (w : Origin) → w ≡ gate (goal_at c q)
+    → PlainDid l (λ c v. add_variable (w)) n st n₁ st₁ → Good c l n st cl [] → is_full n₁ ≡ false
     → known (variables n₁.variables st₁) (gate (goal_at c q)) ≡ true
 gate_known {c} q {cl = cl} w i d g f =
     let v : Reading = record { truth = λ p. false; drawn = [] } in
-    rw (variables_after_law ((d.is c).is cl []) g f v, ← i) (unfold add_variable in with_variable_known (origin_of w) _)
+    rw (variables_after_law ((d.is c).is cl []) g f v, ← i) (unfold add_variable in with_variable_known (w) _)
 
-module _ (c : Catalogue) {l : Limits} (r : Run) (q : ℕ) {new : Bool} {n n₁ : Counters} {st st₁ : ℕ → List ℕ} (cl : List ℕ) (w : code.Origin)
-    (e : new ≡ not (known (variables n.variables st) (gate (goal_at c q)))) (i : origin_of w ≡ gate (goal_at c q))
-    (d : PlainDid l (λ c v. add_variable (origin_of w)) n st n₁ st₁) where
+module _ (c : Catalogue) {l : Limits} (r : Run) (q : ℕ) {new : Bool} {n n₁ : Counters} {st st₁ : ℕ → List ℕ} (cl : List ℕ) (w : Origin)
+    (e : new ≡ not (known (variables n.variables st) (gate (goal_at c q)))) (i : w ≡ gate (goal_at c q))
+    (d : PlainDid l (λ c v. add_variable (w)) n st n₁ st₁) where
   opened : (wt : List ℕ) → Did c l (λ v. add_variable (gate (goal_at c q))) n st cl wt n₁ st₁ cl wt
   opened wt = rw i at ((d.is c).is cl wt)
 

@@ -1,7 +1,6 @@
 pub mod Handled
 pub mod Named
 pub mod Widening
-pub mod Required
 pub mod Owning
 pub mod Adding
 pub mod Steps

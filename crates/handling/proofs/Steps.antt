@@ -5,7 +5,7 @@ use mathlib.Core.List.{List, []}
 use Prim.Native.Nat.{ℕ, ◌+◌, ◌<◌, ◌≤◌}
 use native.Mathlib.Omega.{arith}
 use lib.ListN.{length, get_or, take, drop, take-append-drop}
-use lib.Seq.{take_all, length-take-le, get_or-take}
+use lib.Seq.{take_all}
 use Rattle.rules.specs.Lists.{fold, distinct}
 use Rattle.rules.specs.Catalogue.{Catalogue, owner_at, goal_at}
 use Rattle.rules.specs.Candidates.{goal_ranges}
@@ -26,9 +26,7 @@ use Rattle.encoder.specs.Held.{Reading, state_of, Good}
 use Rattle.encoder.specs.Did.{StateDid, ClausesDid, PlainDid, is_full}
 use Rattle.encoder.proofs.Did.{widens_fold, did_as, did_stop}
 use Rattle.encoder.proofs.Steps.{clauses_same, clauses_none, state_then, clauses_then, state_then_clauses, state_clauses, good_later, not_full, variables_after_law, still_known}
-use Rattle.firing.specs.declared.Indices.{Indices}
-use Rattle.firing.specs.Firing.{indices_in}
-use Rattle.naming.specs.Naming.{name_candidates, name_disjuncts, GivenIndices}
+use Rattle.naming.specs.Naming.{name_candidates, name_disjuncts}
 use Rattle.naming.specs.Settled.{Settles}
 use Rattle.naming.proofs.Loops.{one_more}
 use Rattle.condition_literals.specs.Literals.{AtHand, DisjunctKnown, FiredKnown, Named}
@@ -105,26 +103,14 @@ module _ {c : Catalogue} {l : Limits} (r : Run) {q ranges : ℕ} {n₀ : Counter
         did = clauses_none (λ v s. refl);
       }
 
-module _ {c : Catalogue} {l : Limits} {r : Run} {q ranges : ℕ} {n₀ : Counters} {s₀ cl₀ : List ℕ} {is : Indices} (g : GivenIndices c q is) (long : length is.at ≡ 64)
-    {n : Counters} {s cl : List ℕ} {j : ℕ} (x : Firing c l r q ranges (indices_in is) n₀ s₀ cl₀ n s cl j) where
-  indices_length : length (indices_in is) ≡ is.len
-  unfolding indices_in
-  indices_length = let room = g.room in length-take-le is.len is.at (omega arith)
+module _ {c : Catalogue} {l : Limits} {r : Run} {q ranges : ℕ} {n₀ : Counters} {s₀ cl₀ : List ℕ} {is : List ℕ}
+    {n : Counters} {s cl : List ℕ} {j : ℕ} (x : Firing c l r q ranges is n₀ s₀ cl₀ n s cl j) where
+  pub firing_known : is_full n ≡ false → j < length is → DisjunctKnown c (variables n.variables (held l s)) (disjunct_at c q (get_or is j 0))
+  firing_known e h = each_at (x.fired e).known j 0 h
 
-  all_passed : is.len ≤ j → length (indices_in is) ≤ j
-  all_passed h = rw indices_length h
-
-  index_is : j < is.len → get_or is.at j 0 ≡ get_or (indices_in is) j 0
-  unfolding indices_in
-  index_is h = sym (get_or-take is.len is.at j 0 h)
-
-  pub firing_known : is_full n ≡ false → j < is.len → DisjunctKnown c (variables n.variables (held l s)) (disjunct_at c q (get_or is.at j 0))
-  firing_known e h = rw (index_is h) (each_at (x.fired e).known j 0 (rw indices_length h))
-
-  pub firing_step : is_full n ≡ false → j < is.len → {n' : Counters} {s' cl' : List ℕ} → length s' ≡ length s → length cl' ≡ length cl
-      → ClausesDid c l (λ v. add_fired c r q (get_or is.at j 0)) n (held l s) cl n' (held l s') cl' → Firing c l r q ranges (indices_in is) n₀ s₀ cl₀ n' s' cl' (j + 1)
+  pub firing_step : is_full n ≡ false → j < length is → {n' : Counters} {s' cl' : List ℕ} → length s' ≡ length s → length cl' ≡ length cl
+      → ClausesDid c l (λ v. add_fired c r q (get_or is j 0)) n (held l s) cl n' (held l s') cl' → Firing c l r q ranges is n₀ s₀ cl₀ n' s' cl' (j + 1)
   firing_step e h i k d =
-      let below : j < length (indices_in is) = rw indices_length h in
       record {
         within = omega arith;
         same = i ∙ x.same;
@@ -133,18 +119,18 @@ module _ {c : Catalogue} {l : Limits} {r : Run} {q ranges : ℕ} {n₀ : Counter
         hand = hand_later d x.good x.hand;
         named = λ f. named_later d x.good f (x.named e);
         fired = λ f. fired_later d x.good f (x.fired e);
-        did = clauses_same (clauses_then x.did d) (λ v t. rw (index_is h) (one_more (add_fired c r q) (indices_in is) j t below));
+        did = clauses_same (clauses_then x.did d) (λ v t. one_more (add_fired c r q) is j t h);
       }
 
-  pub firing_end : is.len ≤ j → ClausesDid c l (λ v. add_all_fired c r q (indices_in is)) n₀ (held l s₀) cl₀ n (held l s) cl
-  firing_end h = clauses_same x.did (λ v t. unfold add_all_fired in none_left (add_fired c r q) (indices_in is) j t (all_passed h))
+  pub firing_end : length is ≤ j → ClausesDid c l (λ v. add_all_fired c r q is) n₀ (held l s₀) cl₀ n (held l s) cl
+  firing_end h = clauses_same x.did (λ v t. unfold add_all_fired in none_left (add_fired c r q) is j t h)
 
-  pub firing_full : is_full n ≡ true → ClausesDid c l (λ v. add_all_fired c r q (indices_in is)) n₀ (held l s₀) cl₀ n (held l s) cl
+  pub firing_full : is_full n ≡ true → ClausesDid c l (λ v. add_all_fired c r q is) n₀ (held l s₀) cl₀ n (held l s) cl
   firing_full f =
       record {
-        is = λ wt. did_as (did_stop {G = λ v. fold (add_fired c r q) (drop j (indices_in is))} (x.did.is wt) f
-            (λ v t. widens_fold (add_fired c r q) (fired_widens c r q) (drop j (indices_in is)) t))
-            (λ v t. all_fired_widen c r q (indices_in is) t) (λ _ _ v. unfold add_all_fired in all_of_them (add_fired c r q) (indices_in is) j _);
+        is = λ wt. did_as (did_stop {G = λ v. fold (add_fired c r q) (drop j is)} (x.did.is wt) f
+            (λ v t. widens_fold (add_fired c r q) (fired_widens c r q) (drop j is) t))
+            (λ v t. all_fired_widen c r q is t) (λ _ _ v. unfold add_all_fired in all_of_them (add_fired c r q) is j _);
       }
 
 -- ---- with a condition: first all that the fired disjuncts name

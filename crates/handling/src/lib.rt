@@ -9,69 +9,43 @@ ghost use Rattle.rules.specs.Candidates.{goal_ranges};
 ghost use Rattle.rules.specs.Conditions.{disjunct_at, disjuncts_of, unconditional};
 ghost use Rattle.rules.specs.Opening.{requirement};
 ghost use Rattle.rules.specs.Variables.{gate};
-ghost use Rattle.requirement.specs.Requirements.{goal_of};
 ghost use Rattle.cache.specs.Areas.{catalogue};
 ghost use Rattle.state.specs.Layout.{held, Fits};
-ghost use Rattle.variable_map.specs.Mapping.{origin_of, variables};
+ghost use Rattle.variable_map.specs.Mapping.{variables};
 ghost use Rattle.marked.specs.Marked.{Marked};
 ghost use Rattle.encoder.specs.Held.{run_of, LongEnough, GoodState, Good};
 ghost use Rattle.encoder.specs.Did.{ClausesDid};
-ghost use Rattle.goals.specs.Goals.{Catalogued};
 ghost use Rattle.owners.specs.Owners.{serving};
-ghost use Rattle.firing.specs.Firing.{indices_in};
 ghost use Rattle.naming.specs.Naming.{name_disjuncts, GivenIndices};
 ghost use Rattle.naming.specs.Settled.{Settles};
 ghost use Rattle.naming.specs.Alike.{ClausesAlike};
 ghost use Rattle.condition_literals.specs.Literals.{AtHand, owner_origin, Named, Found, FiredKnown, DisjunctKnown};
 ghost use Rattle.handling.specs.Handling.{add_direct, add_gate, add_through_gate, add_fired, add_all_fired, add_unconditional, handled};
+ghost use Rattle.index.specs.Views.{catalogue_of, counts_of};
 
 use encoder::{Counters, Run};
-use firing::Indices;
-use requirement::Requirement;
+use index::Catalogue;
+use requirement::Owner;
 use state::Limits;
-use tables::Counts;
 use variable_map::Origin;
 
 // ---- clauses
 
-fn gate_origin(goal: Requirement) -> Origin
-    ensures { origin_of result ≡ gate (goal_of goal) }
-{
-    match goal {
-        Requirement::Single(range) => variable_map::range_gate(range),
-        Requirement::Union(union) => variable_map::union_gate(union),
-    }
-}
-
 // The variable of its owner, which has one.
-fn owner_variable(
-    marks: &[u8],
-    unions: &[u8],
-    t: &[u8],
-    k: Counts,
-    s: &[u8],
-    l: Limits,
-    n: Counters,
-    q: usize,
-) -> u16
-    requires catalogued { Catalogued k marks.now unions.now t.now }
+fn owner_variable(catalogue: &Catalogue, s: &[u8], l: Limits, n: Counters, q: usize) -> u16
     requires fits { Fits l (length s.now) }
-    requires good_state { GoodState (catalogue k marks.now unions.now t.now) l n (held l s.now) }
-    requires q_lt_requirements { q < k.requirements }
-    requires named { Named (catalogue k marks.now unions.now t.now) q (variables n.variables (held l s.now)) }
-    ensures { Found l (variables n.variables (held l s.now)) (owner_origin (catalogue k marks.now unions.now t.now) q) result }
+    requires good_state { GoodState (catalogue_of catalogue.now) l n (held l s.now) }
+    requires q_lt_requirements { q < (counts_of catalogue.now).requirements }
+    requires named { Named (catalogue_of catalogue.now) q (variables n.variables (held l s.now)) }
+    ensures { Found l (variables n.variables (held l s.now)) (owner_origin (catalogue_of catalogue.now) q) result }
 {
-    let it = tables::requirement_at(t, k, q);
-    let o = owners::owner_origin(owners::owner_number(it.owner));
-    opening::variable_of(s, l, n, o)
+    let it = catalogue.index.areas.tables.requirement_at(q);
+    opening::variable_of(s, l, n, owners::owner_origin(it.owner))
 }
 
 // The requires clause of an unconditional requirement.
 fn add_direct(
-    marks: &[u8],
-    unions: &[u8],
-    t: &[u8],
-    k: Counts,
+    catalogue: &Catalogue,
     s: &[u8],
     clauses: &mut [u8],
     l: Limits,
@@ -80,28 +54,23 @@ fn add_direct(
     q: usize,
     ranges: usize,
 ) -> Counters
-    requires catalogued { Catalogued k marks.now unions.now t.now }
     requires fits { Fits l (length s.now) }
-    requires good { Good (catalogue k marks.now unions.now t.now) l n (held l s.now) clauses.old [] }
+    requires good { Good (catalogue_of catalogue.now) l n (held l s.now) clauses.old [] }
     requires long_enough { LongEnough l (length clauses.old) 16384 }
-    requires q_lt_requirements { (q < k.requirements) × (0 < r.number) }
-    requires at_hand { AtHand (catalogue k marks.now unions.now t.now) q ranges (held l s.now) }
-    requires named { Named (catalogue k marks.now unions.now t.now) q (variables n.variables (held l s.now)) }
-    ensures { ClausesDid (catalogue k marks.now unions.now t.now) l (λ v. add_direct (catalogue k marks.now unions.now t.now) (run_of r) q) n (held l s.now) clauses.old result (held l s.now) clauses.new }
+    requires q_lt_requirements { (q < (counts_of catalogue.now).requirements) × (0 < r.number) }
+    requires at_hand { AtHand (catalogue_of catalogue.now) q ranges (held l s.now) }
+    requires named { Named (catalogue_of catalogue.now) q (variables n.variables (held l s.now)) }
+    ensures { ClausesDid (catalogue_of catalogue.now) l (λ v. add_direct (catalogue_of catalogue.now) (run_of r) q) n (held l s.now) clauses.old result (held l s.now) clauses.new }
 {
-    let it = tables::requirement_at(t, k, q);
-    let goal = it.requirement;
-    let x = owner_variable(marks, unions, t, k, s, l, n, q);
-    let all = condition_literals::rest_false(marks, unions, t, k, s, l, n, q, ranges, 0);
-    reporting::add_requires(s, clauses, l, n, r, x, 0, goal.form(), goal.number(), all)
+    let it = catalogue.index.areas.tables.requirement_at(q);
+    let x = owner_variable(catalogue, s, l, n, q);
+    let all = condition_literals::rest_false(catalogue, s, l, n, q, ranges, 0);
+    reporting::add_requires(s, clauses, l, n, r, x, 0, it.requirement, all)
 }
 
 // A gate that is new, its variable being g, has a clause of its own.
 fn add_gate(
-    marks: &[u8],
-    unions: &[u8],
-    t: &[u8],
-    k: Counts,
+    catalogue: &Catalogue,
     s: &mut [u8],
     clauses: &mut [u8],
     l: Limits,
@@ -112,30 +81,25 @@ fn add_gate(
     g: u16,
     new: bool,
 ) -> Counters
-    requires catalogued { Catalogued k marks.now unions.now t.now }
     requires fits { Fits l (length s.old) }
-    requires good { Good (catalogue k marks.now unions.now t.now) l n (held l s.old) clauses.old [] }
+    requires good { Good (catalogue_of catalogue.now) l n (held l s.old) clauses.old [] }
     requires long_enough { LongEnough l (length clauses.old) 16384 }
-    requires q_lt_requirements { (q < k.requirements) × (0 < r.number) }
-    requires at_hand { AtHand (catalogue k marks.now unions.now t.now) q ranges (held l s.old) }
-    requires named { Named (catalogue k marks.now unions.now t.now) q (variables n.variables (held l s.old)) }
-    requires found { Found l (variables n.variables (held l s.old)) (gate (goal_at (catalogue k marks.now unions.now t.now) q)) g }
-    ensures { ClausesDid (catalogue k marks.now unions.now t.now) l (λ v. add_gate (catalogue k marks.now unions.now t.now) (run_of r) q new) n (held l s.old) clauses.old result (held l s.new) clauses.new }
+    requires q_lt_requirements { (q < (counts_of catalogue.now).requirements) × (0 < r.number) }
+    requires at_hand { AtHand (catalogue_of catalogue.now) q ranges (held l s.old) }
+    requires named { Named (catalogue_of catalogue.now) q (variables n.variables (held l s.old)) }
+    requires found { Found l (variables n.variables (held l s.old)) (gate (goal_at (catalogue_of catalogue.now) q)) g }
+    ensures { ClausesDid (catalogue_of catalogue.now) l (λ v. add_gate (catalogue_of catalogue.now) (run_of r) q new) n (held l s.old) clauses.old result (held l s.new) clauses.new }
 {
     if new {
-        let it = tables::requirement_at(t, k, q);
-        let goal = it.requirement;
-        let all = condition_literals::rest_false(marks, unions, t, k, s, l, n, q, ranges, 0);
-        return setting::add_gated(s, clauses, l, n, r, g, goal.form(), goal.number(), all);
+        let it = catalogue.index.areas.tables.requirement_at(q);
+        let all = condition_literals::rest_false(catalogue, s, l, n, q, ranges, 0);
+        return setting::add_gated(s, clauses, l, n, r, g, it.requirement, all);
     }
     n
 }
 
 fn add_through_gate(
-    marks: &[u8],
-    unions: &[u8],
-    t: &[u8],
-    k: Counts,
+    catalogue: &Catalogue,
     s: &mut [u8],
     clauses: &mut [u8],
     l: Limits,
@@ -144,35 +108,30 @@ fn add_through_gate(
     q: usize,
     ranges: usize,
 ) -> Counters
-    requires catalogued { Catalogued k marks.now unions.now t.now }
     requires fits { Fits l (length s.old) }
-    requires good { Good (catalogue k marks.now unions.now t.now) l n (held l s.old) clauses.old [] }
+    requires good { Good (catalogue_of catalogue.now) l n (held l s.old) clauses.old [] }
     requires long_enough { LongEnough l (length clauses.old) 16384 }
-    requires q_lt_requirements { (q < k.requirements) × (0 < r.number) }
-    requires at_hand { AtHand (catalogue k marks.now unions.now t.now) q ranges (held l s.old) }
-    requires named { Named (catalogue k marks.now unions.now t.now) q (variables n.variables (held l s.old)) }
-    ensures { ClausesDid (catalogue k marks.now unions.now t.now) l (λ v. add_through_gate (catalogue k marks.now unions.now t.now) (run_of r) q) n (held l s.old) clauses.old result (held l s.new) clauses.new }
+    requires q_lt_requirements { (q < (counts_of catalogue.now).requirements) × (0 < r.number) }
+    requires at_hand { AtHand (catalogue_of catalogue.now) q ranges (held l s.old) }
+    requires named { Named (catalogue_of catalogue.now) q (variables n.variables (held l s.old)) }
+    ensures { ClausesDid (catalogue_of catalogue.now) l (λ v. add_through_gate (catalogue_of catalogue.now) (run_of r) q) n (held l s.old) clauses.old result (held l s.new) clauses.new }
 {
-    let it = tables::requirement_at(t, k, q);
-    let goal = it.requirement;
-    let o = gate_origin(goal);
-    let new = variable_map::variable(s, l, n.variables, o) == 0;
-    let a = opening::name_variable(s, l, n, o);
+    let it = catalogue.index.areas.tables.requirement_at(q);
+    let gate = Origin::Gate(it.requirement);
+    let new = variable_map::variable(s, l, n.variables, gate).is_none();
+    let a = opening::name_variable(s, l, n, gate);
     if a.full != 0 {
         return a;
     }
-    let g = opening::variable_of(s, l, a, o);
-    let x = owner_variable(marks, unions, t, k, s, l, a, q);
-    let b = add_gate(marks, unions, t, k, s, clauses, l, a, r, q, ranges, g, new);
+    let g = opening::variable_of(s, l, a, gate);
+    let x = owner_variable(catalogue, s, l, a, q);
+    let b = add_gate(catalogue, s, clauses, l, a, r, q, ranges, g, new);
     setting::add_any_gate(s, clauses, l, b, r, g, x)
 }
 
 // The requires clause of a fired disjunct.
 fn add_fired(
-    marks: &[u8],
-    unions: &[u8],
-    t: &[u8],
-    k: Counts,
+    catalogue: &Catalogue,
     s: &mut [u8],
     clauses: &mut [u8],
     l: Limits,
@@ -182,43 +141,27 @@ fn add_fired(
     ranges: usize,
     i: usize,
 ) -> Counters
-    requires catalogued { Catalogued k marks.now unions.now t.now }
     requires fits { Fits l (length s.old) }
-    requires good { Good (catalogue k marks.now unions.now t.now) l n (held l s.old) clauses.old [] }
+    requires good { Good (catalogue_of catalogue.now) l n (held l s.old) clauses.old [] }
     requires long_enough { LongEnough l (length clauses.old) 16384 }
-    requires q_lt_requirements { (q < k.requirements) × (0 < r.number) × (unconditional (catalogue k marks.now unions.now t.now) q ≡ false) × (i < length (disjuncts_of (catalogue k marks.now unions.now t.now) q)) }
-    requires at_hand { AtHand (catalogue k marks.now unions.now t.now) q ranges (held l s.old) }
-    requires named { Named (catalogue k marks.now unions.now t.now) q (variables n.variables (held l s.old)) }
-    requires disjunct_known { DisjunctKnown (catalogue k marks.now unions.now t.now) (variables n.variables (held l s.old)) (disjunct_at (catalogue k marks.now unions.now t.now) q i) }
-    ensures { ClausesDid (catalogue k marks.now unions.now t.now) l (λ v. add_fired (catalogue k marks.now unions.now t.now) (run_of r) q i) n (held l s.old) clauses.old result (held l s.new) clauses.new }
+    requires q_lt_requirements { (q < (counts_of catalogue.now).requirements) × (0 < r.number) × (unconditional (catalogue_of catalogue.now) q ≡ false) × (i < length (disjuncts_of (catalogue_of catalogue.now) q)) }
+    requires at_hand { AtHand (catalogue_of catalogue.now) q ranges (held l s.old) }
+    requires named { Named (catalogue_of catalogue.now) q (variables n.variables (held l s.old)) }
+    requires disjunct_known { DisjunctKnown (catalogue_of catalogue.now) (variables n.variables (held l s.old)) (disjunct_at (catalogue_of catalogue.now) q i) }
+    ensures { ClausesDid (catalogue_of catalogue.now) l (λ v. add_fired (catalogue_of catalogue.now) (run_of r) q i) n (held l s.old) clauses.old result (held l s.new) clauses.new }
 {
-    let count = condition_literals::disjunct_literals(marks, unions, t, k, s, l, n, q, i);
+    let count = condition_literals::disjunct_literals(catalogue, s, l, n, q, i);
     if l.literals - n.literals < count {
         return encoder::filled(n);
     }
-    let it = tables::requirement_at(t, k, q);
-    let goal = it.requirement;
-    let x = owner_variable(marks, unions, t, k, s, l, n, q);
-    let all = condition_literals::rest_false(marks, unions, t, k, s, l, n, q, ranges, count);
-    reporting::add_requires(
-        s,
-        clauses,
-        l,
-        n,
-        r,
-        x,
-        count,
-        goal.form(),
-        goal.number(),
-        all,
-    )
+    let it = catalogue.index.areas.tables.requirement_at(q);
+    let x = owner_variable(catalogue, s, l, n, q);
+    let all = condition_literals::rest_false(catalogue, s, l, n, q, ranges, count);
+    reporting::add_requires(s, clauses, l, n, r, x, count, it.requirement, all)
 }
 
 fn add_all_fired(
-    marks: &[u8],
-    unions: &[u8],
-    t: &[u8],
-    k: Counts,
+    catalogue: &Catalogue,
     s: &mut [u8],
     clauses: &mut [u8],
     l: Limits,
@@ -226,30 +169,24 @@ fn add_all_fired(
     r: Run,
     q: usize,
     ranges: usize,
-    is: Indices,
+    indices: &[u16],
 ) -> Counters
-    requires catalogued { Catalogued k marks.now unions.now t.now }
     requires fits { Fits l (length s.old) }
-    requires good { Good (catalogue k marks.now unions.now t.now) l n (held l s.old) clauses.old [] }
+    requires good { Good (catalogue_of catalogue.now) l n (held l s.old) clauses.old [] }
     requires long_enough { LongEnough l (length clauses.old) 16384 }
-    requires q_lt_requirements { (q < k.requirements) × (0 < r.number) × (unconditional (catalogue k marks.now unions.now t.now) q ≡ false) }
-    requires at_hand { AtHand (catalogue k marks.now unions.now t.now) q ranges (held l s.old) }
-    requires named { Named (catalogue k marks.now unions.now t.now) q (variables n.variables (held l s.old)) }
-    requires given_indices { GivenIndices (catalogue k marks.now unions.now t.now) q is }
-    requires fired_known { FiredKnown (catalogue k marks.now unions.now t.now) (variables n.variables (held l s.old)) q (indices_in is) }
-    ensures { ClausesDid (catalogue k marks.now unions.now t.now) l (λ v. add_all_fired (catalogue k marks.now unions.now t.now) (run_of r) q (indices_in is)) n (held l s.old) clauses.old result (held l s.new) clauses.new }
+    requires q_lt_requirements { (q < (counts_of catalogue.now).requirements) × (0 < r.number) × (unconditional (catalogue_of catalogue.now) q ≡ false) }
+    requires at_hand { AtHand (catalogue_of catalogue.now) q ranges (held l s.old) }
+    requires named { Named (catalogue_of catalogue.now) q (variables n.variables (held l s.old)) }
+    requires given_indices { GivenIndices (catalogue_of catalogue.now) q indices.now }
+    requires fired_known { FiredKnown (catalogue_of catalogue.now) (variables n.variables (held l s.old)) q indices.now }
+    ensures { ClausesDid (catalogue_of catalogue.now) l (λ v. add_all_fired (catalogue_of catalogue.now) (run_of r) q indices.now) n (held l s.old) clauses.old result (held l s.new) clauses.new }
 {
     let mut m = n;
-    let mut j = 0;
-    while j < is.len {
+    for index in indices {
         if m.full != 0 {
             return m;
         }
-        let i = is.at[j];
-        m = add_fired(
-            marks, unions, t, k, s, clauses, l, m, r, q, ranges, i as usize,
-        );
-        j += 1;
+        m = add_fired(catalogue, s, clauses, l, m, r, q, ranges, *index as usize);
     }
     m
 }
@@ -257,10 +194,7 @@ fn add_all_fired(
 // ---- the task
 
 fn handle_conditional(
-    marks: &[u8],
-    unions: &[u8],
-    t: &[u8],
-    k: Counts,
+    catalogue: &Catalogue,
     s: &mut [u8],
     clauses: &mut [u8],
     l: Limits,
@@ -268,30 +202,26 @@ fn handle_conditional(
     r: Run,
     q: usize,
     ranges: usize,
-    is: Indices,
+    indices: &[u16],
 ) -> Counters
-    requires catalogued { Catalogued k marks.now unions.now t.now }
     requires fits { Fits l (length s.old) }
-    requires good { Good (catalogue k marks.now unions.now t.now) l n (held l s.old) clauses.old [] }
+    requires good { Good (catalogue_of catalogue.now) l n (held l s.old) clauses.old [] }
     requires long_enough { LongEnough l (length clauses.old) 16384 }
-    requires q_lt_requirements { (q < k.requirements) × (0 < r.number) × (unconditional (catalogue k marks.now unions.now t.now) q ≡ false) }
-    requires at_hand { AtHand (catalogue k marks.now unions.now t.now) q ranges (held l s.old) }
-    requires named { Named (catalogue k marks.now unions.now t.now) q (variables n.variables (held l s.old)) }
-    requires given_indices { GivenIndices (catalogue k marks.now unions.now t.now) q is }
-    ensures { ClausesDid (catalogue k marks.now unions.now t.now) l (λ v. λ u. add_all_fired (catalogue k marks.now unions.now t.now) (run_of r) q (indices_in is) (name_disjuncts (catalogue k marks.now unions.now t.now) q (indices_in is) u)) n (held l s.old) clauses.old result (held l s.new) clauses.new }
+    requires q_lt_requirements { (q < (counts_of catalogue.now).requirements) × (0 < r.number) × (unconditional (catalogue_of catalogue.now) q ≡ false) }
+    requires at_hand { AtHand (catalogue_of catalogue.now) q ranges (held l s.old) }
+    requires named { Named (catalogue_of catalogue.now) q (variables n.variables (held l s.old)) }
+    requires given_indices { GivenIndices (catalogue_of catalogue.now) q indices.now }
+    ensures { ClausesDid (catalogue_of catalogue.now) l (λ v. λ u. add_all_fired (catalogue_of catalogue.now) (run_of r) q indices.now (name_disjuncts (catalogue_of catalogue.now) q indices.now u)) n (held l s.old) clauses.old result (held l s.new) clauses.new }
 {
-    let m = naming::name_disjuncts(marks, unions, t, k, s, l, n, q, is);
+    let m = naming::name_disjuncts(catalogue, s, l, n, q, indices);
     if m.full != 0 {
         return m;
     }
-    add_all_fired(marks, unions, t, k, s, clauses, l, m, r, q, ranges, is)
+    add_all_fired(catalogue, s, clauses, l, m, r, q, ranges, indices)
 }
 
 fn handle_unconditional(
-    marks: &[u8],
-    unions: &[u8],
-    t: &[u8],
-    k: Counts,
+    catalogue: &Catalogue,
     s: &mut [u8],
     clauses: &mut [u8],
     l: Limits,
@@ -300,100 +230,79 @@ fn handle_unconditional(
     q: usize,
     ranges: usize,
 ) -> Counters
-    requires catalogued { Catalogued k marks.now unions.now t.now }
     requires fits { Fits l (length s.old) }
-    requires good { Good (catalogue k marks.now unions.now t.now) l n (held l s.old) clauses.old [] }
+    requires good { Good (catalogue_of catalogue.now) l n (held l s.old) clauses.old [] }
     requires long_enough { LongEnough l (length clauses.old) 16384 }
-    requires q_lt_requirements { (q < k.requirements) × (0 < r.number) × (unconditional (catalogue k marks.now unions.now t.now) q ≡ true) }
-    requires at_hand { AtHand (catalogue k marks.now unions.now t.now) q ranges (held l s.old) }
-    requires named { Named (catalogue k marks.now unions.now t.now) q (variables n.variables (held l s.old)) }
-    ensures { ClausesDid (catalogue k marks.now unions.now t.now) l (λ v. add_unconditional (catalogue k marks.now unions.now t.now) (run_of r) q) n (held l s.old) clauses.old result (held l s.new) clauses.new }
+    requires q_lt_requirements { (q < (counts_of catalogue.now).requirements) × (0 < r.number) × (unconditional (catalogue_of catalogue.now) q ≡ true) }
+    requires at_hand { AtHand (catalogue_of catalogue.now) q ranges (held l s.old) }
+    requires named { Named (catalogue_of catalogue.now) q (variables n.variables (held l s.old)) }
+    ensures { ClausesDid (catalogue_of catalogue.now) l (λ v. add_unconditional (catalogue_of catalogue.now) (run_of r) q) n (held l s.old) clauses.old result (held l s.new) clauses.new }
 {
-    let it = tables::requirement_at(t, k, q);
-    let goal = it.requirement;
-    if it.owner == 65535 {
-        return add_direct(marks, unions, t, k, s, clauses, l, n, r, q, ranges);
+    let it = catalogue.index.areas.tables.requirement_at(q);
+    if it.owner == Owner::Root || goals::count(catalogue, it.requirement, 4) < 4 {
+        return add_direct(catalogue, s, clauses, l, n, r, q, ranges);
     }
-    if goals::count(marks, unions, t, k, goal, 4) < 4 {
-        return add_direct(marks, unions, t, k, s, clauses, l, n, r, q, ranges);
-    }
-    add_through_gate(marks, unions, t, k, s, clauses, l, n, r, q, ranges)
+    add_through_gate(catalogue, s, clauses, l, n, r, q, ranges)
 }
 
 // Its goal's ranges being at hand. Of candidates that are known to be settled one of each name is named.
 fn handle(
-    marks: &[u8],
-    unions: &[u8],
-    t: &[u8],
-    k: Counts,
+    catalogue: &Catalogue,
     s: &mut [u8],
     clauses: &mut [u8],
     l: Limits,
     n: Counters,
     r: Run,
     q: usize,
-    is: Indices,
+    indices: &[u16],
     ranges: usize,
     settled: bool,
 ) -> Counters
-    requires catalogued { Catalogued k marks.now unions.now t.now }
     requires fits { Fits l (length s.old) }
-    requires good { Good (catalogue k marks.now unions.now t.now) l n (held l s.old) clauses.old [] }
+    requires good { Good (catalogue_of catalogue.now) l n (held l s.old) clauses.old [] }
     requires long_enough { LongEnough l (length clauses.old) 16384 }
-    requires q_lt_requirements { (q < k.requirements) × (0 < r.number) }
-    requires at_hand { AtHand (catalogue k marks.now unions.now t.now) q ranges (held l s.old) }
-    requires given_indices { GivenIndices (catalogue k marks.now unions.now t.now) q is }
-    requires settles { settled ≡ true → Settles (catalogue k marks.now unions.now t.now) l (distinct (goal_ranges (catalogue k marks.now unions.now t.now) (goal_at (catalogue k marks.now unions.now t.now) q))) n (held l s.old) }
-    ensures { ClausesDid (catalogue k marks.now unions.now t.now) l (λ v. handled (catalogue k marks.now unions.now t.now) (run_of r) q settled (indices_in is)) n (held l s.old) clauses.old result (held l s.new) clauses.new }
+    requires q_lt_requirements { (q < (counts_of catalogue.now).requirements) × (0 < r.number) }
+    requires at_hand { AtHand (catalogue_of catalogue.now) q ranges (held l s.old) }
+    requires given_indices { GivenIndices (catalogue_of catalogue.now) q indices.now }
+    requires settles { settled ≡ true → Settles (catalogue_of catalogue.now) l (distinct (goal_ranges (catalogue_of catalogue.now) (goal_at (catalogue_of catalogue.now) q))) n (held l s.old) }
+    ensures { ClausesDid (catalogue_of catalogue.now) l (λ v. handled (catalogue_of catalogue.now) (run_of r) q settled indices.now) n (held l s.old) clauses.old result (held l s.new) clauses.new }
 {
-    let it = tables::requirement_at(t, k, q);
-    let a = opening::name_variable(
-        s,
-        l,
-        n,
-        owners::owner_origin(owners::owner_number(it.owner)),
-    );
-    let b = naming::name_candidates(marks, unions, t, k, s, l, a, ranges, settled);
+    let it = catalogue.index.areas.tables.requirement_at(q);
+    let a = opening::name_variable(s, l, n, owners::owner_origin(it.owner));
+    let b = naming::name_candidates(catalogue, s, l, a, ranges, settled);
     if b.full != 0 {
         return b;
     }
-    if it.condition == 65535 {
-        return handle_unconditional(marks, unions, t, k, s, clauses, l, b, r, q, ranges);
+    match it.condition {
+        None => handle_unconditional(catalogue, s, clauses, l, b, r, q, ranges),
+        Some(_) => handle_conditional(catalogue, s, clauses, l, b, r, q, ranges, indices),
     }
-    handle_conditional(marks, unions, t, k, s, clauses, l, b, r, q, ranges, is)
 }
 
 // Requirement q is handled for these disjuncts. `settled`: its candidates are known to be settled.
 pub fn serve_requirement(
-    marks: &[u8],
-    unions: &[u8],
-    t: &[u8],
-    k: Counts,
+    catalogue: &Catalogue,
     s: &mut [u8],
     clauses: &mut [u8],
     l: Limits,
     n: Counters,
     r: Run,
     q: usize,
-    is: Indices,
+    indices: &[u16],
     settled: bool,
 ) -> Counters
-    requires catalogued { Catalogued k marks.now unions.now t.now }
     requires fits { Fits l (length s.old) }
-    requires good { Good (catalogue k marks.now unions.now t.now) l n (held l s.old) clauses.old [] }
+    requires good { Good (catalogue_of catalogue.now) l n (held l s.old) clauses.old [] }
     requires long_enough { LongEnough l (length clauses.old) 16384 }
-    requires q_lt_requirements { (q < k.requirements) × (0 < r.number) }
+    requires q_lt_requirements { (q < (counts_of catalogue.now).requirements) × (0 < r.number) }
     requires marked { Marked 14 15 0 (held l s.old) }
-    requires given_indices { GivenIndices (catalogue k marks.now unions.now t.now) q is }
-    requires settles { settled ≡ true → Settles (catalogue k marks.now unions.now t.now) l (distinct (goal_ranges (catalogue k marks.now unions.now t.now) (goal_at (catalogue k marks.now unions.now t.now) q))) n (held l s.old) }
-    ensures { ClausesAlike (catalogue k marks.now unions.now t.now) l (λ v. serving (catalogue k marks.now unions.now t.now) (run_of r) (requirement q (indices_in is))) n (held l s.old) clauses.old result (held l s.new) clauses.new }
+    requires given_indices { GivenIndices (catalogue_of catalogue.now) q indices.now }
+    requires settles { settled ≡ true → Settles (catalogue_of catalogue.now) l (distinct (goal_ranges (catalogue_of catalogue.now) (goal_at (catalogue_of catalogue.now) q))) n (held l s.old) }
+    ensures { ClausesAlike (catalogue_of catalogue.now) l (λ v. serving (catalogue_of catalogue.now) (run_of r) (requirement q indices.now)) n (held l s.old) clauses.old result (held l s.new) clauses.new }
 {
-    let it = tables::requirement_at(t, k, q);
-    let goal = it.requirement;
-    let ranges = goals::gather(marks, unions, t, k, s, l, goal);
-    let m = handle(
-        marks, unions, t, k, s, clauses, l, n, r, q, is, ranges, settled,
-    );
+    let it = catalogue.index.areas.tables.requirement_at(q);
+    let ranges = goals::gather(catalogue, s, l, it.requirement);
+    let m = handle(catalogue, s, clauses, l, n, r, q, indices, ranges, settled);
     goals::release(s, l, ranges);
     m
 }

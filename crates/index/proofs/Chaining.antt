@@ -7,6 +7,7 @@ use native.Mathlib.Decide.{ℕ_discrete}
 use lib.ListN.{length, get_or, set, length-set}
 use lib.Seq.{get_or-set_same, get_or-set_other}
 use Rattle.index.specs.Chains.{First, Chain, key_of, Linked, Keyed, Only}
+use Rattle.index.specs.Placed.{Apart}
 
 -- ---- the first row of a key
 
@@ -39,16 +40,6 @@ first_here : {n : ℕ} {key : ℕ → ℕ} {x i : ℕ} → i < n → First n key
 first_here h = record { onward = omega arith; inside = omega arith; none = λ j a b e. omega arith }
 
 -- ---- places
-
--- of n rows and `most` keys the places of keys, heads and links lie apart, heads and links within so many numbers
-pub record Apart (h : Chain) (n most size : ℕ) : Type 0 where
-  pub heads_in : (x : ℕ) → x < most → h.head_at x < size
-  pub links_in : (i : ℕ) → i < n → h.link_at i < size
-  pub heads : (x y : ℕ) → x < most → y < most → h.head_at x ≡ h.head_at y → x ≡ y
-  pub links : (i j : ℕ) → i < n → j < n → h.link_at i ≡ h.link_at j → i ≡ j
-  pub head_link : (x i : ℕ) → x < most → i < n → h.head_at x ≡ h.link_at i → ⊥
-  pub key_head : (i x : ℕ) → i < n → x < most → h.key_at i ≡ h.head_at x → ⊥
-  pub key_link : (i j : ℕ) → i < n → j < n → h.key_at i ≡ h.link_at j → ⊥
 
 pub only_none : (h : Chain) (n most : ℕ) (w : List ℕ) → Only h n most w w
 only_none h n most w = record { others = λ a p q. refl }

@@ -2,9 +2,9 @@
 use mathlib.Core.Path.{◌≡◌, refl, sym, ap, ◌∙◌}
 use mathlib.Core.Bool.{Bool, true, false, ◌&&◌, false≢true}
 use mathlib.Core.List.{List}
-use Prim.Native.Nat.{ℕ, ◌+◌, ◌*◌, ◌-◌, ◌<◌, ◌≤◌}
+use Prim.Native.Nat.{ℕ, ◌+◌, ◌*◌, ◌<◌, ◌≤◌, max}
 use native.Mathlib.Omega.{arith}
-use native.Mathlib.Decide.{ℕ_discrete}
+use native.Mathlib.Decide.{dec_lt, ℕ_discrete}
 use lib.Dec.{eqb}
 use lib.ListN.{length, get_or, set, length-set}
 use lib.Seq.{get_or-set_same, get_or-set_other}
@@ -30,11 +30,10 @@ none_left k t = record { above = λ x p h a b e f. omega arith; below = λ x p h
 pub favoured_start : (k : Counts) (t : List ℕ) → Favouring k k.parts t t
 favoured_start k t = record { same = refl; only = only_none favoured_bounds k.names k.names (words t); favoured = none_left k t }
 
-pub favoured_rest : {k : Counts} {x : ℕ} {t u v : List ℕ} → Laid k (length t) → length u ≡ length t → Favouring k k.parts t u → x < k.names
+pub favoured_rest : {k : Counts} {x : ℕ} {t u v : List ℕ} → Laid k (length u) → Favouring k k.parts t u → x < k.names
     → words v ≡ set (words u) (6 * x + 5) 0 → Favouring k k.parts t v
 unfolding tables
-favoured_rest {k} {x} {t} {u} {v} l z g h e =
-    let m : Laid k (length u) = rw z l in
+favoured_rest {k} {x} {t} {u} {v} m g h e =
     record {
       same = rw e (places.favoured_link_free k u m x 0 (words u) h ∙ g.same);
       only = only_then g.only (rw e (only_link favoured_bounds k.names k.names x 0 (words u) h));
@@ -142,9 +141,6 @@ pub favoured_keyed : {k : Counts} {i j : ℕ} {s t u : List ℕ} → Laid k (len
     → Keyed parts_by_name k.parts k.names (words u)
 favoured_keyed {k} {i} {j} {s} l d a b = keyed_beside (places.parts_beside_favoured k s l) (favoured_then a b).only d
 
-pub favoured_ready : {k : Counts} {i : ℕ} {s t : List ℕ} → 0 < i → Favouring k i s t → Favoured k (i - 1 + 1) t
-favoured_ready {i = i} h a = let e : i - 1 + 1 ≡ i = omega arith in rw e a.favoured
-
 pub favoured_end : {k : Counts} {i j : ℕ} {s t u : List ℕ} → Favouring k j s t → Favouring k i t u → i ≤ 0 → Favouring k 0 s u
 favoured_end {i = i} a b h = let e : i ≡ 0 = omega arith in rw e at (favoured_then a b)
 
@@ -180,9 +176,6 @@ module _ {k : Counts} {m t : List ℕ} (name : ℕ) {from : ℕ} (d : Chains k m
             (λ e. absurd (none p y z (eqb-true _ _ (and_left (eqb (key_of parts_by_name (words t) p) name) (is_favoured k t p) e)) (and_right (eqb (key_of parts_by_name (words t) p) name) (is_favoured k t p) e))) (λ e. e);
       }
 
-  pub favoured_nowhere : k.names ≤ name → Skips k.parts (favoured_of k t name) from from
-  favoured_nowhere g = outside from (omega arith) h (λ p y z e f. omega arith)
-
   module _ (low : name < k.names) where
     pub favoured_past : {end : ℕ} → end ≡ get_or (words t) (6 * name + 5) 0 → end ≤ from → Skips k.parts (favoured_of k t name) from k.parts
     favoured_past e g = outside k.parts h (omega arith) (λ p y z q f. (let o = (opened d.favoured).below name p low (omega arith) z q f in omega arith))
@@ -196,5 +189,8 @@ module _ {k : Counts} {m t : List ℕ} (name : ℕ) {from : ℕ} (d : Chains k m
         before : {p : ℕ} → p < first → first < k.parts → p < k.parts
         before z g = omega arith
 
-  pub favoured_here : Skips k.parts (favoured_of k t name) from from
-  favoured_here = outside from (omega arith) h (λ p y z e f. omega arith)
+    pub favoured_max : {first x : ℕ} → first ≡ get_or (words t) (6 * name + 4) 0 → first < k.parts → x ≡ max from first → Skips k.parts (favoured_of k t name) from x
+    favoured_max {first} e g q = elim (dec_lt from first) [
+      | yes y ↦ (let z : max from first ≡ first = omega arith in rw (q, z) (favoured_ahead e g y))
+      | no y ↦ (let z : max from first ≡ from = omega arith in rw (q, z) (outside from (omega arith) h (λ p a b c f. omega arith)))
+    ]

@@ -1,40 +1,51 @@
 -- The functions of the crate against the chains: a law for each way out.
 use mathlib.Core.Path.{◌≡◌, refl, sym, ap, ◌∙◌}
 use mathlib.Core.List.{List}
-use Prim.Native.Nat.{ℕ, ◌+◌, ◌*◌, ◌-◌, ◌<◌, ◌≤◌}
+use Prim.Native.Nat.{ℕ, ◌+◌, ◌*◌, ◌<◌, ◌≤◌}
 use native.Mathlib.Omega.{arith}
-use native.Mathlib.Decide.{dec_lt, ℕ_discrete}
+use native.Mathlib.Decide.{ℕ_discrete}
 use lib.ListN.{length, get_or, set, length-set}
 use lib.Seq.{get_or-set_same, get_or-set_other}
-use borrow.Author.Tests.{eq-eqb, ne_eqb}
-use Rattle.words.specs.Words.{words}
+use Rattle.words.specs.Words.{words, length_words}
 use Rattle.marks.specs.Marks.{NextMember, EndOfMembers}
 use Rattle.tables.specs.declared.Counts.{Counts}
 use Rattle.tables.specs.Tables.{tables_in, tables, Laid}
-use Rattle.index.specs.Chains.{First, Chain, owner_row, parts_by_name, requirements_by_owner, constraints_by_owner, key_of, Linked, Key, Keyed, Only, range_bounds, FavouredBounded, Bounded, Chains, Keys, Linking, Heading, BoundSet, bound_set, Bounding, Favouring, NonMatchingNoted, Noting, Chained}
-use Rattle.index.proofs.Chaining.{Apart, Beside, only_none, only_then, only_head, only_link, linked_only, linked_more, linked_none, keyed_kept, keyed_beside, linked_beside}
+use Rattle.index.specs.Chains.{First, Chain, parts_by_name, requirements_by_owner, constraints_by_owner, key_of, Linked, Key, Keyed, Only, range_bounds, FavouredBounded, Bounded, Keys, Linking, Heading, BoundSet, bound_set, Bounding, Favouring, NonMatchingNoted, Noting, Chained}
+use Rattle.index.specs.Placed.{Apart, Placed}
+use Rattle.index.proofs.Chaining.{Beside, only_none, only_then, only_head, only_link, linked_only, linked_more, keyed_kept, keyed_beside, linked_beside}
 use Rattle.index.proofs.Places as places
 use Rattle.index.proofs.Favoured.{favoured_beside}
 
--- ---- owners' rows
+-- ---- where the numbers of a chain stand
 
-pub root_row_law : (o : ℕ) → o ≡ 65535 → 0 ≡ owner_row o
-unfolding owner_row
-root_row_law o e = rw (eq-eqb o 65535 e)
+module _ {h : Chain} {k : Counts} {n most : ℕ} (b : List ℕ) (p : Placed h k n most (length (words b))) where
+  pub head_low : {x : ℕ} → x < most → x ≤ 1025
+  head_low l = let m = p.low in omega arith
 
-pub part_row_law : (o : ℕ) → (o ≡ 65535 → ⊥) → o + 1 ≡ owner_row o
-unfolding owner_row
-part_row_law o e = rw (ne_eqb o 65535 e)
+  pub row_low : {i : ℕ} → i < n → i ≤ 1024
+  row_low l = let m = p.few in omega arith
 
-pub stored_both : (u v w : List ℕ) (at head next i : ℕ) → next ≡ get_or u head 0 → v ≡ set u at next → w ≡ set v head i → w ≡ set (set u at (get_or u head 0)) head i
-stored_both u v w at head next i e f g = g ∙ rw (f, e)
+  pub head_room : {x a : ℕ} → x < most → a ≡ h.head_at x → a * 2 + 1 < length b
+  head_room {x} l e = let m = p.apart.heads_in x l in omega (arith, length_words b)
+
+  pub key_room : {i a : ℕ} → i < n → a ≡ h.key_at i → a * 2 + 1 < length b
+  key_room {i} l e = let m = p.keys_in i l in omega (arith, length_words b)
+
+  pub link_room : {i a : ℕ} → i < n → a ≡ h.link_at i → a * 2 + 1 < length b
+  link_room {i} l e = let m = p.apart.links_in i l in omega (arith, length_words b)
+
+pub next_row_of : {h : Chain} {n most i x a b y z r : ℕ} {w : List ℕ} → Linked h n most 0 w → i < n → a ≡ h.key_at i → y ≡ get_or w a 0 → z ≡ h.row y → z ≡ x
+    → b ≡ h.link_at i → r ≡ get_or w b 0 → First n (key_of h w) x (i + 1) r
+next_row_of {h} {i = i} {x = x} {w = w} d l e f g q u v =
+    let o : key_of h w i ≡ x = unfold key_of in (ap (λ (m : ℕ). h.row (get_or w m 0)) (sym e) ∙ (ap h.row (sym f) ∙ (sym g ∙ q))) in
+    rw (v, u) (rw o at (d.links i (omega arith) l))
 
 -- ---- heads
 
-heading_none : (h : Chain) (k : Counts) (n most : ℕ) (t : List ℕ) → Heading h k n most 0 t t
+pub heading_none : (h : Chain) (k : Counts) (n most : ℕ) (t : List ℕ) → Heading h k n most 0 t t
 heading_none h k n most t = record { same = refl; only = only_none h n most (words t); set = λ y l. (let none : ⊥ = omega arith in absurd none) }
 
-heading_more : {h : Chain} {k : Counts} {n most x : ℕ} {t u v : List ℕ} → Apart h n most (length (words u)) → Heading h k n most x t u → x < most
+pub heading_more : {h : Chain} {k : Counts} {n most x : ℕ} {t u v : List ℕ} → Apart h n most (length (words u)) → Heading h k n most x t u → x < most
     → words v ≡ set (words u) (h.head_at x) n → tables_in k (set (words u) (h.head_at x) n) ≡ tables_in k (words u) → Heading h k n most (x + 1) t v
 unfolding tables
 heading_more {h} {k} {n} {most} {x} {t} {u} {v} p g l e f =
@@ -56,113 +67,25 @@ heading_more {h} {k} {n} {most} {x} {t} {u} {v} p g l e f =
         below : (y : ℕ) → y < x + 1 → (y ≡ x → ⊥) → y < x
         below y m q = omega arith
 
--- ---- parts
+-- ---- a row more
 
-pub parts_start : (k : Counts) (t : List ℕ) → Heading parts_by_name k k.parts k.names 0 t t
-parts_start k t = heading_none parts_by_name k k.parts k.names t
+pub key_low : {h : Chain} {n most i a y z : ℕ} {w : List ℕ} → Keyed h n most w → i < n → a ≡ h.key_at i → y ≡ get_or w a 0 → z ≡ h.row y → z < most
+key_low {h} {i = i} {z = z} {w = w} d l e f g =
+    let q : key_of h w i ≡ z = unfold key_of in (ap (λ (m : ℕ). h.row (get_or w m 0)) (sym e) ∙ (ap h.row (sym f) ∙ sym g)) in
+    rw q at (d.low i l)
 
-pub parts_headed : {k : Counts} {x : ℕ} {t u v : List ℕ} → Laid k (length t) → length u ≡ length t → Heading parts_by_name k k.parts k.names x t u → x < k.names
-    → words v ≡ set (words u) (6 * x + 3) k.parts → Heading parts_by_name k k.parts k.names (x + 1) t v
-parts_headed {k} {x} {t} {u} {v} l z g h e =
-    let m : Laid k (length u) = rw z l in
-    heading_more (places.parts_apart k u m) g h e (places.parts_head_free k u m x k.parts (words u) h)
-
-pub parts_all_headed : {k : Counts} {x : ℕ} {t u : List ℕ} → Heading parts_by_name k k.parts k.names x t u → k.names ≤ x → Heading parts_by_name k k.parts k.names k.names t u
-parts_all_headed g h = record { same = g.same; only = g.only; set = λ y l. g.set y (omega arith) }
-
-pub parts_none_linked : {k : Counts} {t u : List ℕ} → Heading parts_by_name k k.parts k.names k.names t u → Linking parts_by_name k k.parts k.names k.parts u u
-parts_none_linked {k} {t} {u} g = record { same = refl; only = only_none parts_by_name k.parts k.names (words u); linked = linked_none g.set }
-
-pub parts_one_linked : (k : Counts) (i x : ℕ) (t u : List ℕ) → Laid k (length t) → Keyed parts_by_name k.parts k.names (words t)
-    → Linked parts_by_name k.parts k.names (i + 1) (words t) → i < k.parts → Key parts_by_name k.names (words t) i x
-    → words u ≡ set (set (words t) (384 + 5 * i + 4) (get_or (words t) (6 * x + 3) 0)) (6 * x + 3) i
-    → Linking parts_by_name k k.parts k.names i t u
+pub linked_one : {h : Chain} {k : Counts} {n most i a y z b c : ℕ} {t u : List ℕ} → Placed h k n most (length (words t)) → Keyed h n most (words t)
+    → Linked h n most (i + 1) (words t) → i < n → a ≡ h.key_at i → y ≡ get_or (words t) a 0 → z ≡ h.row y → b ≡ h.head_at z → c ≡ h.link_at i
+    → words u ≡ set (set (words t) c (get_or (words t) b 0)) b i → Linking h k n most i t u
 unfolding tables
-parts_one_linked k i x t u l d g h q e =
-    let p = places.parts_apart k t l in
-    let e' = rw q.is at e in
-    let m = d.low i h in
+linked_one {h} {k} {n} {most} {i} {z = z} {t = t} {u = u} p d m l e f g q o v =
+    let is : z ≡ key_of h (words t) i = unfold key_of in (g ∙ (ap h.row f ∙ ap (λ (j : ℕ). h.row (get_or (words t) j 0)) e)) in
+    let put : words u ≡ set (set (words t) (h.link_at i) (get_or (words t) (h.head_at (key_of h (words t) i)) 0)) (h.head_at (key_of h (words t) i)) i = v ∙ rw (o, q, is) in
     record {
-      same = rw e (places.parts_head_free k t l x i _ q.low ∙ places.parts_link_free k t l i _ (words t) h);
-      only = linked_only p g h m e';
-      linked = linked_more p g h m e';
+      same = rw put (p.head_free (key_of h (words t) i) i _ (d.low i l) ∙ p.link_free i _ (words t) l);
+      only = linked_only p.apart m l (d.low i l) put;
+      linked = linked_more p.apart m l (d.low i l) put;
     }
-
-pub parts_more_linked : {k : Counts} {i j : ℕ} {s t u : List ℕ} → Linking parts_by_name k k.parts k.names i s t → Linking parts_by_name k k.parts k.names j t u
-    → Linking parts_by_name k k.parts k.names j s u
-parts_more_linked a b = record { same = b.same ∙ a.same; only = only_then a.only b.only; linked = b.linked }
-
--- ---- requirements
-
-pub requirements_start : (k : Counts) (t : List ℕ) → Heading requirements_by_owner k k.requirements (k.parts + 1) 0 t t
-requirements_start k t = heading_none requirements_by_owner k k.requirements (k.parts + 1) t
-
-pub requirements_headed : {k : Counts} {x : ℕ} {t u v : List ℕ} → Laid k (length t) → length u ≡ length t → Heading requirements_by_owner k k.requirements (k.parts + 1) x t u → x < k.parts + 1
-    → words v ≡ set (words u) (5504 + 4 * x) k.requirements → Heading requirements_by_owner k k.requirements (k.parts + 1) (x + 1) t v
-requirements_headed {k} {x} {t} {u} {v} l z g h e =
-    let m : Laid k (length u) = rw z l in
-    heading_more (places.requirements_apart k u m) g h e (places.requirements_head_free k u m x k.requirements (words u) h)
-
-pub requirements_all_headed : {k : Counts} {x : ℕ} {t u : List ℕ} → Heading requirements_by_owner k k.requirements (k.parts + 1) x t u → k.parts + 1 ≤ x → Heading requirements_by_owner k k.requirements (k.parts + 1) (k.parts + 1) t u
-requirements_all_headed g h = record { same = g.same; only = g.only; set = λ y l. g.set y (omega arith) }
-
-pub requirements_none_linked : {k : Counts} {t u : List ℕ} → Heading requirements_by_owner k k.requirements (k.parts + 1) (k.parts + 1) t u → Linking requirements_by_owner k k.requirements (k.parts + 1) k.requirements u u
-requirements_none_linked {k} {t} {u} g = record { same = refl; only = only_none requirements_by_owner k.requirements (k.parts + 1) (words u); linked = linked_none g.set }
-
-pub requirements_one_linked : (k : Counts) (i x : ℕ) (t u : List ℕ) → Laid k (length t) → Keyed requirements_by_owner k.requirements (k.parts + 1) (words t)
-    → Linked requirements_by_owner k.requirements (k.parts + 1) (i + 1) (words t) → i < k.requirements → Key requirements_by_owner (k.parts + 1) (words t) i x
-    → words u ≡ set (set (words t) (13572 + 6 * i + 4) (get_or (words t) (5504 + 4 * x) 0)) (5504 + 4 * x) i
-    → Linking requirements_by_owner k k.requirements (k.parts + 1) i t u
-unfolding tables
-requirements_one_linked k i x t u l d g h q e =
-    let p = places.requirements_apart k t l in
-    let e' = rw q.is at e in
-    let m = d.low i h in
-    record {
-      same = rw e (places.requirements_head_free k t l x i _ q.low ∙ places.requirements_link_free k t l i _ (words t) h);
-      only = linked_only p g h m e';
-      linked = linked_more p g h m e';
-    }
-
-pub requirements_more_linked : {k : Counts} {i j : ℕ} {s t u : List ℕ} → Linking requirements_by_owner k k.requirements (k.parts + 1) i s t → Linking requirements_by_owner k k.requirements (k.parts + 1) j t u
-    → Linking requirements_by_owner k k.requirements (k.parts + 1) j s u
-requirements_more_linked a b = record { same = b.same ∙ a.same; only = only_then a.only b.only; linked = b.linked }
-
--- ---- constraints
-
-pub constraints_start : (k : Counts) (t : List ℕ) → Heading constraints_by_owner k k.constraints (k.parts + 1) 0 t t
-constraints_start k t = heading_none constraints_by_owner k k.constraints (k.parts + 1) t
-
-pub constraints_headed : {k : Counts} {x : ℕ} {t u v : List ℕ} → Laid k (length t) → length u ≡ length t → Heading constraints_by_owner k k.constraints (k.parts + 1) x t u → x < k.parts + 1
-    → words v ≡ set (words u) (5504 + 4 * x + 2) k.constraints → Heading constraints_by_owner k k.constraints (k.parts + 1) (x + 1) t v
-constraints_headed {k} {x} {t} {u} {v} l z g h e =
-    let m : Laid k (length u) = rw z l in
-    heading_more (places.constraints_apart k u m) g h e (places.constraints_head_free k u m x k.constraints (words u) h)
-
-pub constraints_all_headed : {k : Counts} {x : ℕ} {t u : List ℕ} → Heading constraints_by_owner k k.constraints (k.parts + 1) x t u → k.parts + 1 ≤ x → Heading constraints_by_owner k k.constraints (k.parts + 1) (k.parts + 1) t u
-constraints_all_headed g h = record { same = g.same; only = g.only; set = λ y l. g.set y (omega arith) }
-
-pub constraints_none_linked : {k : Counts} {t u : List ℕ} → Heading constraints_by_owner k k.constraints (k.parts + 1) (k.parts + 1) t u → Linking constraints_by_owner k k.constraints (k.parts + 1) k.constraints u u
-constraints_none_linked {k} {t} {u} g = record { same = refl; only = only_none constraints_by_owner k.constraints (k.parts + 1) (words u); linked = linked_none g.set }
-
-pub constraints_one_linked : (k : Counts) (i x : ℕ) (t u : List ℕ) → Laid k (length t) → Keyed constraints_by_owner k.constraints (k.parts + 1) (words t)
-    → Linked constraints_by_owner k.constraints (k.parts + 1) (i + 1) (words t) → i < k.constraints → Key constraints_by_owner (k.parts + 1) (words t) i x
-    → words u ≡ set (set (words t) (19716 + 3 * i + 2) (get_or (words t) (5504 + 4 * x + 2) 0)) (5504 + 4 * x + 2) i
-    → Linking constraints_by_owner k k.constraints (k.parts + 1) i t u
-unfolding tables
-constraints_one_linked k i x t u l d g h q e =
-    let p = places.constraints_apart k t l in
-    let e' = rw q.is at e in
-    let m = d.low i h in
-    record {
-      same = rw e (places.constraints_head_free k t l x i _ q.low ∙ places.constraints_link_free k t l i _ (words t) h);
-      only = linked_only p g h m e';
-      linked = linked_more p g h m e';
-    }
-
-pub constraints_more_linked : {k : Counts} {i j : ℕ} {s t u : List ℕ} → Linking constraints_by_owner k k.constraints (k.parts + 1) i s t → Linking constraints_by_owner k k.constraints (k.parts + 1) j t u
-    → Linking constraints_by_owner k k.constraints (k.parts + 1) j s u
-constraints_more_linked a b = record { same = b.same ∙ a.same; only = only_then a.only b.only; linked = b.linked }
 
 -- ---- all
 
@@ -218,98 +141,16 @@ constraints_keyed {k} {t} l d a b = keyed_beside (places.constraints_beside_requ
 
 -- ---- walking
 
-pub parts_key : (k : Counts) (t : List ℕ) (y i : ℕ) → Keyed parts_by_name k.parts k.names (words t) → i < k.parts → y ≡ get_or (words t) (384 + 5 * i) 0
+pub parts_key : (k : Counts) (t : List ℕ) {a y i : ℕ} → Keyed parts_by_name k.parts k.names (words t) → i < k.parts → a ≡ 384 + 5 * i → y ≡ get_or (words t) a 0
     → Key parts_by_name k.names (words t) i y
 unfolding key_of
-parts_key k t y i d h e = record { is = e; low = rw e (d.low i h) }
-
-pub parts_first : (k : Counts) (t : List ℕ) (x r : ℕ) → Linked parts_by_name k.parts k.names 0 (words t) → x < k.names → r ≡ get_or (words t) (6 * x + 3) 0
-    → First k.parts (key_of parts_by_name (words t)) x 0 r
-parts_first k t x r d h e = rw e (d.heads x h)
-
-pub parts_next : (k : Counts) (t : List ℕ) (x y i r : ℕ) → Linked parts_by_name k.parts k.names 0 (words t) → i < k.parts → y ≡ get_or (words t) (384 + 5 * i) 0 → y ≡ x → r ≡ get_or (words t) (384 + 5 * i + 4) 0
-    → First k.parts (key_of parts_by_name (words t)) x (i + 1) r
-parts_next k t x y i r d h e f g =
-    let q : key_of parts_by_name (words t) i ≡ x = unfold key_of in sym e ∙ f in
-    rw g (rw q at (d.links i (omega arith) h))
-
-pub requirements_key : (k : Counts) (t : List ℕ) (v y i : ℕ) → Keyed requirements_by_owner k.requirements (k.parts + 1) (words t) → i < k.requirements → v ≡ get_or (words t) (13572 + 6 * i) 0 → y ≡ owner_row v
-    → Key requirements_by_owner (k.parts + 1) (words t) i y
-unfolding key_of
-requirements_key k t v y i d h e f = let q : y ≡ owner_row (get_or (words t) (13572 + 6 * i) 0) = f ∙ ap owner_row e in record { is = q; low = rw q (d.low i h) }
-
-pub requirements_first : {k : Counts} {m t : List ℕ} (x r : ℕ) → Chains k m t → x < k.parts + 1 → r ≡ get_or (words t) (5504 + 4 * x) 0
-    → First k.requirements (key_of requirements_by_owner (words t)) x 0 r
-requirements_first x r d h e = rw e (d.requirements.heads x h)
-
-pub requirements_next : {k : Counts} {m t : List ℕ} (x y v i r : ℕ) → Chains k m t → i < k.requirements → v ≡ get_or (words t) (13572 + 6 * i) 0 → y ≡ owner_row v → y ≡ x → r ≡ get_or (words t) (13572 + 6 * i + 4) 0
-    → First k.requirements (key_of requirements_by_owner (words t)) x (i + 1) r
-requirements_next {k} {m} {t} x y v i r d h e f q g =
-    let p : key_of requirements_by_owner (words t) i ≡ x = unfold key_of in ap owner_row (sym e) ∙ (sym f ∙ q) in
-    rw g (rw p at (d.requirements.links i (omega arith) h))
-
-pub constraints_key : (k : Counts) (t : List ℕ) (v y i : ℕ) → Keyed constraints_by_owner k.constraints (k.parts + 1) (words t) → i < k.constraints → v ≡ get_or (words t) (19716 + 3 * i) 0 → y ≡ owner_row v
-    → Key constraints_by_owner (k.parts + 1) (words t) i y
-unfolding key_of
-constraints_key k t v y i d h e f = let q : y ≡ owner_row (get_or (words t) (19716 + 3 * i) 0) = f ∙ ap owner_row e in record { is = q; low = rw q (d.low i h) }
-
-pub constraints_first : {k : Counts} {m t : List ℕ} (x r : ℕ) → Chains k m t → x < k.parts + 1 → r ≡ get_or (words t) (5504 + 4 * x + 2) 0
-    → First k.constraints (key_of constraints_by_owner (words t)) x 0 r
-constraints_first x r d h e = rw e (d.constraints.heads x h)
-
-pub constraints_next : {k : Counts} {m t : List ℕ} (x y v i r : ℕ) → Chains k m t → i < k.constraints → v ≡ get_or (words t) (19716 + 3 * i) 0 → y ≡ owner_row v → y ≡ x → r ≡ get_or (words t) (19716 + 3 * i + 2) 0
-    → First k.constraints (key_of constraints_by_owner (words t)) x (i + 1) r
-constraints_next {k} {m} {t} x y v i r d h e f q g =
-    let p : key_of constraints_by_owner (words t) i ≡ x = unfold key_of in ap owner_row (sym e) ∙ (sym f ∙ q) in
-    rw g (rw p at (d.constraints.links i (omega arith) h))
-
-pub first_start : (n : ℕ) (key : ℕ → ℕ) (x : ℕ) → First n key x 0 0
-first_start n key x = record { onward = omega arith; inside = omega arith; none = λ i a b e. omega arith }
-
-pub first_behind : (n : ℕ) (key : ℕ → ℕ) (x i : ℕ) → i < n → First n key x (i + 1) (i + 1)
-first_behind n key x i h = record { onward = omega arith; inside = omega arith; none = λ j a b e. omega arith }
-
-pub parts_still_keyed : {k : Counts} {i : ℕ} {t u v : List ℕ} → Laid k (length t) → Keyed parts_by_name k.parts k.names (words t) → Heading parts_by_name k k.parts k.names k.names t u
-    → Linking parts_by_name k k.parts k.names i u v → Keyed parts_by_name k.parts k.names (words v)
-parts_still_keyed {k} {i} {t} l d g a = keyed_kept (places.parts_apart k t l) (only_then g.only a.only) d
-
-pub requirements_still_keyed : {k : Counts} {i : ℕ} {t u v : List ℕ} → Laid k (length t) → Keyed requirements_by_owner k.requirements (k.parts + 1) (words t) → Heading requirements_by_owner k k.requirements (k.parts + 1) (k.parts + 1) t u
-    → Linking requirements_by_owner k k.requirements (k.parts + 1) i u v → Keyed requirements_by_owner k.requirements (k.parts + 1) (words v)
-requirements_still_keyed {k} {i} {t} l d g a = keyed_kept (places.requirements_apart k t l) (only_then g.only a.only) d
-
-pub constraints_still_keyed : {k : Counts} {i : ℕ} {t u v : List ℕ} → Laid k (length t) → Keyed constraints_by_owner k.constraints (k.parts + 1) (words t) → Heading constraints_by_owner k k.constraints (k.parts + 1) (k.parts + 1) t u
-    → Linking constraints_by_owner k k.constraints (k.parts + 1) i u v → Keyed constraints_by_owner k.constraints (k.parts + 1) (words v)
-constraints_still_keyed {k} {i} {t} l d g a = keyed_kept (places.constraints_apart k t l) (only_then g.only a.only) d
-
-pub parts_ready : {k : Counts} {i : ℕ} {s t : List ℕ} → 0 < i → Linking parts_by_name k k.parts k.names i s t → Linked parts_by_name k.parts k.names (i - 1 + 1) (words t)
-parts_ready {i = i} h a = let e : i - 1 + 1 ≡ i = omega arith in rw e a.linked
-
-pub parts_all_linked : {k : Counts} {i : ℕ} {s t u : List ℕ} → Heading parts_by_name k k.parts k.names k.names s t → Linking parts_by_name k k.parts k.names i t u → i ≤ 0 → Linking parts_by_name k k.parts k.names 0 s u
-parts_all_linked {i = i} g a h =
-    let e : i ≡ 0 = omega arith in
-    record { same = a.same ∙ g.same; only = only_then g.only a.only; linked = rw e at a.linked }
-
-pub requirements_ready : {k : Counts} {i : ℕ} {s t : List ℕ} → 0 < i → Linking requirements_by_owner k k.requirements (k.parts + 1) i s t → Linked requirements_by_owner k.requirements (k.parts + 1) (i - 1 + 1) (words t)
-requirements_ready {i = i} h a = let e : i - 1 + 1 ≡ i = omega arith in rw e a.linked
-
-pub requirements_all_linked : {k : Counts} {i : ℕ} {s t u : List ℕ} → Heading requirements_by_owner k k.requirements (k.parts + 1) (k.parts + 1) s t → Linking requirements_by_owner k k.requirements (k.parts + 1) i t u → i ≤ 0 → Linking requirements_by_owner k k.requirements (k.parts + 1) 0 s u
-requirements_all_linked {i = i} g a h =
-    let e : i ≡ 0 = omega arith in
-    record { same = a.same ∙ g.same; only = only_then g.only a.only; linked = rw e at a.linked }
-
-pub constraints_ready : {k : Counts} {i : ℕ} {s t : List ℕ} → 0 < i → Linking constraints_by_owner k k.constraints (k.parts + 1) i s t → Linked constraints_by_owner k.constraints (k.parts + 1) (i - 1 + 1) (words t)
-constraints_ready {i = i} h a = let e : i - 1 + 1 ≡ i = omega arith in rw e a.linked
-
-pub constraints_all_linked : {k : Counts} {i : ℕ} {s t u : List ℕ} → Heading constraints_by_owner k k.constraints (k.parts + 1) (k.parts + 1) s t → Linking constraints_by_owner k k.constraints (k.parts + 1) i t u → i ≤ 0 → Linking constraints_by_owner k k.constraints (k.parts + 1) 0 s u
-constraints_all_linked {i = i} g a h =
-    let e : i ≡ 0 = omega arith in
-    record { same = a.same ∙ g.same; only = only_then g.only a.only; linked = rw e at a.linked }
+parts_key k t d h e f = let q = f ∙ ap (λ (x : ℕ). get_or (words t) x 0) e in record { is = q; low = rw q (d.low _ h) }
 
 -- ---- bounds of ranges
 
-pub bounds_stored : {k : Counts} {m : List ℕ} (t u v : List ℕ) (r first end : ℕ) → NextMember m r 0 k.parts first → EndOfMembers m r k.parts end
+pub bounds_stored : {k : Counts} {m m' m'' : List ℕ} (t u v : List ℕ) (r first end : ℕ) → m' ≡ m → NextMember m' r 0 k.parts first → m'' ≡ m → EndOfMembers m'' r k.parts end
     → words u ≡ set (words t) (9604 + 4 * r + 2) first → words v ≡ set (words u) (9604 + 4 * r + 3) end → BoundSet k m r (words t) (words v)
-bounds_stored t u v r first end a b e f = bound_set first end a b (f ∙ rw e)
+bounds_stored t u v r first end c a d b e f = bound_set first end (rw c at a) (rw d at b) (f ∙ rw e)
 
 pub bounds_start : (k : Counts) (m t : List ℕ) → Bounding k m 0 t t
 bounds_start k m t =
@@ -319,11 +160,10 @@ bounds_start k m t =
       bounded = record { firsts = λ r l. (let none : ⊥ = omega arith in absurd none); ends = λ r l. (let none : ⊥ = omega arith in absurd none) };
     }
 
-pub bounds_more : {k : Counts} {m t u v : List ℕ} {r : ℕ} → Laid k (length t) → length u ≡ length t → Bounding k m r t u → r < k.ranges
+pub bounds_more : {k : Counts} {m t u v : List ℕ} {r : ℕ} → Laid k (length u) → Bounding k m r t u → r < k.ranges
     → BoundSet k m r (words u) (words v) → Bounding k m (r + 1) t v
 unfolding tables
-bounds_more {k} {m} {t} {u} {v} {r} l z g h (bound_set first end a b e) =
-    let l' : Laid k (length u) = rw z l in
+bounds_more {k} {m} {t} {u} {v} {r} l' g h (bound_set first end a b e) =
     let p = places.ranges_apart k u l' in
     let o : Only range_bounds k.ranges k.ranges (words u) (words v) =
     rw e (only_then (only_head range_bounds k.ranges k.ranges r first (words u) h) (only_link range_bounds k.ranges k.ranges r end _ h)) in
@@ -365,20 +205,3 @@ bounds_more {k} {m} {t} {u} {v} {r} l z g h (bound_set first end a b e) =
 pub bounds_end : {k : Counts} {m t u : List ℕ} {r : ℕ} → Bounding k m r t u → k.ranges ≤ r → Bounding k m k.ranges t u
 bounds_end g h =
     record { same = g.same; only = g.only; bounded = record { firsts = λ i l. g.bounded.firsts i (omega arith); ends = λ i l. g.bounded.ends i (omega arith) } }
-
-pub member_first : {k : Counts} {m t : List ℕ} (r x : ℕ) → Chains k m t → r < k.ranges → x ≡ get_or (words t) (9604 + 4 * r + 2) 0 → NextMember m r 0 k.parts x
-member_first r x d h e = rw e (d.ranges.firsts r h)
-
-pub member_ended : {k : Counts} {m t : List ℕ} (r x : ℕ) → Chains k m t → r < k.ranges → x ≡ get_or (words t) (9604 + 4 * r + 3) 0 → EndOfMembers m r k.parts x
-member_ended r x d h e = rw e (d.ranges.ends r h)
-
-module _ {n : ℕ} {m : List ℕ} {r i end : ℕ} (ended : EndOfMembers m r n end) (l : i < n) where
-  pub past_end : end ≤ i + 1 → NextMember m r (i + 1) n n
-  past_end g = record { onward = omega arith; inside = omega arith; none = λ q a b. ended.none q (omega arith) b }
-
-  pub before_end : (x : ℕ) → NextMember m r (i + 1) end x → x < end → NextMember m r (i + 1) n x
-  before_end x f g = record { onward = f.onward; inside = let z = ended.inside in omega arith; none = f.none }
-
-  pub none_to_end : (x : ℕ) → NextMember m r (i + 1) end x → end ≤ x → NextMember m r (i + 1) n n
-  none_to_end x f g =
-      record { onward = omega arith; inside = omega arith; none = λ q a b. elim (dec_lt q end) [ yes y ↦ f.none q a (omega arith) | no y ↦ ended.none q (omega arith) b ] }

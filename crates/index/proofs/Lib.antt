@@ -10,3 +10,5 @@ pub mod Counting
 pub mod Times
 pub mod Members
 pub mod Unions
+pub mod Steps
+pub mod Given

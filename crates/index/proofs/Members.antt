@@ -1,6 +1,6 @@
 -- Chains of the members of unions: rows are linked last to first, then idle rows are passed over.
 use mathlib.Core.Path.{◌≡◌, refl, sym, ap, ◌∙◌}
-use mathlib.Core.Bool.{Bool, true, false, not, true≢false}
+use mathlib.Core.Bool.{Bool, true, false, not}
 use mathlib.Core.List.{List}
 use Prim.Native.Nat.{ℕ, ◌+◌, ◌*◌, ◌-◌, ◌<◌, ◌≤◌}
 use native.Mathlib.Nat.{le_refl}
@@ -19,7 +19,6 @@ use Rattle.unions.proofs.Laws.{length_rows, row_at_law, row_of_none, rows_linked
 use Rattle.kept.specs.Kept.{Given}
 use Rattle.index.specs.Chains.{Chains, Chained}
 use Rattle.index.specs.Members.{times, Idle, Passes, Links, Threaded, UnionOf, RangeOf, SameRow, Repeated, union_heads, HeadsOnly, Unlinked, Threading, Relinked, Seen, Shortened, Passed, Built}
-use Rattle.index.specs.Indexed.{Indexed}
 use Rattle.index.proofs.Chaining.{only_none, only_then, only_head, linked_beside}
 use Rattle.index.proofs.Places as places
 use Rattle.index.proofs.Favoured.{favoured_beside}
@@ -94,6 +93,16 @@ unfolding row_in
 same_words n u i j v w h l e d =
     record { same = λ q. rw (row_at_law n u i h, row_at_law n u j l, ← e, ← d, eqb-true v w q) }
 
+-- row i is like those before it, fewer than n
+pub record LikeBefore (rs : List Row) (i n : ℕ) : Type 0 where
+  pub like : (k : ℕ) → 0 < k → k < n → get_or rs i no_row ≡ get_or rs (i - k) no_row
+
+pub like_none : (rs : List Row) (i : ℕ) → LikeBefore rs i 1
+like_none rs i = record { like = λ k a b. (let none : ⊥ = omega arith in absurd none) }
+
+pub like_more : {rs : List Row} {i n : ℕ} {b : Bool} → LikeBefore rs i n → SameRow rs i (i - n) b → b ≡ true → LikeBefore rs i (n + 1)
+like_more {n = n} d s e = record { like = λ k a b. elim (ℕ_discrete k n) [ yes q ↦ rw q (s.same e) | no q ↦ d.like k a (omega arith) ] }
+
 module _ (rs : List Row) (i : ℕ) (h : i < length rs) where
   abbrev union : ℕ
   union = (get_or rs i no_row).union
@@ -107,27 +116,23 @@ module _ (rs : List Row) (i : ℕ) (h : i < length rs) where
       let same : (get_or rs j no_row).range ≡ range = ap (λ (r : Row). r.range) (sym e) in
       rw (before_here union j rs (omega arith) (ap (λ (r : Row). r.union) (sym e)), same) (times_snoc range (before union j rs))
 
-  pub four_like : {a b c d : Bool} → 4 ≤ i → SameRow rs i (i - 1) a → not a ≡ false → SameRow rs i (i - 2) b → not b ≡ false → SameRow rs i (i - 3) c → not c ≡ false → SameRow rs i (i - 4) d
-      → Repeated rs i d
-  four_like {d = d} l p p' q q' r r' s = record { idle = idle }
+  pub four_like : 4 ≤ i → LikeBefore rs i 5 → Repeated rs i true
+  four_like l d = record { idle = λ _. idle }
     where
-      idle : d ≡ true → Idle rs union i
-      idle s' =
+      idle : Idle rs union i
+      idle =
           let e1 : i - 4 + 1 ≡ i - 3 = omega arith in
           let e2 : i - 3 + 1 ≡ i - 2 = omega arith in
           let e3 : i - 2 + 1 ≡ i - 1 = omega arith in
           let e4 : i - 1 + 1 ≡ i = omega arith in
-          let n1 = rw e1 at (one_like (i - 4) (omega arith) (s.same s')) in
-          let n2 = rw e2 at (one_like (i - 3) (omega arith) (r.same (not-false _ r'))) in
-          let n3 = rw e3 at (one_like (i - 2) (omega arith) (q.same (not-false _ q'))) in
-          let n4 = rw e4 at (one_like (i - 1) (omega arith) (p.same (not-false _ p'))) in
+          let n1 = rw e1 at (one_like (i - 4) (omega arith) (d.like 4 (omega arith) (omega arith))) in
+          let n2 = rw e2 at (one_like (i - 3) (omega arith) (d.like 3 (omega arith) (omega arith))) in
+          let n3 = rw e3 at (one_like (i - 2) (omega arith) (d.like 2 (omega arith) (omega arith))) in
+          let n4 = rw e4 at (one_like (i - 1) (omega arith) (d.like 1 (omega arith) (omega arith))) in
           record { often = omega arith }
 
 pub inside_rows : (n : ℕ) (u : List ℕ) (i : ℕ) → i < n → i < length (rows n u)
 inside_rows n u i h = rw length_rows h
-
-pub not_repeated : {rs : List Row} {i : ℕ} → Repeated rs i false
-not_repeated = record { idle = λ e. absurd (true≢false (sym e)) }
 
 -- ---- heads
 
@@ -148,10 +153,9 @@ head_place k t x l h = words_in t (11652 + 3 * x) (let a = l.fits in let b = l.u
 pub unlinked_start : (k : Counts) (t : List ℕ) → Unlinked k 0 t t
 unlinked_start k t = record { heads = heads_none k t; set = λ u l. (let none : ⊥ = omega arith in absurd none) }
 
-pub unlinked_more : {k : Counts} {x : ℕ} {t u : List ℕ} (v : List ℕ) → Laid k (length t) → length u ≡ length t → Unlinked k x t u → x < k.unions
+pub unlinked_more : {k : Counts} {x : ℕ} {t u : List ℕ} (v : List ℕ) → Laid k (length u) → Unlinked k x t u → x < k.unions
     → words v ≡ set (words u) (11652 + 3 * x) k.members → Unlinked k (x + 1) t v
-unlinked_more {k} {x} {t} {u} v l z g h e =
-    let l' : Laid k (length u) = rw z l in
+unlinked_more {k} {x} {t} {u} v l' g h e =
     record { heads = heads_then g.heads (head_set k x k.members u v l' h e); set = λ y q. rw e (there l' y q) }
   where
     there : Laid k (length u) → (y : ℕ) → y < x + 1 → get_or (set (words u) (11652 + 3 * x) k.members) (11652 + 3 * y) 0 ≡ k.members
@@ -387,35 +391,21 @@ module _ {k : Counts} {u seen : List ℕ} {last i r : ℕ} (d : Shortened k u la
 
 -- ---- all chains
 
-chains_still : {k : Counts} {m t s u u' t' : List ℕ} → Laid k (length t) → length s ≡ length t → Chained k m t s → Threading k 0 u s u' t' → Chains k m t'
-chains_still l z a b = chains_beside (rw z l) b.heads a.chains
-
-pub linked_now : {k : Counts} {s u u' t' : List ℕ} → Threading k 0 u s u' t' → Links k (rows k.members u') 0 (words u')
-linked_now d = rw d.kept d.threaded.links
-
-pub all_linked : {k : Counts} {m t s u u' t' u'' : List ℕ} → Laid k (length t) → length s ≡ length t → Chained k m t s → Threading k 0 u s u' t' → Relinked k u' u''
-    → Built k m u t u'' t'
-all_linked l z a b c =
+pub all_linked : {k : Counts} {m t s u u' t' u'' : List ℕ} → Laid k (length s) → Chained k m t s → Threading k 0 u s u' t' → Relinked k u' u'' → Built k m u t u'' t'
+all_linked l a b c =
     record {
       same = b.heads.same ∙ a.same;
       kept = c.kept ∙ b.kept;
-      chains = chains_still l z a b;
+      chains = chains_beside l b.heads a.chains;
       members = record { heads = b.threaded.heads; links = rw b.kept at c.links };
     }
 
 -- ---- walking
 
-pub first_row : {k : Counts} {m us t : List ℕ} (u r : ℕ) → Indexed k m us t → u < k.unions → r ≡ get_or (words t) (11652 + 3 * u) 0 → Passes k (rows k.members us) u 0 r
-first_row u r d h e = rw e (d.members.heads u h)
-
-pub no_row_law : {k : Counts} {m us t : List ℕ} (u : ℕ) → Indexed k m us t → k.unions ≤ u → Passes k (rows k.members us) u 0 k.members
-no_row_law {k} {m} {us} u d h =
+pub no_row_law : {k : Counts} (us : List ℕ) (u : ℕ) → Given k.unions (rows k.members us) → k.unions ≤ u → Passes k (rows k.members us) u 0 k.members
+no_row_law {k} us u d h =
     record {
       onward = omega arith;
       at = record { most = le_refl _; here = λ l. (let none : ⊥ = omega arith in absurd none) };
-      idle = λ i a b e. absurd (row_of_none i (rows k.members us) (rw length_rows b) (rw e (d.given.none_yet u h)));
+      idle = λ i a b e. absurd (row_of_none i (rows k.members us) (rw length_rows b) (rw e (d.none_yet u h)));
     }
-
-pub next_row : {k : Counts} {m us t : List ℕ} (i r : ℕ) → Indexed k m us t → i < k.members → r ≡ get_or (words us) (2 * i + 1) 0
-    → Passes k (rows k.members us) (get_or (rows k.members us) i no_row).union (i + 1) r
-next_row i r d h e = rw e (d.members.links.next i (omega arith) h)

@@ -14,7 +14,7 @@ use Rattle.marks.specs.Marks.{is_marked}
 use Rattle.tables.specs.declared.Counts.{Counts}
 use Rattle.tables.specs.Tables.{Tables, tables, Laid}
 use Rattle.tables.proofs.Laws.{part_in}
-use Rattle.index.specs.Chains.{First, Skips, Chain, parts_by_name, key_of, Linked, Only, is_non_matching, FirstNonMatching, non_matching_heads, Noted, NonMatchingNoted, Noting, Chains}
+use Rattle.index.specs.Chains.{First, Skips, Chain, parts_by_name, key_of, Linked, Only, is_non_matching, FirstNonMatching, non_matching_heads, Noted, NonMatchingNoted, Noting}
 use Rattle.index.proofs.Chaining.{Beside, only_none, only_then, only_head, linked_beside}
 use Rattle.index.proofs.Places as places
 
@@ -75,18 +75,15 @@ pub still_linked : {k : Counts} {m t u : List ℕ} {r : ℕ} → Laid k (length 
     → Linked parts_by_name k.parts k.names 0 (words u)
 still_linked {k} {m} {t} l d g = linked_beside (places.parts_beside_non_matching k t l) g.only d
 
-pub noted_more : {k : Counts} {m t u v : List ℕ} {r x : ℕ} → Laid k (length t) → length u ≡ length t → Noting k m r t u → r < k.ranges → FirstNonMatching k.parts (tables k u) m r x
+pub noted_more : {k : Counts} {m t u v : List ℕ} {r x : ℕ} → Laid k (length u) → Noting k m r t u → r < k.ranges → FirstNonMatching k.parts (tables k u) m r x
     → words v ≡ set (words u) (9604 + 4 * r + 1) x → Noting k m (r + 1) t v
-noted_more {k} {m} {t} {u} {v} {r} {x} l z g h f e =
+noted_more {k} {m} {t} {u} {v} {r} {x} l' g h f e =
     record {
       same = same ∙ g.same;
       only = only_then g.only (rw e (only_head non_matching_heads 0 k.ranges r x (words u) h));
       noted = record { firsts = λ i q. rw same (there i q) };
     }
   where
-    l' : Laid k (length u)
-    l' = rw z l
-
     same : tables k v ≡ tables k u
     same = unfold tables in rw e (places.non_matching_free k u l' r x (words u) h)
 
@@ -112,7 +109,3 @@ noted_beside b same o (NonMatchingNoted.noted f) =
 
 opened : {k : Counts} {m t : List ℕ} → NonMatchingNoted k m t → Noted k m k.ranges t
 opened (NonMatchingNoted.noted f) = f
-
-pub non_matching_first : {k : Counts} {m t : List ℕ} (r x : ℕ) → Chains k m t → r < k.ranges → x ≡ get_or (words t) (9604 + 4 * r + 1) 0
-    → FirstNonMatching k.parts (tables k t) m r x
-non_matching_first r x d h e = rw e ((opened d.non_matching_law).firsts r h)

@@ -12,6 +12,9 @@ use Rattle.rules.specs.Catalogue.{Owner, root, part, Requirement, Constraint, Ca
 use Rattle.rules.specs.Items.{owner_of}
 use Rattle.rules.proofs.WellFormed.{OwnerGiven, WellFormed}
 use Rattle.words.specs.Words.{words}
+use Rattle.requirement.specs.declared.Owner as code
+use Rattle.requirement.specs.declared.Owner.TheVariants.{Root, Part}
+use Rattle.requirement.specs.Requirements.{OwnerOf}
 use Rattle.tables.specs.declared.Counts.{Counts}
 use Rattle.tables.specs.Tables.{tables_in, tables, field, requirement_row, requirement_from, constraint_row, constraint_from}
 use Rattle.tables.proofs.Listed.{listed_at}
@@ -29,6 +32,14 @@ row_is o = go (eqb o 65535)
     go : (b : Bool) → cond b 0 (o + 1) ≡ row_of (cond b root (part o))
     go true = refl
     go false = refl
+
+pub root_row_law : {n : ℕ} {o : code.Owner} → OwnerOf n o → o ≡ Root → 0 ≡ owner_row n
+unfolding row_of
+root_row_law {n} p e = sym (row_is n ∙ rw (← p.is, e))
+
+pub part_row_law : {n x : ℕ} {o : code.Owner} → OwnerOf n o → o ≡ Part x → x + 1 ≡ owner_row n
+unfolding row_of
+part_row_law {n} p e = sym (row_is n ∙ rw (← p.is, e))
 
 row_low : (c : Catalogue) (o : Owner) → OwnerGiven c o → row_of o < length c.parts + 1
 unfolding row_of

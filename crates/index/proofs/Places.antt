@@ -12,56 +12,13 @@ use Rattle.tables.proofs.Stores.{first}
 use Rattle.tables.proofs.Rows.{free_kept}
 use Rattle.index.specs.Chains.{parts_by_name, requirements_by_owner, constraints_by_owner, key_of, Only, range_bounds, favoured_bounds, non_matching_heads}
 use Rattle.index.specs.Members.{union_heads}
-use Rattle.index.proofs.Chaining.{Apart, Beside, key_beside}
+use Rattle.index.specs.Placed.{Apart}
+pub use Rattle.index.specs.Places.{parts_apart, requirements_apart, constraints_apart, parts_head_free, parts_link_free, requirements_head_free, requirements_link_free, constraints_head_free, constraints_link_free}
+use Rattle.index.proofs.Chaining.{Beside, key_beside}
 
 module _ (k : Counts) (t : List ℕ) (l : Laid k (length t)) where
   abbrev room : 25348 ≤ length (words t)
   room = let f = l.fits in omega (arith, length_words t)
-
-  pub parts_apart : Apart parts_by_name k.parts k.names (length (words t))
-  parts_apart =
-      let r = room in
-      let a = l.parts in
-      let b = l.names in
-      record {
-        heads_in = λ x h. omega arith;
-        links_in = λ i h. omega arith;
-        heads = λ x y h g e. omega arith;
-        links = λ i j h g e. omega arith;
-        head_link = λ x i h g e. omega arith;
-        key_head = λ i x h g e. omega arith;
-        key_link = λ i j h g e. omega arith;
-      }
-
-  pub requirements_apart : Apart requirements_by_owner k.requirements (k.parts + 1) (length (words t))
-  requirements_apart =
-      let r = room in
-      let a = l.requirements in
-      let b = l.parts in
-      record {
-        heads_in = λ x h. omega arith;
-        links_in = λ i h. omega arith;
-        heads = λ x y h g e. omega arith;
-        links = λ i j h g e. omega arith;
-        head_link = λ x i h g e. omega arith;
-        key_head = λ i x h g e. omega arith;
-        key_link = λ i j h g e. omega arith;
-      }
-
-  pub constraints_apart : Apart constraints_by_owner k.constraints (k.parts + 1) (length (words t))
-  constraints_apart =
-      let r = room in
-      let a = l.constraints in
-      let b = l.parts in
-      record {
-        heads_in = λ x h. omega arith;
-        links_in = λ i h. omega arith;
-        heads = λ x y h g e. omega arith;
-        links = λ i j h g e. omega arith;
-        head_link = λ x i h g e. omega arith;
-        key_head = λ i x h g e. omega arith;
-        key_link = λ i j h g e. omega arith;
-      }
 
   pub ranges_apart : Apart range_bounds k.ranges k.ranges (length (words t))
   ranges_apart =
@@ -95,45 +52,6 @@ module _ (k : Counts) (t : List ℕ) (l : Laid k (length t)) where
 
   free : (at : ℕ) → Free k at (at + 1) → (w : List ℕ) (v : ℕ) → tables_in k (set w at v) ≡ tables_in k w
   free at f w v = free_kept k (first v refl) f
-
-  pub parts_head_free : (x v : ℕ) (w : List ℕ) → x < k.names → tables_in k (set w (6 * x + 3) v) ≡ tables_in k w
-  parts_head_free x v w h =
-      let p = l.parts in
-      let n = l.names in
-      free (6 * x + 3) (record { names = λ a b c d e g. omega arith; parts = λ a b c d e g. omega arith; ranges = λ a b c d e g. omega arith; conditions = λ a b c d e g. omega arith; requirements = λ a b c d e g. omega arith; constraints = λ a b c d e g. omega arith }) w v
-
-  pub parts_link_free : (i v : ℕ) (w : List ℕ) → i < k.parts → tables_in k (set w (384 + 5 * i + 4) v) ≡ tables_in k w
-  parts_link_free i v w h =
-      let p = l.parts in
-      let q = l.requirements in
-      let c = l.constraints in
-      free (384 + 5 * i + 4) (record { names = λ a b c d e g. omega arith; parts = λ a b c d e g. omega arith; ranges = λ a b c d e g. omega arith; conditions = λ a b c d e g. omega arith; requirements = λ a b c d e g. omega arith; constraints = λ a b c d e g. omega arith }) w v
-
-  pub requirements_head_free : (x v : ℕ) (w : List ℕ) → x < k.parts + 1 → tables_in k (set w (5504 + 4 * x) v) ≡ tables_in k w
-  requirements_head_free x v w h =
-      let p = l.parts in
-      let n = l.names in
-      free (5504 + 4 * x) (record { names = λ a b c d e g. omega arith; parts = λ a b c d e g. omega arith; ranges = λ a b c d e g. omega arith; conditions = λ a b c d e g. omega arith; requirements = λ a b c d e g. omega arith; constraints = λ a b c d e g. omega arith }) w v
-
-  pub requirements_link_free : (i v : ℕ) (w : List ℕ) → i < k.requirements → tables_in k (set w (13572 + 6 * i + 4) v) ≡ tables_in k w
-  requirements_link_free i v w h =
-      let p = l.parts in
-      let q = l.requirements in
-      let c = l.constraints in
-      free (13572 + 6 * i + 4) (record { names = λ a b c d e g. omega arith; parts = λ a b c d e g. omega arith; ranges = λ a b c d e g. omega arith; conditions = λ a b c d e g. omega arith; requirements = λ a b c d e g. omega arith; constraints = λ a b c d e g. omega arith }) w v
-
-  pub constraints_head_free : (x v : ℕ) (w : List ℕ) → x < k.parts + 1 → tables_in k (set w (5504 + 4 * x + 2) v) ≡ tables_in k w
-  constraints_head_free x v w h =
-      let p = l.parts in
-      let n = l.names in
-      free (5504 + 4 * x + 2) (record { names = λ a b c d e g. omega arith; parts = λ a b c d e g. omega arith; ranges = λ a b c d e g. omega arith; conditions = λ a b c d e g. omega arith; requirements = λ a b c d e g. omega arith; constraints = λ a b c d e g. omega arith }) w v
-
-  pub constraints_link_free : (i v : ℕ) (w : List ℕ) → i < k.constraints → tables_in k (set w (19716 + 3 * i + 2) v) ≡ tables_in k w
-  constraints_link_free i v w h =
-      let p = l.parts in
-      let q = l.requirements in
-      let c = l.constraints in
-      free (19716 + 3 * i + 2) (record { names = λ a b c d e g. omega arith; parts = λ a b c d e g. omega arith; ranges = λ a b c d e g. omega arith; conditions = λ a b c d e g. omega arith; requirements = λ a b c d e g. omega arith; constraints = λ a b c d e g. omega arith }) w v
 
   pub ranges_head_free : (x v : ℕ) (w : List ℕ) → x < k.ranges → tables_in k (set w (9604 + 4 * x + 2) v) ≡ tables_in k w
   ranges_head_free x v w h =

@@ -4,7 +4,7 @@ use mathlib.Core.Bool.{Bool, true, false, ◌&&◌, false≢true}
 use mathlib.Core.List.{List}
 use Prim.Native.Nat.{ℕ, ◌+◌, ◌<◌, ◌≤◌}
 use native.Mathlib.Omega.{arith}
-use native.Mathlib.Decide.{dec_lt, ℕ_discrete}
+use native.Mathlib.Decide.{dec_lt}
 use lib.Dec.{eqb}
 use lib.ListN.{get_or}
 use borrow.Author.Tests.{ne_eqb}
@@ -25,12 +25,6 @@ use Rattle.index.specs.Chains.{First, parts_by_name, key_of, is_favoured, favour
 -- nothing lies between
 pub skips_none : (n : ℕ) (selected : ℕ → Bool) (from : ℕ) → from ≤ n → Skips n selected from from
 skips_none n selected from h = record { onward = omega arith; inside = h; none = λ i a b. (let none : ⊥ = omega arith in absurd none) }
-
-pub skips_start : (n : ℕ) (selected : ℕ → Bool) → Skips n selected 0 0
-skips_start n selected = skips_none n selected 0 (omega arith)
-
-pub skips_behind : (n : ℕ) (selected : ℕ → Bool) (i : ℕ) → i < n → Skips n selected (i + 1) (i + 1)
-skips_behind n selected i h = skips_none n selected (i + 1) (omega arith)
 
 skips_both : {n : ℕ} {selected : ℕ → Bool} {from r x : ℕ} → Skips n selected from r → Skips n selected r x → Skips n selected from x
 skips_both {n} {selected} {from} {r} {x} a b =
@@ -98,9 +92,6 @@ module _ (k : Counts) (m u t : List ℕ) where
         fewer true false c f = refl
         fewer false b c f = refl
 
-    pub skips_as : {from x : ℕ} {v : Choice} (w : Choice) → w ≡ v → Skips k.parts (chosen (catalogue k m u t) r v) from x → Skips k.parts (chosen (catalogue k m u t) r w) from x
-    skips_as w e f = rw e f
-
     pub skips_of_others : {from x : ℕ} (w : Choice) → w ≡ Others → Skips k.parts (chosen (catalogue k m u t) r Matching) from x → Skips k.parts (chosen (catalogue k m u t) r w) from x
     skips_of_others w e f = rw e (record { onward = f.onward; inside = f.inside; none = λ i a b. less i (f.none i a b) })
 
@@ -149,14 +140,3 @@ module _ (k : Counts) (m u t : List ℕ) where
 module _ (k : Counts) {m : List ℕ} {r : ℕ} (i : ℕ) where
   pub member_past : k.parts ≤ i → i ≤ k.parts → NextMember m r i k.parts i
   member_past h g = record { onward = omega arith; inside = g; none = λ j a b. (let none : ⊥ = omega arith in absurd none) }
-
-  pub member_here : i < k.parts → NextMember m r i k.parts i
-  member_here h = record { onward = omega arith; inside = omega arith; none = λ j a b. (let none : ⊥ = omega arith in absurd none) }
-
-  pub member_behind : {x : ℕ} (b : Bool) → b ≡ is_marked m r i → b ≡ false → NextMember m r (i + 1) k.parts x → NextMember m r i k.parts x
-  member_behind b e f n =
-      record {
-        onward = (let o = n.onward in omega arith);
-        inside = n.inside;
-        none = λ j c d. elim (ℕ_discrete j i) [ yes q ↦ rw q (sym e ∙ f) | no q ↦ n.none j (omega arith) d ];
-      }

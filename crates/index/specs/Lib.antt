@@ -1,3 +1,9 @@
 pub mod Chains
 pub mod Members
 pub mod Indexed
+pub mod Placed
+pub mod Places
+pub mod Catalogued
+pub mod Props
+pub mod Views
+pub mod Building

@@ -15,16 +15,13 @@ use Rattle.rules.specs.Catalogue.{Catalogue, Operator, and, or, joined, no_condi
 use Rattle.rules.specs.Catalogue as rules
 use Rattle.rules.specs.Candidates.{matching}
 use Rattle.rules.specs.Conditions.{Disjunct, combined, disjuncts}
-use Rattle.rules.specs.Items.{operator_of}
 use Rattle.rules.specs.Opening.{holds_now}
 use Rattle.rules.proofs.Bools.{by_cases}
 use Rattle.rules.proofs.DisjunctLaws.{disjuncts_leaf, disjuncts_joined, length_or, length_and, or_left, or_right, and_at}
 use Rattle.tables.specs.declared.Counts.{Counts}
-use Rattle.tables.specs.declared.Condition as table
-use Rattle.tables.specs.Tables.{tables, condition_is}
+use Rattle.tables.specs.Tables.{tables}
 use Rattle.tables.proofs.Laws.{conditions_counted}
-use Rattle.conditions.specs.Sizes.{Allowed, Earlier, Counted}
-use Rattle.conditions.proofs.Sizing.{row_leaf, row_joined, and_when, or_when}
+use Rattle.conditions.specs.Sizes.{Allowed, Earlier}
 use Rattle.cache.specs.Areas.{catalogue}
 use Rattle.cache.proofs.Laws.{ranges_held, conditions_held, conditions_same}
 use Rattle.state.specs.declared.Limits.{Limits}
@@ -131,151 +128,140 @@ module _ (k : Counts) (m u t : List ℕ) (l : Limits) (n : Counters) (s : List �
     pub place_there : x < 256
     place_there = omega (arith, q.given, q.catalogued.kept.held.laid.conditions)
 
-    module _ (it : table.Condition) (e : condition_is it ≡ get_or cs x no_condition) where
-      -- a leaf
-      module _ (z : it.operator ≡ 2) where
-        leaf_row : get_or cs x no_condition ≡ rules.leaf it.left
-        leaf_row = sym e ∙ row_leaf it z
+    -- a leaf
+    module _ {r : ℕ} (e : rules.leaf r ≡ get_or cs x no_condition) where
+      pub range_asked : AsksRange k m u t l n s known r
+      range_asked =
+          let p = q.catalogued.formed.conditions x (rw (conditions_held k m u t) q.given) in
+          let g : r < length C.ranges = rw (conditions_same k m u t, sym e) at p in
+          record {
+            catalogued = q.catalogued;
+            fits = q.fits;
+            mapped = q.mapped;
+            kept = q.kept;
+            right = q.right;
+            given = omega (arith, g, ranges_held k m u t, q.catalogued.kept.held.laid.ranges);
+          }
 
-        pub range_asked : AsksRange k m u t l n s known it.left
-        range_asked =
-            let p = q.catalogued.formed.conditions x (rw (conditions_held k m u t) q.given) in
-            let g : it.left < length C.ranges = rw (conditions_same k m u t, leaf_row) at p in
-            record {
-              catalogued = q.catalogued;
-              fits = q.fits;
-              mapped = q.mapped;
-              kept = q.kept;
-              right = q.right;
-              given = omega (arith, g, ranges_held k m u t, q.catalogued.kept.held.laid.ranges);
-            }
+      pub leaf_works : {v : Verdict} {known₁ : Known} (row : List Verdict) → RangeAsked C cs f r v known known₁ → length known₁.disjuncts ≡ 256
+          → get_or row 0 Unknown ≡ v → WorkedOut C cs f x known (record known₁ { disjuncts = set known₁.disjuncts x row })
+      unfolding holds_now all
+      leaf_works row d y g =
+          let w = filled_works row (omega (arith, place_there)) x_allowed d.right here in
+          record { right = w.right; known = w.known; still = λ j h. w.still j (d.still j h) }
+        where
+          one : disjuncts cs x ≡ (r ∷ []) ∷ []
+          one = disjuncts_leaf cs x r (sym e)
 
-        pub leaf_works : {v : Verdict} {known₁ : Known} (row : List Verdict) → RangeAsked C cs f it.left v known known₁ → length known₁.disjuncts ≡ 256
-            → get_or row 0 Unknown ≡ v → WorkedOut C cs f x known (record known₁ { disjuncts = set known₁.disjuncts x row })
-        unfolding holds_now all
-        leaf_works row d y g =
-            let w = filled_works row (omega (arith, place_there)) x_allowed d.right here in
-            record { right = w.right; known = w.known; still = λ j h. w.still j (d.still j h) }
-          where
-            one : disjuncts cs x ≡ (it.left ∷ []) ∷ []
-            one = disjuncts_leaf cs x it.left leaf_row
+          here : (i : ℕ) → i < length (disjuncts cs x) → get_or row i Unknown ≡ verdict_of (holds_now C f (get_or (disjuncts cs x) i []))
+          here i h =
+              let p : i < 1 = rw one at h in
+              let i0 : i ≡ 0 = omega arith in
+              rw (i0, one) (g ∙ (d.is ∙ ap verdict_of (alone (any f (matching C r)))))
 
-            here : (i : ℕ) → i < length (disjuncts cs x) → get_or row i Unknown ≡ verdict_of (holds_now C f (get_or (disjuncts cs x) i []))
-            here i h =
-                let p : i < 1 = rw one at h in
-                let i0 : i ≡ 0 = omega arith in
-                rw (i0, one) (g ∙ (d.is ∙ ap verdict_of (alone (any f (matching C it.left)))))
+    -- a joined condition
+    module _ {o : Operator} {left right : ℕ} (e : joined o left right ≡ get_or cs x no_condition) where
+      halves : Earlier x (joined o left right)
+      halves =
+          let p = q.catalogued.kept.sized.earlier x (rw (conditions_counted k t) q.given) in
+          rw (sym e) at p
 
-      -- a joined condition
-      module _ (z : it.operator ≡ 2 → ⊥) where
-        halves : Earlier x (joined (operator_of it.operator) it.left it.right)
-        halves =
-            let p = q.catalogued.kept.sized.earlier x (rw (conditions_counted k t) q.given) in
-            rw (sym e ∙ row_joined it z) at p
+      pub left_falls : (y : ℕ) → x ≡ y → left < y
+      left_falls y p = omega (arith, halves.0)
 
-        pub left_falls : (y : ℕ) → x ≡ y → it.left < y
-        left_falls y p = omega (arith, halves.0)
+      pub right_falls : (y : ℕ) → x ≡ y → right < y
+      right_falls y p = omega (arith, halves.1)
 
-        pub right_falls : (y : ℕ) → x ≡ y → it.right < y
-        right_falls y p = omega (arith, halves.1)
+      pub left_given : left < k.conditions
+      left_given = omega (arith, halves.0, q.given)
 
-        pub left_given : it.left < k.conditions
-        left_given = omega (arith, halves.0, q.given)
+      pub right_given : right < k.conditions
+      right_given = omega (arith, halves.1, q.given)
 
-        pub right_given : it.right < k.conditions
-        right_given = omega (arith, halves.1, q.given)
+      pub left_asked : Asks k m u t l n s known left
+      left_asked = record { catalogued = q.catalogued; fits = q.fits; mapped = q.mapped; kept = q.kept; right = q.right; given = left_given }
 
-        -- they have places
-        pub left_low : it.left < 256
-        left_low = omega (arith, halves.0, place_there)
+      abbrev ls : List Disjunct
+      ls = disjuncts cs left
 
-        pub right_low : it.right < 256
-        right_low = omega (arith, halves.1, place_there)
+      abbrev rs : List Disjunct
+      rs = disjuncts cs right
 
-        pub left_asked : Asks k m u t l n s known it.left
-        left_asked = record { catalogued = q.catalogued; fits = q.fits; mapped = q.mapped; kept = q.kept; right = q.right; given = left_given }
+      all_of : disjuncts cs x ≡ combined o ls rs
+      all_of = disjuncts_joined cs x o left right (sym e) halves.0 halves.1
 
-        all_of : (o : Operator) → operator_of it.operator ≡ o → disjuncts cs x ≡ combined o (disjuncts cs it.left) (disjuncts cs it.right)
-        all_of o p = disjuncts_joined cs x o it.left it.right (sym e ∙ row_joined it z ∙ rw p) halves.0 halves.1
+      some_right : 0 < length rs
+      some_right = omega (arith, (q.catalogued.kept.sized.allowed right (rw (conditions_counted k t) right_given)).some)
 
-        module _ {known₁ : Known} (a : WorkedOut C cs f it.left known known₁) where
-          pub right_asked : Asks k m u t l n s known₁ it.right
-          right_asked = record { catalogued = q.catalogued; fits = q.fits; mapped = q.mapped; kept = q.kept; right = a.right; given = right_given }
+      module _ {known₁ : Known} (a : WorkedOut C cs f left known known₁) where
+        pub right_asked : Asks k m u t l n s known₁ right
+        right_asked = record { catalogued = q.catalogued; fits = q.fits; mapped = q.mapped; kept = q.kept; right = a.right; given = right_given }
 
-          module _ {known₂ : Known} (b : WorkedOut C cs f it.right known₁ known₂) {first second : ℕ} (p : Counted cs it.left first) (r : Counted cs it.right second) where
-            abbrev ls : List Disjunct
-            ls = disjuncts cs it.left
+        -- the verdicts of the halves
+        module _ {known₂ : Known} (b : WorkedOut C cs f right known₁ known₂) {vs ws : List Verdict} (vn : length vs ≡ length ls) (wn : length ws ≡ length rs)
+            (vi : vs ≡ take (length ls) (row_of known₂ left)) (wi : ws ≡ take (length rs) (row_of known₂ right)) where
+          left_is : (i : ℕ) → i < length ls → get_or vs i Unknown ≡ verdict_of (holds_now C f (get_or ls i []))
+          left_is i h = rw vi (get_or-take (length ls) (row_of known₂ left) i Unknown h ∙ b.right.is left i (b.still left a.known) h)
 
-            abbrev rs : List Disjunct
-            rs = disjuncts cs it.right
+          right_is : (i : ℕ) → i < length rs → get_or ws i Unknown ≡ verdict_of (holds_now C f (get_or rs i []))
+          right_is i h = rw wi (get_or-take (length rs) (row_of known₂ right) i Unknown h ∙ b.right.is right i b.known h)
 
-            and_count : it.operator ≡ 0 → length (disjuncts cs x) ≡ first * second
-            and_count o = rw (all_of and (and_when it.operator o), p.is, r.is) (length_and ls rs)
+          joined_works : length known₂.disjuncts ≡ 256 → (row : List Verdict) → ((i : ℕ) → i < length (disjuncts cs x) → get_or row i Unknown ≡ verdict_of (holds_now C f (get_or (disjuncts cs x) i [])))
+              → WorkedOut C cs f x known (record known₂ { disjuncts = set known₂.disjuncts x row })
+          joined_works low row g = works_then a (works_then b (filled_works row (omega (arith, place_there)) x_allowed b.right g))
 
-            or_count : (it.operator ≡ 0 → ⊥) → length (disjuncts cs x) ≡ first + second
-            or_count o = rw (all_of or (or_when it.operator o), p.is, r.is) (length_or ls rs)
+          module _ (z : o ≡ and) where
+            and_all : disjuncts cs x ≡ combined and ls rs
+            and_all = rw z at all_of
 
-            -- the verdicts of the halves
-            abbrev vs : List Verdict
-            vs = take first (row_of known₂ it.left)
+            and_count : length (disjuncts cs x) ≡ length ls * length rs
+            and_count = rw and_all (length_and ls rs)
 
-            abbrev ws : List Verdict
-            ws = take second (row_of known₂ it.right)
+            -- there is room in a row
+            pub and_room : length vs * length ws ≤ 64
+            and_room = rw (vn, wn) (omega (arith, and_count, x_allowed.most))
 
-            module _ (vn : length vs ≡ first) (wn : length ws ≡ second) where
-              -- there is room in a row
-              pub and_room : it.operator ≡ 0 → length vs * length ws ≤ 64
-              and_room o = rw (vn, wn) (omega (arith, and_count o, x_allowed.most))
+            pair_works : {row : List Verdict} → Pairs vs ws row → (i j : ℕ) → i < length ls → j < length rs
+                → get_or row (i * length rs + j) Unknown ≡ verdict_of (holds_now C f (get_or ls i [] ++ get_or rs j []))
+            unfolding holds_now
+            pair_works g i j h y =
+                rw wn at (g.here i j (rw vn h) (rw wn y)) ∙ rw (left_is i h, right_is j y)
+                (verdict_both (holds_now C f (get_or ls i [])) (holds_now C f (get_or rs j [])) ∙ ap verdict_of (sym (all_both (λ d. any f (matching C d)) (get_or ls i []) (get_or rs j []))))
 
-              pub or_room : (it.operator ≡ 0 → ⊥) → length vs + length ws ≤ 64
-              or_room o = omega (arith, or_count o, x_allowed.most)
+            pub and_works : length known₂.disjuncts ≡ 256 → (row : List Verdict) → Pairs vs ws row → WorkedOut C cs f x known (record known₂ { disjuncts = set known₂.disjuncts x row })
+            and_works low row g = joined_works low row here
+              where
+                here : (i : ℕ) → i < length (disjuncts cs x) → get_or row i Unknown ≡ verdict_of (holds_now C f (get_or (disjuncts cs x) i []))
+                here i h =
+                    let there : i < length ls * length rs = rw and_count at h in
+                    let split : i / length rs * length rs + i % length rs ≡ i = div-add-mod' i (length rs) in
+                    let it_is = rw split at (pair_works g (i / length rs) (i % length rs) ((div-lt_iff_lt-mul some_right).1 there) (mod-lt i some_right)) in
+                    let at : get_or (disjuncts cs x) i [] ≡ get_or ls (i / length rs) [] ++ get_or rs (i % length rs) [] = rw and_all (and_at ls rs i there) in
+                    rw at it_is
 
-              left_is : (i : ℕ) → i < first → get_or vs i Unknown ≡ verdict_of (holds_now C f (get_or ls i []))
-              left_is i h = get_or-take first (row_of known₂ it.left) i Unknown h ∙ b.right.is it.left i (b.still it.left a.known) (omega (arith, p.is))
+          module _ (z : o ≡ or) where
+            or_all : disjuncts cs x ≡ combined or ls rs
+            or_all = rw z at all_of
 
-              right_is : (i : ℕ) → i < second → get_or ws i Unknown ≡ verdict_of (holds_now C f (get_or rs i []))
-              right_is i h = get_or-take second (row_of known₂ it.right) i Unknown h ∙ b.right.is it.right i b.known (omega (arith, r.is))
+            or_count : length (disjuncts cs x) ≡ length ls + length rs
+            or_count = rw or_all (length_or ls rs)
 
-              joined_works : length known₂.disjuncts ≡ 256 → (row : List Verdict) → ((i : ℕ) → i < length (disjuncts cs x) → get_or row i Unknown ≡ verdict_of (holds_now C f (get_or (disjuncts cs x) i [])))
-                  → WorkedOut C cs f x known (record known₂ { disjuncts = set known₂.disjuncts x row })
-              joined_works low row g = works_then a (works_then b (filled_works row (omega (arith, place_there)) x_allowed b.right g))
+            pub or_room : length vs + length ws ≤ 64
+            or_room = omega (arith, or_count, x_allowed.most)
 
-              module _ (low : length known₂.disjuncts ≡ 256) (row : List Verdict) (o : it.operator ≡ 0) where
-                pair_works : Pairs vs ws row → (i j : ℕ) → i < first → j < second → get_or row (i * second + j) Unknown ≡ verdict_of (holds_now C f (get_or ls i [] ++ get_or rs j []))
-                unfolding holds_now
-                pair_works g i j h y =
-                    rw wn at (g.here i j (rw vn h) (rw wn y)) ∙ rw (left_is i h, right_is j y)
-                    (verdict_both (holds_now C f (get_or ls i [])) (holds_now C f (get_or rs j [])) ∙ ap verdict_of (sym (all_both (λ d. any f (matching C d)) (get_or ls i []) (get_or rs j []))))
-
-                pub and_works : Pairs vs ws row → WorkedOut C cs f x known (record known₂ { disjuncts = set known₂.disjuncts x row })
-                and_works g = joined_works low row here
-                  where
-                    here : (i : ℕ) → i < length (disjuncts cs x) → get_or row i Unknown ≡ verdict_of (holds_now C f (get_or (disjuncts cs x) i []))
-                    here i h =
-                        let there : i < first * second = rw (and_count o) at h in
-                        let some : 0 < second = omega (arith, r.some) in
-                        let split : i / second * second + i % second ≡ i = div-add-mod' i second in
-                        let it_is = rw split at (pair_works g (i / second) (i % second) ((div-lt_iff_lt-mul some).1 there) (mod-lt i some)) in
-                        let all : disjuncts cs x ≡ combined and ls rs = all_of and (and_when it.operator o) in
-                        let at : get_or (disjuncts cs x) i [] ≡ get_or ls (i / second) [] ++ get_or rs (i % second) [] = rw (all, r.is) (and_at ls rs i (rw (p.is, r.is) at there)) in
-                        rw at it_is
-
-              module _ (low : length known₂.disjuncts ≡ 256) (row : List Verdict) (o : it.operator ≡ 0 → ⊥) where
-                pub or_works : Either vs ws row → WorkedOut C cs f x known (record known₂ { disjuncts = set known₂.disjuncts x row })
-                or_works g = joined_works low row here
-                  where
-                    here : (i : ℕ) → i < length (disjuncts cs x) → get_or row i Unknown ≡ verdict_of (holds_now C f (get_or (disjuncts cs x) i []))
-                    here i h =
-                        let all : disjuncts cs x ≡ combined or ls rs = all_of or (or_when it.operator o) in
-                        elim (dec_lt i first) [
-                          | yes y ↦ rw (all, or_left ls rs i (omega (arith, p.is))) (g.ahead i (rw vn y) ∙ left_is i y)
-                          | no y ↦
-                              let e : length vs + (i - first) ≡ i = omega arith in
-                              let past : length ls ≤ i = omega (arith, p.is) in
-                              let d : i - length ls ≡ i - first = rw p.is in
-                              let less : i - first < second = omega (arith, or_count o) in
-                              rw (all, or_right ls rs i past, d) ((rw e at (g.behind (i - first) (rw wn less))) ∙ right_is (i - first) less)
-                        ]
+            pub or_works : length known₂.disjuncts ≡ 256 → (row : List Verdict) → Either vs ws row → WorkedOut C cs f x known (record known₂ { disjuncts = set known₂.disjuncts x row })
+            or_works low row g = joined_works low row here
+              where
+                here : (i : ℕ) → i < length (disjuncts cs x) → get_or row i Unknown ≡ verdict_of (holds_now C f (get_or (disjuncts cs x) i []))
+                here i h =
+                    elim (dec_lt i (length ls)) [
+                      | yes y ↦ rw (or_all, or_left ls rs i y) (g.ahead i (rw vn y) ∙ left_is i y)
+                      | no y ↦
+                          let e : length vs + (i - length ls) ≡ i = omega arith in
+                          let past : length ls ≤ i = omega arith in
+                          let less : i - length ls < length rs = omega (arith, or_count) in
+                          rw (or_all, or_right ls rs i past) ((rw e at (g.behind (i - length ls) (rw wn less))) ∙ right_is (i - length ls) less)
+                    ]
 
 -- ---- a flag for each disjunct
 

@@ -13,7 +13,8 @@ use Rattle.state.specs.Layout.{held, Fits}
 use Rattle.variable_map.specs.Mapping.{variables, Mapped}
 use Rattle.decision_tracker.specs.Tracking.{decisions, Kept}
 use Rattle.encoder.specs.declared.Counters.{Counters}
-use Rattle.goals.specs.Goals.{Catalogued, true_of}
+use Rattle.goals.specs.Goals.{true_of}
+use Rattle.index.specs.Catalogued.{Catalogued}
 use Rattle.judging.specs.declared.Verdict.{Verdict}
 use Rattle.judging.specs.declared.Verdict.TheVariants.{Unknown, Holds, Fails}
 use Rattle.judging.specs.declared.Known.{Known}

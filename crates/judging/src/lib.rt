@@ -1,20 +1,20 @@
 // Which disjuncts of a condition hold: the conditions that it comes of are worked out one by one, each once, and a range is asked once.
 #![tactic(auto)]
 
-ghost use Rattle.std.specs.Prelude.{◌≡◌, ◌+◌, ◌*◌, ◌<◌, ◌≤◌, length, get_or};
+ghost use Rattle.std.specs.Prelude.{◌≡◌, ◌+◌, ◌*◌, ◌<◌, ◌≤◌, length, get_or, take};
 ghost use Rattle.rules.specs.Conditions.{disjuncts};
-ghost use Rattle.tables.specs.Tables.{tables};
-ghost use Rattle.cache.specs.Areas.{catalogue};
 ghost use Rattle.state.specs.Layout.{held, Fits};
 ghost use Rattle.variable_map.specs.Mapping.{variables, Mapped};
 ghost use Rattle.decision_tracker.specs.Tracking.{decisions, Kept};
-ghost use Rattle.goals.specs.Goals.{Catalogued, true_of};
+ghost use Rattle.goals.specs.Goals.{true_of};
 ghost use Rattle.judging.specs.declared.Verdict.{Verdict};
-ghost use Rattle.judging.specs.Judging.{verdict_of, both, says_holds, Nothing, Pairs, Either, AsksRange, RangeAsked, Asks, WorkedOut, Flags, Judged};
+ghost use Rattle.judging.specs.Judging.{verdict_of, both, says_holds, row_of, Nothing, Pairs, Either, AsksRange, RangeAsked, Asks, WorkedOut, Flags, Judged};
+ghost use Rattle.index.specs.Views.{catalogue_of, counts_of, tables_of, bytes_of};
 
 use encoder::Counters;
+use index::Catalogue;
 use state::Limits;
-use tables::Counts;
+use tables::Condition;
 
 // ---- verdicts
 
@@ -117,25 +117,19 @@ impl Known {
     // The verdict of range r. It is asked once.
     fn range(
         &mut self,
-        marks: &[u8],
-        unions: &[u8],
-        t: &[u8],
-        k: Counts,
+        catalogue: &Catalogue,
         s: &[u8],
         l: Limits,
         n: Counters,
         r: usize,
     ) -> Verdict
-        requires { AsksRange k marks.now unions.now t.now l n s.now self.old r }
-        ensures { RangeAsked (catalogue k marks.now unions.now t.now) (tables k t.now).conditions (true_of (variables n.variables (held l s.now)) (decisions n.decisions (held l s.now))) r result self.old self.new }
+        requires { AsksRange (counts_of catalogue.now) catalogue.now.index.areas.marks.now catalogue.now.index.areas.unions.now (bytes_of catalogue.now) l n s.now self.old r }
+        ensures { RangeAsked (catalogue_of catalogue.now) (tables_of catalogue.now).conditions (true_of (variables n.variables (held l s.now)) (decisions n.decisions (held l s.now))) r result self.old self.new }
     {
         match self.ranges[r] {
             Verdict::Unknown => {
                 let v = Verdict::from(goals::range_holds(
-                    marks,
-                    unions,
-                    t,
-                    k,
+                    catalogue,
                     s,
                     l,
                     n.variables,
@@ -149,43 +143,40 @@ impl Known {
         }
     }
 
+    // The verdicts of condition x.
+    fn row(&self, catalogue: &Catalogue, x: u16) -> &[Verdict]
+        requires { x < (counts_of catalogue.now).conditions }
+        ensures count { length result.now ≡ length (disjuncts (tables_of catalogue.now).conditions x) }
+        ensures verdicts { result.now ≡ take (length (disjuncts (tables_of catalogue.now).conditions x)) (row_of self.now x) }
+    {
+        let count = catalogue.conditions().count(x as usize);
+        &self.disjuncts[x as usize][..count]
+    }
+
     // Condition x is worked out, unless it was: after its halves, which have smaller numbers.
-    fn work_out(
-        &mut self,
-        marks: &[u8],
-        unions: &[u8],
-        t: &[u8],
-        k: Counts,
-        s: &[u8],
-        l: Limits,
-        n: Counters,
-        x: usize,
-    )
-        requires { Asks k marks.now unions.now t.now l n s.now self.old x }
-        ensures { WorkedOut (catalogue k marks.now unions.now t.now) (tables k t.now).conditions (true_of (variables n.variables (held l s.now)) (decisions n.decisions (held l s.now))) x self.old self.new }
+    fn work_out(&mut self, catalogue: &Catalogue, s: &[u8], l: Limits, n: Counters, x: usize)
+        requires { Asks (counts_of catalogue.now) catalogue.now.index.areas.marks.now catalogue.now.index.areas.unions.now (bytes_of catalogue.now) l n s.now self.old x }
+        ensures { WorkedOut (catalogue_of catalogue.now) (tables_of catalogue.now).conditions (true_of (variables n.variables (held l s.now)) (decisions n.decisions (held l s.now))) x self.old self.new }
     {
         if self.disjuncts[x][0] != Verdict::Unknown {
             return;
         }
-        let it = tables::condition_at(t, k, x);
-        let left = it.left as usize;
-        if it.operator == 2 {
-            let v = self.range(marks, unions, t, k, s, l, n, left);
-            self.disjuncts[x] = leaf_row(v);
-            return;
+        match catalogue.index.areas.tables.condition_at(x) {
+            Condition::Range(range) => {
+                let v = self.range(catalogue, s, l, n, range as usize);
+                self.disjuncts[x] = leaf_row(v);
+            }
+            Condition::And { left, right } => {
+                self.work_out(catalogue, s, l, n, left as usize);
+                self.work_out(catalogue, s, l, n, right as usize);
+                self.disjuncts[x] = and_row(self.row(catalogue, left), self.row(catalogue, right));
+            }
+            Condition::Or { left, right } => {
+                self.work_out(catalogue, s, l, n, left as usize);
+                self.work_out(catalogue, s, l, n, right as usize);
+                self.disjuncts[x] = or_row(self.row(catalogue, left), self.row(catalogue, right));
+            }
         }
-        let right = it.right as usize;
-        self.work_out(marks, unions, t, k, s, l, n, left);
-        self.work_out(marks, unions, t, k, s, l, n, right);
-        let first = conditions::count(t, k, left);
-        let second = conditions::count(t, k, right);
-        let rows = &self.disjuncts;
-        let row = if it.operator == 0 {
-            and_row(&rows[left][..first], &rows[right][..second])
-        } else {
-            or_row(&rows[left][..first], &rows[right][..second])
-        };
-        self.disjuncts[x] = row;
     }
 }
 
@@ -203,48 +194,28 @@ fn flags_of(row: &[Verdict; 64]) -> [bool; 64]
 }
 
 // Which disjuncts of condition c hold. Each condition that it comes of is worked out once, and each range asked once.
-fn each_holding(
-    marks: &[u8],
-    unions: &[u8],
-    t: &[u8],
-    k: Counts,
-    s: &[u8],
-    l: Limits,
-    n: Counters,
-    c: usize,
-) -> [bool; 64]
-    requires catalogued { Catalogued k marks.now unions.now t.now }
+fn each_holding(catalogue: &Catalogue, s: &[u8], l: Limits, n: Counters, c: usize) -> [bool; 64]
     requires fits { Fits l (length s.now) }
     requires mapped { Mapped l n.variables (held l s.now) × Kept l n.decisions (held l s.now) }
-    requires c_lt_conditions { c < k.conditions }
-    ensures { Judged (catalogue k marks.now unions.now t.now) (true_of (variables n.variables (held l s.now)) (decisions n.decisions (held l s.now))) (disjuncts (tables k t.now).conditions c) result }
+    requires c_lt_conditions { c < (counts_of catalogue.now).conditions }
+    ensures { Judged (catalogue_of catalogue.now) (true_of (variables n.variables (held l s.now)) (decisions n.decisions (held l s.now))) (disjuncts (tables_of catalogue.now).conditions c) result }
 {
     let mut known = Known::nothing();
-    known.work_out(marks, unions, t, k, s, l, n, c);
+    known.work_out(catalogue, s, l, n, c);
     flags_of(&known.disjuncts[c])
 }
 
 // Which disjuncts of condition c hold. Where there is one alone no verdicts are kept.
-pub fn holding(
-    marks: &[u8],
-    unions: &[u8],
-    t: &[u8],
-    k: Counts,
-    s: &[u8],
-    l: Limits,
-    n: Counters,
-    c: usize,
-) -> [bool; 64]
-    requires catalogued { Catalogued k marks.now unions.now t.now }
+pub fn holding(catalogue: &Catalogue, s: &[u8], l: Limits, n: Counters, c: usize) -> [bool; 64]
     requires fits { Fits l (length s.now) }
     requires mapped { Mapped l n.variables (held l s.now) × Kept l n.decisions (held l s.now) }
-    requires c_lt_conditions { c < k.conditions }
-    ensures { Judged (catalogue k marks.now unions.now t.now) (true_of (variables n.variables (held l s.now)) (decisions n.decisions (held l s.now))) (disjuncts (tables k t.now).conditions c) result }
+    requires c_lt_conditions { c < (counts_of catalogue.now).conditions }
+    ensures { Judged (catalogue_of catalogue.now) (true_of (variables n.variables (held l s.now)) (decisions n.decisions (held l s.now))) (disjuncts (tables_of catalogue.now).conditions c) result }
 {
-    if conditions::count(t, k, c) == 1 {
+    if catalogue.conditions().count(c) == 1 {
         let mut flags = [false; 64];
-        flags[0] = goals::disjunct_holds(marks, unions, t, k, s, l, n, c, 0);
+        flags[0] = goals::disjunct_holds(catalogue, s, l, n, c, 0);
         return flags;
     }
-    each_holding(marks, unions, t, k, s, l, n, c)
+    each_holding(catalogue, s, l, n, c)
 }

@@ -22,38 +22,42 @@ use Rattle.tables.proofs.Laws.{names_counted, parts_counted, ranges_counted, uni
 use Rattle.marks.specs.Marks.{is_marked}
 use Rattle.unions.specs.Unions.{Row, rows, ranges_of, pushed}
 use Rattle.unions.proofs.Laws.{ranges_pushed, ranges_pushed_other}
-use Rattle.cache.specs.Areas.{assembled, catalogue}
+use Rattle.cache.specs.Areas.{assembled}
 use Rattle.kept.specs.Kept.{Given}
 
 -- ---- how many
 
-module _ (k : Counts) (m u t : List ℕ) where
-  pub names_given : given (catalogue k m u t) Thing.name ≡ k.names
-  unfolding given catalogue assembled
+-- the catalogue of areas: the tables, of which k counts the rows, the marks, and n members of unions
+abbrev pub gathered : Counts → ℕ → (marks unions bytes : List ℕ) → Catalogue
+gathered k n m u t = assembled (tables k t) (is_marked m) (rows n u)
+
+module _ (k : Counts) (n : ℕ) (m u t : List ℕ) where
+  pub names_given : given (gathered k n m u t) Thing.name ≡ k.names
+  unfolding given assembled
   names_given = names_counted k t
 
-  pub parts_given : given (catalogue k m u t) Thing.part ≡ k.parts
-  unfolding given catalogue assembled
+  pub parts_given : given (gathered k n m u t) Thing.part ≡ k.parts
+  unfolding given assembled
   parts_given = parts_counted k t
 
-  pub ranges_given : given (catalogue k m u t) Thing.range ≡ k.ranges
-  unfolding given catalogue assembled
+  pub ranges_given : given (gathered k n m u t) Thing.range ≡ k.ranges
+  unfolding given assembled
   ranges_given = listed_length (length (tables k t).ranges) _ ∙ ranges_counted k t
 
-  pub unions_given : given (catalogue k m u t) Thing.union ≡ k.unions
-  unfolding given catalogue assembled
+  pub unions_given : given (gathered k n m u t) Thing.union ≡ k.unions
+  unfolding given assembled
   unions_given = listed_length (tables k t).unions _ ∙ unions_counted k t
 
-  pub conditions_given : given (catalogue k m u t) Thing.condition ≡ k.conditions
-  unfolding given catalogue assembled
+  pub conditions_given : given (gathered k n m u t) Thing.condition ≡ k.conditions
+  unfolding given assembled
   conditions_given = conditions_counted k t
 
-  pub requirements_given : given (catalogue k m u t) Thing.requirement ≡ k.requirements
-  unfolding given catalogue assembled
+  pub requirements_given : given (gathered k n m u t) Thing.requirement ≡ k.requirements
+  unfolding given assembled
   requirements_given = requirements_counted k t
 
-  pub constraints_given : given (catalogue k m u t) Thing.constraint ≡ k.constraints
-  unfolding given catalogue assembled
+  pub constraints_given : given (gathered k n m u t) Thing.constraint ≡ k.constraints
+  unfolding given assembled
   constraints_given = constraints_counted k t
 
 -- a test on a count is the definitions' test
@@ -96,10 +100,9 @@ module _ {A : Type 0} where
 -- ---- one thing more
 
 -- tables that one thing was put into
-module _ {k r : Counts} {t' : List ℕ} {x : Tables} (m u : List ℕ) (a : Added k r t' x) where
-  pub put_is : catalogue r m u t' ≡ assembled x (is_marked m) (rows k.members u)
-  unfolding catalogue
-  put_is = rw (a.is, a.members)
+module _ {k r : Counts} {t' : List ℕ} {x : Tables} (a : Added k r t' x) where
+  pub put_is : (n : ℕ) (m u : List ℕ) → gathered r n m u t' ≡ assembled x (is_marked m) (rows n u)
+  put_is n m u = rw a.is
 
   pub unions_are : r.unions ≡ x.unions
   unions_are = sym (unions_counted r t') ∙ ap (λ (y : Tables). y.unions) a.is

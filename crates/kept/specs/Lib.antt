@@ -1,2 +1,4 @@
 pub mod Kept
+pub mod Vacancies
 pub mod Entered
+pub mod Drafts

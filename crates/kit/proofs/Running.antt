@@ -17,32 +17,28 @@ use Rattle.rules.specs.Job.{reading, begun_with, progress, accepts, refuses, end
 use Rattle.refusal.specs.declared.RefusedAt.{RefusedAt}
 use Rattle.refusal.specs.declared.Refusal.TheVariants.{Unfit, Overlong}
 use Rattle.refusal.specs.Refusing.{refusal_of}
-use Rattle.state.specs.declared.Limits as state
 use Rattle.state.specs.Layout.{Fits}
 use Rattle.encoder.specs.Held.{LongEnough}
-use Rattle.encoder.specs.Did as encoder
 use Rattle.carried.specs.Carrying.{end_from}
 use Rattle.ending.specs.declared.Accepted.{Accepted}
 use Rattle.ending.specs.Ending.{told}
 use Rattle.outcome.specs.Outcomes.{RunsFrom}
 use Rattle.terms.specs.declared.Answer.{Answer}
-use Rattle.terms.specs.declared.Limits.{Limits}
+use Rattle.state.specs.declared.Limits.{Limits}
 use Rattle.terms.specs.declared.Lent.{Lent}
-use Rattle.terms.specs.Terms.{limits_of, lent_of, terms_of, four_limits}
+use Rattle.terms.specs.Terms.{lent_of, terms_of, four_limits}
+use Rattle.state.specs.Limits.{limits_of}
 use Rattle.terms.specs.Answers.{Gives}
-use Rattle.terms.proofs.Terms.{same_fits}
+use Rattle.terms.proofs.Fits.{same_fits}
 use Rattle.checking.specs.Areas.{Long, Zeroed}
 use Rattle.kit.specs.Running.{LendsAll, Runs, Ran}
-
--- the limits, as the code below takes them
-abbrev pub state_limits : Limits → state.Limits
-state_limits l = record { variables = l.variables; clauses = l.clauses; literals = l.literals; waiting = l.waiting }
+use Rattle.kit.proofs.Checking.{lent_is}
 
 -- what limits that are allowed and areas that cover them give
 pub record Enough (l : Limits) (m u t c s w : List ℕ) : Type 0 where
   pub long : Long m u t
-  pub fits : Fits (state_limits l) (length s)
-  pub areas : LongEnough (state_limits l) (length c) (length w)
+  pub fits : Fits l (length s)
+  pub areas : LongEnough l (length c) (length w)
   pub variables : 0 < l.variables
   pub clauses : 0 < l.clauses
 
@@ -110,9 +106,9 @@ module _ (job : List ℕ) (l : Limits) (x : Lent) (out : List ℕ) (b : Bool) (e
   unfolding answer outcome ended answer_of listing_area printed progress begun_with unless_any refusal_of
   run_overlong h k g = record { answer = rw (← fitting, h, lt-ltb 65536 (length job) k, unless_any) g; listing = rw (← fitting, h, lt-ltb 65536 (length job) k, unless_any) }
 
-  pub run_carried : {y : Result Accepted RefusedAt} {out' : List ℕ} → b ≡ true → length job ≤ 65536 → RunsFrom (state_limits l) job 0 (reading empty_catalogue) y out out' → Gives r (told (length job) y)
+  pub run_carried : {y : Result Accepted RefusedAt} {out' : List ℕ} → b ≡ true → length job ≤ 65536 → RunsFrom l job 0 (reading empty_catalogue) y out out' → Gives r (told (length job) y)
       → Runs job terms r out out'
-  unfolding answer outcome listing_area progress begun_with unless_any end_from limits_of terms_of encoder.limits_of
+  unfolding answer outcome listing_area progress begun_with unless_any end_from limits_of terms_of
   run_carried h k d g =
       let z = d.is terms refl refl in
       record {
@@ -122,11 +118,10 @@ module _ (job : List ℕ) (l : Limits) (x : Lent) (out : List ℕ) (b : Bool) (e
 
 -- ---- the exported function
 
-pub ran : (job : List ℕ) (v n l k : ℕ) (r : Answer) (m u t c s w out m' u' t' c' s' w' out' : List ℕ)
-    → Runs job (terms_of (limits_of (record { variables = v; clauses = n; literals = l; waiting = k }))
-    (lent_of (record { marks = length m; unions = length u; catalogue = length t; clauses = length c; state = length s; waiting = length w })) (length out)) r out out'
+pub ran : (job : List ℕ) (v n l k : ℕ) (x : Lent) (r : Answer) (m u t c s w out m' u' t' c' s' w' out' : List ℕ) → LendsAll x m u t c s w
+    → Runs job (terms_of (limits_of (record { variables = v; clauses = n; literals = l; waiting = k })) (lent_of x) (length out)) r out out'
     → Zeroed m m' → Zeroed u u' → Zeroed t t' → Zeroed c c' → Zeroed s s' → Zeroed w w'
     → Ran job (four_limits v n l k) r m u t c s w out m' u' t' c' s' w' out'
-unfolding limits_of lent_of four_limits
-ran job v n l k r m u t c s w out m' u' t' c' s' w' out' h a₁ a₂ a₃ a₄ a₅ a₆ =
-    record { runs = h; marks = a₁.is; unions = a₂.is; catalogue = a₃.is; clauses = a₄.is; state = a₅.is; waiting = a₆.is }
+unfolding limits_of four_limits
+ran job v n l k x r m u t c s w out m' u' t' c' s' w' out' e h a₁ a₂ a₃ a₄ a₅ a₆ =
+    record { runs = rw (lent_is x m u t c s w e) at h; marks = a₁.is; unions = a₂.is; catalogue = a₃.is; clauses = a₄.is; state = a₅.is; waiting = a₆.is }

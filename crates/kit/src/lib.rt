@@ -3,7 +3,8 @@
 #![tactic(auto)]
 
 ghost use Rattle.std.specs.Prelude.{length};
-ghost use Rattle.terms.specs.Terms.{limits_of, lent_of, terms_of, four_limits};
+ghost use Rattle.terms.specs.Terms.{lent_of, terms_of, four_limits};
+ghost use Rattle.state.specs.Limits.{limits_of};
 ghost use Rattle.terms.specs.Answers.{Gives};
 ghost use Rattle.kit.specs.Checking.{Served};
 ghost use Rattle.kit.specs.Running.{LendsAll, Runs, Ran};
@@ -11,7 +12,29 @@ ghost use Rattle.ending.specs.Ending as endings;
 
 use ending::Accepted;
 use refusal::{Refusal, RefusedAt};
-use terms::{Answer, Lent, Limits};
+use state::Limits;
+use terms::{Answer, Lent, Terms};
+
+// How long each area is.
+fn lent(
+    marks: &[u8],
+    unions: &[u8],
+    catalogue: &[u8],
+    store: &[u8],
+    state: &[u8],
+    deferred: &[u8],
+) -> Lent
+    ensures { LendsAll result marks.now unions.now catalogue.now store.now state.now deferred.now }
+{
+    Lent {
+        marks: marks.len(),
+        unions: unions.len(),
+        catalogue: catalogue.len(),
+        clauses: store.len(),
+        state: state.len(),
+        waiting: deferred.len(),
+    }
+}
 
 // ---- check
 
@@ -33,22 +56,17 @@ pub fn kit_check(
         marks.old unions.old catalogue.old store.old state.old deferred.old
         marks.new unions.new catalogue.new store.new state.new deferred.new }
 {
-    let l = Limits {
-        variables,
-        clauses,
-        literals,
-        waiting,
-    };
-    let lent = Lent {
-        marks: marks.len(),
-        unions: unions.len(),
-        catalogue: catalogue.len(),
-        clauses: store.len(),
-        state: state.len(),
-        waiting: deferred.len(),
+    let terms = Terms {
+        limits: Limits {
+            variables: variables as usize,
+            clauses: clauses as usize,
+            literals: literals as usize,
+            waiting: waiting as usize,
+        },
+        lent: lent(marks, unions, catalogue, store, state, deferred),
     };
     checking::clear_three(store, state, deferred);
-    checking::check_within(job, l, lent, marks, unions, catalogue)
+    checking::check_within(job, terms, marks, unions, catalogue)
 }
 
 // ---- run
@@ -58,15 +76,14 @@ fn told_outcome(length: usize, outcome: Result<Accepted, RefusedAt>) -> Answer
     ensures { Gives result (endings.told length outcome) }
 {
     match outcome {
-        Ok(job) => terms::accepted(job.length, job.variables, job.clauses),
-        Err(refused) => terms::refused(length, refused.at, refused.refusal),
+        Ok(job) => Answer::accepted(job.length, job.variables, job.clauses),
+        Err(refused) => Answer::refused(length, refused),
     }
 }
 
 fn run_within(
     job: &[u8],
-    l: Limits,
-    lent: Lent,
+    terms: Terms,
     marks: &mut [u8],
     unions: &mut [u8],
     t: &mut [u8],
@@ -75,24 +92,32 @@ fn run_within(
     w: &mut [u8],
     out: &mut [u8],
 ) -> Answer
-    requires { LendsAll lent marks.old unions.old t.old clauses.old s.old w.old }
-    ensures { Runs job.now (terms_of (limits_of l) (lent_of lent) (length out.old)) result out.old out.new }
+    requires { LendsAll terms.lent marks.old unions.old t.old clauses.old s.old w.old }
+    ensures { Runs job.now (terms_of (limits_of terms.limits) (lent_of terms.lent) (length out.old)) result out.old out.new }
 {
-    if terms::lends_enough(l, lent) {
-        let length = job.len();
-        if 65536 < length {
-            return terms::refused(length, 0, Refusal::Overlong);
-        }
-        let limits = state::Limits {
-            variables: l.variables as usize,
-            clauses: l.clauses as usize,
-            literals: l.literals as usize,
-            waiting: l.waiting as usize,
-        };
-        let outcome = outcome::run(job, marks, unions, t, s, clauses, w, limits, out);
-        return told_outcome(length, outcome);
+    let length = job.len();
+    if !terms.fit() {
+        return Answer::refused(
+            length,
+            RefusedAt {
+                refusal: Refusal::Unfit,
+                at: 0,
+            },
+        );
     }
-    terms::refused(job.len(), 0, Refusal::Unfit)
+    if 65536 < length {
+        return Answer::refused(
+            length,
+            RefusedAt {
+                refusal: Refusal::Overlong,
+                at: 0,
+            },
+        );
+    }
+    told_outcome(
+        length,
+        outcome::run(job, marks, unions, t, s, clauses, w, terms.limits, out),
+    )
 }
 
 // The job's listing, or its refusal. After the call the six work areas are zero; a refusal leaves the listing area as it was.
@@ -114,22 +139,17 @@ pub fn kit_run(
         marks.old unions.old catalogue.old store.old state.old deferred.old listing.old
         marks.new unions.new catalogue.new store.new state.new deferred.new listing.new }
 {
-    let l = Limits {
-        variables,
-        clauses,
-        literals,
-        waiting,
-    };
-    let lent = Lent {
-        marks: marks.len(),
-        unions: unions.len(),
-        catalogue: catalogue.len(),
-        clauses: store.len(),
-        state: state.len(),
-        waiting: deferred.len(),
+    let terms = Terms {
+        limits: Limits {
+            variables: variables as usize,
+            clauses: clauses as usize,
+            literals: literals as usize,
+            waiting: waiting as usize,
+        },
+        lent: lent(marks, unions, catalogue, store, state, deferred),
     };
     let answer = run_within(
-        job, l, lent, marks, unions, catalogue, store, state, deferred, listing,
+        job, terms, marks, unions, catalogue, store, state, deferred, listing,
     );
     checking::clear_three(marks, unions, catalogue);
     checking::clear_three(store, state, deferred);

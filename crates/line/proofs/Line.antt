@@ -5,7 +5,7 @@ use mathlib.Core.List.{List, [], ◌∷◌}
 use Prim.Native.Nat.{ℕ, ◌+◌, ◌-◌, ◌<◌, ◌≤◌}
 use native.Mathlib.Numerals.{add-one}
 use native.Mathlib.Omega.{arith}
-use lib.ListN.{length, get_or, take, drop, length-take, length-drop, drop_of_length-le}
+use lib.ListN.{length, take, drop, length-take, length-drop, drop_of_length-le}
 use lib.Seq.{length-take-le, take-suc-set, drop-append-le, drop-cons, get_or-take, take-set-le}
 use Rattle.rules.specs.Lists.{any, elem, snoc}
 use Rattle.regions.specs.Regions.{stored}
@@ -18,10 +18,6 @@ use Rattle.line.specs.Line.{queued, line_at, Queued}
 
 -- ---- the code
 
-pub at_is : (head r : ℕ) (st : ℕ → List ℕ) → r ≡ get_or (st 20) head 0 → r ≡ line_at head st
-unfolding line_at
-at_is head r st e = e
-
 line_more : (tail x : ℕ) (st : ℕ → List ℕ) → tail < length (st 20) → (head : ℕ) → head ≤ tail
     → queued head (tail + 1) (stored st 20 tail x) ≡ snoc (queued head tail st) x
 unfolding queued snoc
@@ -29,9 +25,10 @@ line_more tail x st h head g =
     let n : length (take tail (st 20)) ≡ tail = length-take-le tail (st 20) (omega arith) in
     rw (stored_here st 20 tail x, add-one, take-suc-set (st 20) tail x h) (drop-append-le head (take tail (st 20)) (x ∷ []) (omega arith))
 
-pub push_is : (l : Limits) (b b' : List ℕ) (tail x : ℕ) → Fits l (length b) → tail < 3649 + l.waiting → held l b' ≡ stored (held l b) 20 tail x
+pub push_is : (l : Limits) (b b' : List ℕ) (tail n x : ℕ) → n ≡ x → Fits l (length b) → tail < 3649 + l.waiting → held l b' ≡ stored (held l b) 20 tail n
     → Queued tail x (held l b) (tail + 1) (held l b')
-push_is l b b' tail x f h e =
+push_is l b b' tail n x q f h e' =
+    let e : held l b' ≡ stored (held l b) 20 tail x = rw q at e' in
     let g : tail < length (held l b 20) = rw (length_line l b f) h in
     record { count = refl; size = rw e (length_stored (held l b) 20 tail x 20); line = rw e (line_more tail x (held l b) g); before = λ head k. rw (e, stored_here (held l b) 20 tail x) (take-set-le head (held l b 20) tail x k); others = changed_stored 20 tail x e (unfold any in refl) }
 

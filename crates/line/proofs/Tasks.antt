@@ -1,10 +1,11 @@
 -- Tasks by their numbers: a law for each case.
-use mathlib.Core.Path.{◌≡◌}
-use Prim.Native.Nat.{ℕ, ◌-◌, ◌<◌, ◌≤◌}
+use mathlib.Core.Path.{◌≡◌, sym, ap, ◌∙◌}
+use Prim.Native.Nat.{ℕ, ◌+◌, ◌-◌, ◌<◌, ◌≤◌}
 use native.Mathlib.Omega.{arith}
 use borrow.Author.Tests.{lt-ltb, le-ltb}
 use Rattle.line.specs.declared.Task.TheVariants.{Owner, Name, Condition, Requirement, Constraint, Drawn}
-use Rattle.line.specs.Tasks.{task_of}
+use Rattle.line.specs.declared.Task.{Task}
+use Rattle.line.specs.Tasks.{task_of, task_number, HasNumber}
 
 module _ (x : ℕ) where
   pub task_owner : x < 1025 → Owner x ≡ task_of x
@@ -31,3 +32,12 @@ module _ (x : ℕ) where
   unfolding task_of
   task_drawn g =
       rw (le-ltb x 1025 (omega arith), le-ltb x 1089 (omega arith), le-ltb x 2113 (omega arith), le-ltb x 3137 (omega arith), le-ltb x 3649 g)
+
+-- and back
+pub number_back : (t : Task) → HasNumber t → task_of (task_number t) ≡ t
+number_back (Owner o) h = sym (task_owner o h)
+number_back (Name n) h = let e : 1025 + n - 1025 ≡ n = omega arith in sym (task_name (1025 + n) (omega arith) (omega arith)) ∙ ap Name e
+number_back (Condition q) h = let e : 1089 + q - 1089 ≡ q = omega arith in sym (task_condition (1089 + q) (omega arith) (omega arith)) ∙ ap Condition e
+number_back (Requirement q) h = let e : 2113 + q - 2113 ≡ q = omega arith in sym (task_requirement (2113 + q) (omega arith) (omega arith)) ∙ ap Requirement e
+number_back (Constraint k) h = let e : 3137 + k - 3137 ≡ k = omega arith in sym (task_constraint (3137 + k) (omega arith) (omega arith)) ∙ ap Constraint e
+number_back (Drawn e) h = let d : 3649 + e - 3649 ≡ e = omega arith in sym (task_drawn (3649 + e) (omega arith)) ∙ ap Drawn d

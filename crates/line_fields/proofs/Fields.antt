@@ -1,44 +1,46 @@
 -- Fields: a law for each way out of a function that prints some.
 use mathlib.Core.Path.{◌≡◌, refl}
 use mathlib.Core.Bool.{Bool, true, false, cond}
+use Rattle.std.specs.Prelude as code
+use Rattle.std.specs.Prelude.{None, Some}
 use mathlib.Core.List.{List, [], ◌∷◌}
-use Prim.Native.Nat.{ℕ, zero, suc, ◌-◌}
-use native.Mathlib.Omega.{arith}
+use Prim.Native.Nat.{ℕ}
 use mir.Val.{bool_byte}
-use borrow.Author.Tests.{eq-eqb, ne_eqb}
 use Rattle.rules.specs.Listing.{ascii, decimal, signed, owner_field, goal_fields, origin_fields, clause_field}
 use Rattle.text.specs.Text.{fields, literal_of}
 use Rattle.text.specs.declared.Writer.{Writer}
 use Rattle.text.specs.Writing.{Writes}
 use Rattle.text.proofs.Writing.{fields_one, fields_first, fields_then}
+use Rattle.requirement.specs.declared.Owner.{Owner}
+use Rattle.requirement.specs.declared.Owner.TheVariants as owners
 use Rattle.requirement.specs.declared.Requirement.{Requirement}
 use Rattle.requirement.specs.declared.Requirement.TheVariants.{Single, Union}
-use Rattle.requirement.specs.Requirements.{goal_of}
+use Rattle.requirement.specs.Requirements.{owner_is, goal_of}
 use Rattle.variable_map.specs.declared.Origin.{Origin}
-use Rattle.variable_map.specs.Mapping.{origin_of, origin_by}
+use Rattle.variable_map.specs.declared.Origin.TheVariants.{Root, Part, Forbid, One, Violation, Gate}
+use Rattle.variable_map.specs.Mapping.{origin_of}
 use Rattle.decision_tracker.specs.declared.Decision.{Decision}
-use Rattle.decision_tracker.specs.Tracking.{clause_by, decision_by, decision_of}
-use Rattle.line_fields.specs.Listed.{owner_but, decision_fields}
+use Rattle.decision_tracker.specs.Tracking.{clause_of, decision_of}
+use Rattle.line_fields.specs.Listed.{decision_fields}
 
 -- ---- one field
 
 module _ {w w1 : Writer} where
-  pub owner_root : (root x : ℕ) → x ≡ root → Writes w w1 (32 ∷ 114 ∷ 111 ∷ 111 ∷ 116 ∷ []) → Writes w w1 (fields (owner_field (owner_but root x) ∷ []))
-  unfolding owner_but owner_field ascii
-  owner_root root x e y = rw (eq-eqb x root e) (fields_one y)
+  pub owner_root : {o : Owner} → o ≡ owners.Root → Writes w w1 (32 ∷ 114 ∷ 111 ∷ 111 ∷ 116 ∷ []) → Writes w w1 (fields (owner_field (owner_is o) ∷ []))
+  unfolding owner_field ascii
+  owner_root e f = rw e (fields_one f)
 
-  pub owner_part : (root x : ℕ) → (x ≡ root → ⊥) → Writes w w1 (32 ∷ decimal x) → Writes w w1 (fields (owner_field (owner_but root x) ∷ []))
-  unfolding owner_but owner_field
-  owner_part root x e y = rw (ne_eqb x root e) (fields_one y)
+  pub owner_part : {o : Owner} (x : ℕ) → o ≡ owners.Part x → Writes w w1 (32 ∷ decimal x) → Writes w w1 (fields (owner_field (owner_is o) ∷ []))
+  unfolding owner_field
+  owner_part x e f = rw e (fields_one f)
 
-  pub clause_none : (x : ℕ) → x ≡ 0 → Writes w w1 (32 ∷ 45 ∷ []) → Writes w w1 (fields (clause_field (clause_by x) ∷ []))
-  unfolding clause_by clause_field ascii
-  clause_none x e y = rw e (fields_one y)
+  pub clause_none : {c : code.Option ℕ} → c ≡ None → Writes w w1 (32 ∷ 45 ∷ []) → Writes w w1 (fields (clause_field (clause_of c) ∷ []))
+  unfolding clause_of clause_field ascii
+  clause_none e f = rw e (fields_one f)
 
-  pub clause_some : (x : ℕ) → (x ≡ 0 → ⊥) → Writes w w1 (32 ∷ decimal (x - 1)) → Writes w w1 (fields (clause_field (clause_by x) ∷ []))
-  unfolding clause_by clause_field
-  clause_some zero e y = absurd (e refl)
-  clause_some (suc x) e y = let d : suc x - 1 ≡ x = omega arith in fields_one (rw d at y)
+  pub clause_some : {c : code.Option ℕ} (x : ℕ) → c ≡ Some x → Writes w w1 (32 ∷ decimal x) → Writes w w1 (fields (clause_field (clause_of c) ∷ []))
+  unfolding clause_of clause_field
+  clause_some x e f = rw e (fields_one f)
 
 value_is : (b : Bool) → bool_byte b ≡ cond b 1 0
 value_is true = refl
@@ -75,9 +77,9 @@ module _ {w w1 w2 : Writer} where
     excluded_fields reason x u v y = three_fields u v y
 
     pub decision_fields_law : {w4 : Writer} (d : Decision) (n : ℕ) → n ≡ bool_byte d.value → Writes w w1 (32 ∷ decimal d.variable) → Writes w1 w2 (32 ∷ decimal n)
-        → Writes w2 w3 (32 ∷ decimal d.level) → Writes w3 w4 (fields (clause_field (clause_by d.clause) ∷ []))
+        → Writes w2 w3 (32 ∷ decimal d.level) → Writes w3 w4 (fields (clause_field (clause_of d.clause) ∷ []))
         → Writes w w4 (fields (decision_fields (decision_of d)))
-    unfolding decision_fields decision_of decision_by
+    unfolding decision_fields decision_of
     decision_fields_law d n e u v y x = fields_first _ u (fields_first _ (rw (e, value_is) at v) (fields_first _ y x))
 
 -- ---- a goal
@@ -91,40 +93,31 @@ module _ {w w1 : Writer} {goal : Requirement} (number : ℕ) where
   unfolding goal_of goal_fields ascii
   goal_union e y = rw e y
 
--- ---- an origin, by its kind
+-- ---- an origin
 
-module _ {w w1 : Writer} (x : Origin) where
-  pub origin_root : x.kind ≡ 0 → Writes w w1 (32 ∷ 114 ∷ 111 ∷ 111 ∷ 116 ∷ []) → Writes w w1 (fields (origin_fields (origin_of x)))
-  unfolding origin_of origin_by origin_fields ascii
-  origin_root e y = rw e (fields_one y)
+module _ {w w1 : Writer} {o : Origin} where
+  pub origin_root : o ≡ Root → Writes w w1 (32 ∷ 114 ∷ 111 ∷ 111 ∷ 116 ∷ []) → Writes w w1 (fields (origin_fields (origin_of o)))
+  unfolding origin_fields ascii
+  origin_root e f = rw e (fields_one f)
 
-  pub origin_part : x.kind ≡ 1 → Writes w w1 (fields ((112 ∷ 97 ∷ 114 ∷ 116 ∷ []) ∷ decimal x.number ∷ []))
-      → Writes w w1 (fields (origin_fields (origin_of x)))
-  unfolding origin_of origin_by origin_fields ascii
-  origin_part e y = rw e y
+  pub origin_part : (x : ℕ) → o ≡ Part x → Writes w w1 (fields ((112 ∷ 97 ∷ 114 ∷ 116 ∷ []) ∷ decimal x ∷ [])) → Writes w w1 (fields (origin_fields (origin_of o)))
+  unfolding origin_fields ascii
+  origin_part x e f = rw e f
 
-  pub origin_forbid : x.kind ≡ 2 → Writes w w1 (fields ((102 ∷ 111 ∷ 114 ∷ 98 ∷ 105 ∷ 100 ∷ []) ∷ decimal x.number ∷ []))
-      → Writes w w1 (fields (origin_fields (origin_of x)))
-  unfolding origin_of origin_by origin_fields ascii
-  origin_forbid e y = rw e y
+  pub origin_forbid : (x j : ℕ) → o ≡ Forbid x j → Writes w w1 (fields ((102 ∷ 111 ∷ 114 ∷ 98 ∷ 105 ∷ 100 ∷ []) ∷ decimal x ∷ []))
+      → Writes w w1 (fields (origin_fields (origin_of o)))
+  unfolding origin_fields ascii
+  origin_forbid x j e f = rw e f
 
-  pub origin_one : x.kind ≡ 3 → Writes w w1 (fields ((111 ∷ 110 ∷ 101 ∷ []) ∷ decimal x.number ∷ []))
-      → Writes w w1 (fields (origin_fields (origin_of x)))
-  unfolding origin_of origin_by origin_fields ascii
-  origin_one e y = rw e y
+  pub origin_one : (x : ℕ) → o ≡ One x → Writes w w1 (fields ((111 ∷ 110 ∷ 101 ∷ []) ∷ decimal x ∷ [])) → Writes w w1 (fields (origin_fields (origin_of o)))
+  unfolding origin_fields ascii
+  origin_one x e f = rw e f
 
-  pub origin_violation : x.kind ≡ 4 → Writes w w1 (fields ((118 ∷ 105 ∷ 111 ∷ 108 ∷ 97 ∷ 116 ∷ 105 ∷ 111 ∷ 110 ∷ []) ∷ decimal x.number ∷ []))
-      → Writes w w1 (fields (origin_fields (origin_of x)))
-  unfolding origin_of origin_by origin_fields ascii
-  origin_violation e y = rw e y
+  pub origin_violation : (x : ℕ) → o ≡ Violation x → Writes w w1 (fields ((118 ∷ 105 ∷ 111 ∷ 108 ∷ 97 ∷ 116 ∷ 105 ∷ 111 ∷ 110 ∷ []) ∷ decimal x ∷ []))
+      → Writes w w1 (fields (origin_fields (origin_of o)))
+  unfolding origin_fields ascii
+  origin_violation x e f = rw e f
 
-  pub origin_range : x.kind ≡ 5 → Writes w w1 (fields (ascii "gate" ∷ goal_fields (goal_of (Single x.number))))
-      → Writes w w1 (fields (origin_fields (origin_of x)))
-  unfolding origin_of origin_by origin_fields goal_of
-  origin_range e y = rw e y
-
-  pub origin_union : (x.kind ≡ 0 → ⊥) → (x.kind ≡ 1 → ⊥) → (x.kind ≡ 2 → ⊥) → (x.kind ≡ 3 → ⊥) → (x.kind ≡ 4 → ⊥) → (x.kind ≡ 5 → ⊥)
-      → Writes w w1 (fields (ascii "gate" ∷ goal_fields (goal_of (Union x.number)))) → Writes w w1 (fields (origin_fields (origin_of x)))
-  unfolding origin_of origin_by origin_fields goal_of
-  origin_union e f g h i j y =
-      rw (ne_eqb x.kind 0 e, ne_eqb x.kind 1 f, ne_eqb x.kind 2 g, ne_eqb x.kind 3 h, ne_eqb x.kind 4 i, ne_eqb x.kind 5 j) y
+  pub origin_gate : (goal : Requirement) → o ≡ Gate goal → Writes w w1 (fields (ascii "gate" ∷ goal_fields (goal_of goal))) → Writes w w1 (fields (origin_fields (origin_of o)))
+  unfolding origin_fields
+  origin_gate goal e f = rw e f

@@ -17,11 +17,9 @@ use Rattle.regions.specs.Regions.{size_of}
 use Rattle.state.specs.declared.Limits.{Limits}
 use Rattle.state.specs.Layout.{sizes, held, Fits}
 use Rattle.state.proofs.Changed.{length_held}
-use Rattle.conditions.specs.declared.Disjunct.{Disjunct}
-use Rattle.conditions.specs.Sizes.{ranges_of, Carries}
 use Rattle.encoder.specs.Held.{literal_in, literals_in}
 use Rattle.line_fields.specs.Listed.{texts, literal_text, number_text}
-use Rattle.line_fields.proofs.Printing.{each_is, concat_map_map}
+use Rattle.line_fields.proofs.Printing.{printing_end, each_is, concat_map_map}
 
 -- ---- condition literals
 
@@ -44,18 +42,18 @@ literals_end l b start count f h g =
     let long : length (held l b 19) ≡ l.literals = length_held l b 19 f ∙ unfold size_of sizes in refl in
     rw (← literals_text (held l b 19) start count (omega arith)) g
 
--- ---- a disjunct's ranges
+-- ---- a list of numbers, as a disjunct's ranges
 
-ranges_text : (d : Disjunct) (xs : List ℕ) → Carries d xs → texts (number_text d.ranges) d.len ≡ fields (map decimal xs)
+numbers_text : (xs : List ℕ) → texts (number_text xs) (length xs) ≡ fields (map decimal xs)
 unfolding fields
-ranges_text d xs c =
-    each_is (λ x. 32 ∷ decimal x) (number_text d.ranges) 0 xs d.len (sym c.len)
-    (λ i h. unfold number_text ranges_of in rw (← c.is, get_or-take d.len d.ranges i 0 (omega (arith, c.len))))
+numbers_text xs =
+    each_is (λ x. 32 ∷ decimal x) (number_text xs) 0 xs (length xs) refl (λ i h. unfold number_text in refl)
     ∙ sym (concat_map_map (λ f. 32 ∷ f) decimal xs)
 
-pub range_fields : {w w1 : Writer} {xs : List ℕ} {d : Disjunct} → Carries d xs → Writes w w1 (texts (number_text d.ranges) d.len) → Writes w w1 (fields (map decimal xs))
-range_fields {xs = xs} {d} c f = rw (← ranges_text d xs c) f
+module _ {w w1 : Writer} (xs : List ℕ) where
+  pub number_text_law : (j x : ℕ) → x ≡ get_or xs j 0 → Writes w w1 (32 ∷ decimal x) → Writes w w1 (number_text xs j)
+  unfolding number_text
+  number_text_law j x e f = rw (← e) f
 
-pub number_text_law : {w w1 : Writer} (xs : List ℕ) (j x : ℕ) → x ≡ get_or xs j 0 → Writes w w1 (32 ∷ decimal x) → Writes w w1 (number_text xs j)
-unfolding number_text
-number_text_law xs j x e f = rw (← e) f
+  pub numbers_end : {ys : List ℕ} {j : ℕ} → xs ≡ ys → Writes w w1 (texts (number_text xs) j) → j ≤ length xs → length xs ≤ j → Writes w w1 (fields (map decimal ys))
+  numbers_end e f g h = rw (← e, ← numbers_text xs) (printing_end _ f h g)

@@ -1,25 +1,18 @@
 -- What the listing prints of a state's areas, line by line.
-use Rattle.std.specs.Prelude.{Bool, ◌&&◌, ◌||◌, cond, List, [], ◌∷◌, ◌++◌, map, ℕ, ◌+◌, ◌*◌, ◌≤◌, eqb, length, get_or}
+use Rattle.std.specs.Prelude.{cond, List, [], ◌∷◌, ◌++◌, map, ℕ, ◌+◌, ◌*◌, ◌≤◌, length, get_or}
 use Rattle.rules.specs.Lists.{concat_map, list_if, up_to}
 use Rattle.rules.specs.Literal.{pos}
 use Rattle.rules.specs.Clause.{Clause, install, asserted}
-use Rattle.rules.specs.Catalogue.{Owner, root, part, Requirement, Catalogue}
-use Rattle.rules.specs.Candidates.{candidates}
+use Rattle.rules.specs.Catalogue.{root, Requirement, Catalogue}
 use Rattle.rules.specs.Decisions.{Decision}
-use Rattle.rules.specs.Items.{goal_of}
 use Rattle.rules.specs.Variables.{Origin, chosen, part_variable}
 use Rattle.rules.specs.Listing.{ascii, decimal, signed, line, owner_field, goal_fields, origin_fields, clause_field, decision_line, clause_fields, waiting_lines, listing}
 use Rattle.rules.proofs.Each.{Each}
-use Rattle.rules.proofs.WellFormed.{WellFormed}
 use Rattle.text.specs.Text.{Wrote, fields}
-use Rattle.tables.specs.declared.Counts.{Counts}
 use Rattle.cache.specs.declared.Choice.{Choice}
-use Rattle.cache.specs.Areas.{catalogue}
 use Rattle.cache.specs.Lists as cache
-use Rattle.index.specs.Indexed.{Indexed}
 use Rattle.state.specs.declared.Limits.{Limits}
-use Rattle.state.specs.Layout.{held, Fits}
-use Rattle.variable_map.specs.Mapping.{variables, Mapped}
+use Rattle.variable_map.specs.Mapping.{variables}
 use Rattle.decision_tracker.specs.Tracking.{decisions, no_decision}
 use Rattle.marked.specs.Marked.{listed, owner_of}
 use Rattle.entries.specs.Entries.{no_entry, waiting_in}
@@ -28,10 +21,6 @@ use Rattle.encoder.specs.declared.Counters.{Counters}
 use Rattle.encoder.specs.Held.{Reading, literal_in, clauses_in, conflict_if, state_of, Sound}
 
 -- ---- fields
-
--- an owner by number, where r is the root's
-unfoldable pub owner_but : ℕ → ℕ → Owner
-owner_but r o = cond (eqb o r) root (part o)
 
 unfoldable pub decision_fields : Decision → List (List ℕ)
 decision_fields d = decimal d.variable ∷ decimal (cond d.value 1 0) ∷ decimal d.level ∷ clause_field d.clause ∷ []
@@ -88,11 +77,6 @@ entry_text c es k i = waiting_lines c (get_or es i no_entry ∷ []) k
 unfoldable pub condition_text : Catalogue → List (ℕ × ℕ) → ℕ → ℕ → List ℕ
 condition_text c es n k = texts (entry_text c es k) n
 
--- does a row assert its first variable false?
-unfoldable pub asserts_in : Catalogue → Row → Bool
-asserts_in c r =
-    cond (eqb r.kind 1) (eqb r.count 0 && eqb (length (candidates c (goal_of r.form r.number))) 0) (eqb r.kind 3 || eqb r.kind 4)
-
 -- ---- the whole
 
 module _ (c : Catalogue) (n : Counters) (st : ℕ → List ℕ) (cl : List ℕ) where
@@ -116,13 +100,6 @@ unfoldable pub second_half : Catalogue → (conditions : ℕ) → Limits → Cou
 second_half c conditions l n st cl wt = clause_notes c n st cl ++ state_notes c conditions l n st wt
 
 -- ---- what the functions ask for and give
-
--- the areas of a catalogue and of a state
-pub record Ready (k : Counts) (m u t : List ℕ) (l : Limits) (n : Counters) (b : List ℕ) : Type 0 where
-  pub kept : Indexed k m u t
-  pub formed : WellFormed (catalogue k m u t)
-  pub fits : Fits l (length b)
-  pub mapped : Mapped l n.variables (held l b)
 
 -- the stored rows can be printed
 pub record GoodRows (c : Catalogue) (l : Limits) (n : Counters) (st : ℕ → List ℕ) (cl : List ℕ) : Type 0 where

@@ -2,31 +2,31 @@
 // The same functions measure and write (`text::Writer`).
 #![tactic(auto)]
 
-ghost use Rattle.std.specs.Prelude.{false, cond, [], ◌∷◌, ◌≤◌};
+ghost use Rattle.std.specs.Prelude.{false, [], ◌∷◌, map};
 ghost use Rattle.rules.specs.Listing.{ascii, decimal, signed, owner_field, goal_fields, origin_fields, clause_field};
-ghost use Rattle.requirement.specs.Requirements.{goal_of};
+ghost use Rattle.requirement.specs.Requirements.{owner_is, goal_of};
 ghost use Rattle.text.specs.Text.{fields, literal_of};
 ghost use Rattle.text.specs.Writing.{Writes};
 ghost use Rattle.variable_map.specs.Mapping.{origin_of};
-ghost use Rattle.decision_tracker.specs.Tracking.{decision_of, clause_by};
-ghost use Rattle.line_fields.specs.Listed.{owner_but, decision_fields, texts, number_text};
+ghost use Rattle.decision_tracker.specs.Tracking.{decision_of, clause_of};
+ghost use Rattle.conditions.specs.Disjuncts.{ranges_of};
+ghost use Rattle.line_fields.specs.Listed.{decision_fields};
 
 use conditions::Disjunct;
 use decision_tracker::Decision;
-use requirement::Requirement;
+use requirement::{Owner, Requirement};
 use text::Writer;
 use variable_map::Origin;
 
 // ---- fields
 
-// The owner, root or the part's number, where `root` is the root's.
-pub fn field_owner(writer: &mut Writer, o: u16, root: u16)
-    ensures { Writes writer.old writer.new (fields (owner_field (owner_but root o) ∷ [])) }
+// The owner: the root, or the part's number.
+pub fn field_owner(writer: &mut Writer, owner: Owner)
+    ensures { Writes writer.old writer.new (fields (owner_field (owner_is owner) ∷ [])) }
 {
-    if o == root {
-        writer.field_word(b"root");
-    } else {
-        writer.field_number(o as usize);
+    match owner {
+        Owner::Root => writer.field_word(b"root"),
+        Owner::Part(part) => writer.field_number(part as usize),
     }
 }
 
@@ -55,18 +55,16 @@ fn gate_fields(writer: &mut Writer, goal: Requirement)
     goal_fields(writer, goal);
 }
 
-pub fn origin_fields(writer: &mut Writer, o: Origin)
-    ensures { Writes writer.old writer.new (fields (origin_fields (origin_of o))) }
+pub fn origin_fields(writer: &mut Writer, origin: Origin)
+    ensures { Writes writer.old writer.new (fields (origin_fields (origin_of origin))) }
 {
-    let kind = o.kind;
-    match kind {
-        0 => writer.field_word(b"root"),
-        1 => word_and_number(writer, b"part", o.number),
-        2 => word_and_number(writer, b"forbid", o.number),
-        3 => word_and_number(writer, b"one", o.number),
-        4 => word_and_number(writer, b"violation", o.number),
-        5 => gate_fields(writer, Requirement::Single(o.number)),
-        _ => gate_fields(writer, Requirement::Union(o.number)),
+    match origin {
+        Origin::Root => writer.field_word(b"root"),
+        Origin::Part(part) => word_and_number(writer, b"part", part),
+        Origin::Forbid { name, bit: _ } => word_and_number(writer, b"forbid", name),
+        Origin::One(name) => word_and_number(writer, b"one", name),
+        Origin::Violation(range) => word_and_number(writer, b"violation", range),
+        Origin::Gate(goal) => gate_fields(writer, goal),
     }
 }
 
@@ -98,33 +96,31 @@ pub fn two_literals(writer: &mut Writer, word: &[u8], x: u16, a: bool, y: u16, b
 
 // ---- decisions
 
-fn field_clause(writer: &mut Writer, clause: u16)
-    ensures { Writes writer.old writer.new (fields (clause_field (clause_by clause) ∷ [])) }
+fn field_clause(writer: &mut Writer, clause: Option<u16>)
+    ensures { Writes writer.old writer.new (fields (clause_field (clause_of clause) ∷ [])) }
 {
-    if clause == 0 {
-        writer.field_word(b"-");
-    } else {
-        writer.field_number(clause as usize - 1);
+    match clause {
+        None => writer.field_word(b"-"),
+        Some(number) => writer.field_number(number as usize),
     }
 }
 
-pub fn decision_fields(writer: &mut Writer, d: Decision)
-    ensures { Writes writer.old writer.new (fields (decision_fields (decision_of d))) }
+pub fn decision_fields(writer: &mut Writer, decision: Decision)
+    ensures { Writes writer.old writer.new (fields (decision_fields (decision_of decision))) }
 {
-    writer.field_number(d.variable as usize);
-    writer.field_number(usize::from(d.value));
-    writer.field_number(d.level as usize);
-    field_clause(writer, d.clause);
+    writer.field_number(decision.variable as usize);
+    writer.field_number(usize::from(decision.value));
+    writer.field_number(decision.level as usize);
+    field_clause(writer, decision.clause);
 }
 
 // ---- waiting entries
 
-// The numbers of a disjunct.
-pub fn disjunct_fields(writer: &mut Writer, d: Disjunct)
-    requires { d.len ≤ 16 }
-    ensures { Writes writer.old writer.new (texts (number_text d.ranges) d.len) }
+// The ranges of a disjunct.
+pub fn disjunct_fields(writer: &mut Writer, disjunct: &Disjunct)
+    ensures { Writes writer.old writer.new (fields (map decimal (ranges_of disjunct.now))) }
 {
-    for j in 0..d.len {
-        writer.field_number(d.ranges[j] as usize);
+    for range in disjunct.ranges() {
+        writer.field_number(*range as usize);
     }
 }

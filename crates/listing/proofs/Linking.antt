@@ -1,26 +1,26 @@
 -- The chains of the waiting entries: an entry is put before those that are linked, and a walk along a chain prints the lines of its condition.
-use mathlib.Core.Path.{◌≡◌, refl, sym, ◌∙◌}
-use mathlib.Core.Bool.{Bool, true, false, true≢false, cond}
+use mathlib.Core.Path.{◌≡◌, refl, sym}
+use mathlib.Core.Bool.{Bool, true, false, true≢false}
 use mathlib.Core.List.{List}
-use mathlib.Core.Option.{none, some}
+use mathlib.Core.Option.{some}
 use Prim.Native.Nat.{ℕ, ◌+◌, ◌-◌, ◌<◌, ◌≤◌}
 use native.Mathlib.Omega.{arith}
 use native.Mathlib.Decide.{ℕ_discrete}
-use lib.Dec.{eqb}
-use lib.ListN.{length, get_or, set, replicate, length-set, length-replicate, get_or-replicate}
+use lib.ListN.{get_or, set, replicate, length-set, length-replicate, get_or-replicate}
 use lib.Seq.{get_or-set_same, get_or-set_other}
 use borrow.Author.Tests.{eqb-true, eq-eqb, ne_eqb}
+use Rattle.std.specs.Prelude as code
+use Rattle.std.specs.Prelude.{Some, None, is_some}
 use Rattle.rules.specs.Catalogue.{Catalogue, no_requirement, condition_at}
 use Rattle.rules.specs.Conditions.{is_none, unconditional}
-use Rattle.rules.specs.Items.{condition_of}
 use Rattle.rules.proofs.Each.{each_at}
 use Rattle.rules.proofs.Valid as valid
-use Rattle.rules.proofs.WellFormed.{WellFormed, ConditionGiven}
+use Rattle.rules.proofs.WellFormed.{WellFormed}
 use Rattle.text.specs.declared.Writer.{Writer}
 use Rattle.text.specs.Writing.{Writes}
 use Rattle.text.proofs.Writing.{nothing}
 use Rattle.requirement.specs.declared.ConditionalRequirement.{ConditionalRequirement}
-use Rattle.requirement.specs.Requirements.{requirement_is}
+use Rattle.requirement.specs.Requirements.{condition_is, requirement_is}
 use Rattle.tables.specs.declared.Counts.{Counts}
 use Rattle.tables.specs.Tables.{tables}
 use Rattle.cache.specs.Areas.{catalogue}
@@ -39,30 +39,25 @@ use Rattle.listing.proofs.Waiting.{condition_named, no_line}
 
 -- ---- the condition of an entry
 
-given_some : (c : Catalogue) (x : ℕ) → is_none (condition_of x) ≡ false → ConditionGiven c (condition_of x) → (condition_of x ≡ some x) × (x < length c.conditions)
-unfolding condition_of
-given_some c x = go (eqb x 65535)
-  where
-    go : (b : Bool) → is_none (cond b none (some x)) ≡ false → ConditionGiven c (cond b none (some x)) → (cond b none (some x) ≡ some x) × (x < length c.conditions)
-    go true e g = absurd (true≢false e)
-    go false e g = (refl, g)
+module _ (k : Counts) (m u t : List ℕ) (l : Limits) (n : ℕ) (w : List ℕ) (i : ℕ) (x : entries.Entry) (q : ConditionalRequirement)
+    (d : requirement_is q ≡ get_or (tables k t).requirements x.requirement no_requirement) (e : entry_of x ≡ get_or (waiting_in l n w) i no_entry)
+    (a : AllGiven (catalogue k m u t) (waiting_in l n w)) (h : i < n) where
+  given : valid.Entry (catalogue k m u t) (entry_of x)
+  given = rw e (each_at a.given i no_entry (rw (waiting_counted l n w) h))
 
-module _ (k : Counts) (m u t : List ℕ) (x : entries.Entry) (q : ConditionalRequirement)
-    (d : requirement_is q ≡ get_or (tables k t).requirements x.requirement no_requirement) (f : WellFormed (catalogue k m u t)) where
-  given_key : valid.Entry (catalogue k m u t) (entry_of x)
-      → (condition_at (catalogue k m u t) x.requirement ≡ some q.condition) × (q.condition < k.conditions)
+  pub has_condition : is_some q.condition ≡ true
   unfolding entry_of unconditional
-  given_key g =
-      let e = condition_named k m u t x q d in
-      let h = given_some (catalogue k m u t) q.condition (rw e at g.conditional) (rw e at (f.requirements x.requirement g.requirement).condition) in
-      (e ∙ h.0, rw conditions_held at h.1)
+  has_condition = go q.condition (rw (condition_named k m u t x q d) at given.conditional)
+    where
+      go : (c : code.Option ℕ) → is_none (condition_is c) ≡ false → is_some c ≡ true
+      go None f = absurd (true≢false f)
+      go (Some c) f = refl
 
-  pub entry_key : (l : Limits) (n : ℕ) (w : List ℕ) (i : ℕ) → entry_of x ≡ get_or (waiting_in l n w) i no_entry → AllGiven (catalogue k m u t) (waiting_in l n w) → i < n
-      → Key (catalogue k m u t) (waiting_in l n w) k.conditions i q.condition
+  pub entry_key : WellFormed (catalogue k m u t) → (j : ℕ) → q.condition ≡ Some j → Key (catalogue k m u t) (waiting_in l n w) k.conditions i j
   unfolding entry_of
-  entry_key l n w i e a h =
-      let g = given_key (rw e (each_at a.given i no_entry (rw (waiting_counted l n w) h))) in
-      record { is = rw (← e) g.0; low = g.1 }
+  entry_key f j z =
+      let c : condition_at (catalogue k m u t) x.requirement ≡ some j = rw z at (condition_named k m u t x q d) in
+      record { is = rw (← e) c; low = rw conditions_held at (rw c at (f.requirements x.requirement given.requirement).condition) }
 
 -- ---- no entry, and one more
 

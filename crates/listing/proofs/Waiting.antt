@@ -10,7 +10,6 @@ use borrow.Author.Tests.{eqb-true, eq-eqb}
 use Rattle.rules.specs.Lists.{filter, concat_map, up_to}
 use Rattle.rules.specs.Catalogue.{Requirement, Catalogue, no_requirement, requirement_at, condition_at}
 use Rattle.rules.specs.Conditions.{disjuncts, disjuncts_if, is_condition, disjuncts_of, disjunct_at}
-use Rattle.rules.specs.Items as items
 use Rattle.rules.specs.Listing.{ascii, decimal, line, owner_field, goal_fields, waiting_line, waiting_lines}
 use Rattle.rules.proofs.Each.{Each, each_at}
 use Rattle.rules.proofs.Valid.{Entry}
@@ -19,9 +18,11 @@ use Rattle.text.specs.declared.Writer.{Writer}
 use Rattle.text.specs.Writing.{Writes}
 use Rattle.text.proofs.Writing.{fields_first, fields_then, line_is, nothing}
 use Rattle.requirement.specs.declared.ConditionalRequirement.{ConditionalRequirement}
-use Rattle.requirement.specs.Requirements.{goal_of, requirement_is}
+use Rattle.requirement.specs.Requirements.{owner_is, goal_of, condition_is, requirement_is}
 use Rattle.tables.specs.declared.Counts.{Counts}
+use Rattle.tables.specs.declared.Tables.{Tables}
 use Rattle.tables.specs.Tables.{tables}
+use Rattle.tables.specs.Views.{tables_of}
 use Rattle.cache.specs.Areas.{catalogue}
 use Rattle.cache.proofs.Laws.{conditions_same, requirement_held}
 use Rattle.state.specs.declared.Limits.{Limits}
@@ -29,15 +30,15 @@ use Rattle.entries.specs.declared.Entry as entries
 use Rattle.entries.specs.Entries.{no_entry, entry_of, waiting_in}
 use Rattle.encoder.proofs.Frames.{waiting_counted}
 use Rattle.goals.specs.Goals.{AllGiven}
-use Rattle.line_fields.specs.Listed.{owner_but, entry_fields, entry_text, condition_text, texts}
+use Rattle.line_fields.specs.Listed.{entry_fields, entry_text, condition_text, texts}
 use Rattle.listing.specs.Chains.{is_under}
 
 -- ---- an entry's fields and its line
 
 module _ {w w1 w2 w3 : Writer} where
-  pub entry_fields_law : (q : ConditionalRequirement) (rs : List ℕ) → Writes w w1 (fields (owner_field (owner_but 65535 q.owner) ∷ []))
+  pub entry_fields_law : (q : ConditionalRequirement) (rs : List ℕ) → Writes w w1 (fields (owner_field (owner_is q.owner) ∷ []))
       → Writes w1 w2 (fields (goal_fields (goal_of q.requirement))) → Writes w2 w3 (fields (map decimal rs)) → Writes w w3 (fields (entry_fields (requirement_is q) rs))
-  unfolding entry_fields requirement_is owner_but items.owner_of
+  unfolding entry_fields requirement_is
   entry_fields_law q rs u v x = fields_then (_ ∷ []) _ u (fields_then (goal_fields (goal_of q.requirement)) _ v x)
 
   pub entry_line : {w4 : Writer} (q : Requirement) (rs : List ℕ) (c : ℕ) → Writes w w1 (119 ∷ []) → Writes w1 w2 (32 ∷ decimal c)
@@ -72,15 +73,14 @@ module _ (k : Counts) (m u t : List ℕ) (x : entries.Entry) (q : ConditionalReq
   named : requirement_at (catalogue k m u t) x.requirement ≡ requirement_is q
   named = requirement_held k m u t x.requirement ∙ sym d
 
-  pub condition_named : condition_at (catalogue k m u t) x.requirement ≡ items.condition_of q.condition
+  pub condition_named : condition_at (catalogue k m u t) x.requirement ≡ condition_is q.condition
   unfolding requirement_is
   condition_named = ap (λ (r : Requirement). r.condition) named
 
-  pub under : {w w1 : Writer} (c : ℕ) → condition_at (catalogue k m u t) x.requirement ≡ some c
-      → Writes w w1 (line (ascii "w" ∷ decimal c ∷ entry_fields (requirement_is q) (get_or (disjuncts (tables k t).conditions c) x.disjunct [])))
-      → Writes w w1 (waiting_lines (catalogue k m u t) (entry_of x ∷ []) c)
+  pub under : {w w1 : Writer} {rs : List ℕ} (c : ℕ) → rs ≡ get_or (disjuncts (tables k t).conditions c) x.disjunct [] → condition_at (catalogue k m u t) x.requirement ≡ some c
+      → Writes w w1 (line (ascii "w" ∷ decimal c ∷ entry_fields (requirement_is q) rs)) → Writes w w1 (waiting_lines (catalogue k m u t) (entry_of x ∷ []) c)
   unfolding entry_of
-  under c z f = rw (one_entry (catalogue k m u t) c x.requirement x.disjunct z, named, conditions_same k m u t) f
+  under c g z f = rw (one_entry (catalogue k m u t) c x.requirement x.disjunct z, named, conditions_same k m u t, ← g) f
 
 -- the disjunct is one of the condition's, since the entry is given
 pub entry_disjunct : (k : Counts) (m u t : List ℕ) (x : entries.Entry) (c : ℕ) → condition_at (catalogue k m u t) x.requirement ≡ some c
@@ -89,6 +89,10 @@ unfolding entry_of
 entry_disjunct k m u t x c z a =
     let s : Entry (catalogue k m u t) (entry_of x) = each_at a.given 0 no_entry (omega arith) in
     rw (same_disjuncts (catalogue k m u t) c x.requirement z, conditions_same k m u t) at s.disjunct
+
+-- in other tables that are the same
+pub disjunct_there : {ts ts' : Tables} (c i : ℕ) → ts ≡ ts' → i < length (disjuncts (tables_of ts').conditions c) → i < length (disjuncts (tables_of ts).conditions c)
+disjunct_there c i e h = rw (sym e) at h
 
 -- ---- entry i
 

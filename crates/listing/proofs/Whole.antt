@@ -12,16 +12,14 @@ use Rattle.rules.specs.Variables.{Origin, chosen}
 use Rattle.rules.specs.Listing.{ascii, decimal, line, numbered, owner_field, origin_fields, clause_fields, decision_line, assertions, waiting_lines, listing}
 use Rattle.rules.proofs.Bools.{by_cases}
 use Rattle.rules.proofs.ListLaws.{concat_map_append}
-use Rattle.rules.proofs.WellFormed.{WellFormed}
 use Rattle.text.specs.declared.Writer.{Writer}
 use Rattle.text.specs.Writing.{Writes}
 use Rattle.text.proofs.Writing.{wrote, then}
 use Rattle.tables.specs.declared.Counts.{Counts}
 use Rattle.cache.specs.Areas.{catalogue}
 use Rattle.cache.proofs.Laws.{conditions_held}
-use Rattle.index.specs.Indexed.{Indexed}
 use Rattle.state.specs.declared.Limits.{Limits}
-use Rattle.state.specs.Layout.{held, Fits}
+use Rattle.state.specs.Layout.{held}
 use Rattle.variable_map.specs.Mapping.{variables}
 use Rattle.variable_map.proofs.Laws as variables
 use Rattle.decision_tracker.specs.Tracking.{decisions, no_decision}
@@ -33,7 +31,7 @@ use Rattle.solver.specs.Rows.{Row, no_row, rows}
 use Rattle.encoder.specs.declared.Counters.{Counters}
 use Rattle.encoder.specs.Held.{Reading, conflict_if, conflicts_from, opening_of, state_of, Good, LongEnough}
 use Rattle.encoder.proofs.Frames.{clauses_counted, waiting_counted}
-use Rattle.line_fields.specs.Listed.{texts, variable_text, clause_text, owner_text, name_text, conflict_lines, conflict_text, assertion_text, decision_text, entry_text, condition_text, clauses_of, first_half, clause_notes, state_notes, second_half, Ready, GoodRows, Lists}
+use Rattle.line_fields.specs.Listed.{texts, variable_text, clause_text, owner_text, name_text, conflict_lines, conflict_text, assertion_text, decision_text, entry_text, condition_text, clauses_of, first_half, clause_notes, state_notes, second_half, GoodRows, Lists}
 use Rattle.line_fields.proofs.Printing.{indexed, indexed_is, each_is, concat_map_map}
 use Rattle.clause_lines.proofs.Clauses.{rows_counted}
 
@@ -154,9 +152,6 @@ pub waiting_long : {l : Limits} {x y : ℕ} → LongEnough l x y → Long l y
 waiting_long e = record { waiting = e.waiting; long = e.entries }
 
 module _ (k : Counts) (m u t : List ℕ) (l : Limits) (n : Counters) (b cl wt : List ℕ) where
-  pub made_ready : Indexed k m u t → WellFormed (catalogue k m u t) → Fits l (length b) → Good (catalogue k m u t) l n (held l b) cl wt → Ready k m u t l n b
-  made_ready f e g h = record { kept = f; formed = e; fits = g; mapped = h.state.mapped }
-
   pub good_rows : LongEnough l (length cl) (length wt) → Good (catalogue k m u t) l n (held l b) cl wt → GoodRows (catalogue k m u t) l n (held l b) cl
   good_rows e g =
       record { few = omega (arith, g.clauses.room, e.most); long = omega (arith, g.clauses.room, e.clauses); literals = g.state.literals; sound = g.clauses.sound }

@@ -1,15 +1,13 @@
 // The chains of the waiting entries by condition, so that each condition's lines are found without a look at the other entries.
 ghost use Rattle.std.specs.Prelude.{◌≡◌, ◌+◌, ◌<◌, ◌≤◌, length, get_or, set, replicate};
-ghost use Rattle.rules.proofs.WellFormed.{WellFormed};
-ghost use Rattle.cache.specs.Areas.{catalogue};
-ghost use Rattle.index.specs.Indexed.{Indexed};
 ghost use Rattle.entries.specs.Entries.{waiting_in, Long};
 ghost use Rattle.goals.specs.Goals.{AllGiven};
 ghost use Rattle.listing.specs.Chains.{Key, Linked};
+ghost use Rattle.index.specs.Views.{catalogue_of, counts_of};
 
 use encoder::Counters;
+use index::Catalogue;
 use state::Limits;
-use tables::Counts;
 
 // For each condition its first entry, and for each entry the next one of the same condition. The number of entries ends a chain.
 #[derive(Drop)]
@@ -19,26 +17,19 @@ pub struct Chains {
 }
 
 // The condition of entry i.
-fn key(
-    marks: &[u8],
-    unions: &[u8],
-    t: &[u8],
-    k: Counts,
-    w: &[u8],
-    l: Limits,
-    n: Counters,
-    i: usize,
-) -> usize
-    requires indexed { Indexed k marks.now unions.now t.now }
-    requires well_formed { WellFormed (catalogue k marks.now unions.now t.now) }
+fn key(catalogue: &Catalogue, w: &[u8], l: Limits, n: Counters, i: usize) -> usize
     requires long { Long l (length w.now) × (n.waiting ≤ l.waiting) }
-    requires all_given { AllGiven (catalogue k marks.now unions.now t.now) (waiting_in l n.waiting w.now) }
+    requires all_given { AllGiven (catalogue_of catalogue.now) (waiting_in l n.waiting w.now) }
     requires i_lt_waiting { i < n.waiting }
-    ensures { Key (catalogue k marks.now unions.now t.now) (waiting_in l n.waiting w.now) k.conditions i result }
+    ensures { Key (catalogue_of catalogue.now) (waiting_in l n.waiting w.now) (counts_of catalogue.now).conditions i result }
 {
-    let e = entries::waiting_at(w, l, n.waiting, i);
-    let q = tables::requirement_at(t, k, e.requirement as usize);
-    q.condition as usize
+    let entry = entries::waiting_at(w, l, n.waiting, i);
+    let requirement = catalogue
+        .index
+        .areas
+        .tables
+        .requirement_at(entry.requirement as usize);
+    requirement.condition.unwrap() as usize
 }
 
 impl Chains {
@@ -62,48 +53,25 @@ impl Chains {
     }
 
     // Entry i, those behind it being linked.
-    fn link_entry(
-        &mut self,
-        marks: &[u8],
-        unions: &[u8],
-        t: &[u8],
-        k: Counts,
-        w: &[u8],
-        l: Limits,
-        n: Counters,
-        i: usize,
-    )
-        requires indexed { Indexed k marks.now unions.now t.now }
-        requires well_formed { WellFormed (catalogue k marks.now unions.now t.now) }
+    fn link_entry(&mut self, catalogue: &Catalogue, w: &[u8], l: Limits, n: Counters, i: usize)
         requires long { Long l (length w.now) × (n.waiting ≤ l.waiting) }
-        requires all_given { AllGiven (catalogue k marks.now unions.now t.now) (waiting_in l n.waiting w.now) }
-        requires linked { Linked (catalogue k marks.now unions.now t.now) (waiting_in l n.waiting w.now) n.waiting k.conditions (i + 1) self.old.heads self.old.links × (i < n.waiting) }
-        ensures { Linked (catalogue k marks.now unions.now t.now) (waiting_in l n.waiting w.now) n.waiting k.conditions i self.new.heads self.new.links }
+        requires all_given { AllGiven (catalogue_of catalogue.now) (waiting_in l n.waiting w.now) }
+        requires linked { Linked (catalogue_of catalogue.now) (waiting_in l n.waiting w.now) n.waiting (counts_of catalogue.now).conditions (i + 1) self.old.heads self.old.links × (i < n.waiting) }
+        ensures { Linked (catalogue_of catalogue.now) (waiting_in l n.waiting w.now) n.waiting (counts_of catalogue.now).conditions i self.new.heads self.new.links }
     {
-        let c = key(marks, unions, t, k, w, l, n, i);
+        let c = key(catalogue, w, l, n, i);
         self.link(c, i);
     }
 
     // All of them, no condition having an entry yet.
-    pub fn link_entries(
-        &mut self,
-        marks: &[u8],
-        unions: &[u8],
-        t: &[u8],
-        k: Counts,
-        w: &[u8],
-        l: Limits,
-        n: Counters,
-    )
-        requires indexed { Indexed k marks.now unions.now t.now }
-        requires well_formed { WellFormed (catalogue k marks.now unions.now t.now) }
+    pub fn link_entries(&mut self, catalogue: &Catalogue, w: &[u8], l: Limits, n: Counters)
         requires long { Long l (length w.now) × (n.waiting ≤ l.waiting) }
-        requires all_given { AllGiven (catalogue k marks.now unions.now t.now) (waiting_in l n.waiting w.now) }
+        requires all_given { AllGiven (catalogue_of catalogue.now) (waiting_in l n.waiting w.now) }
         requires heads_value { (self.old.heads ≡ replicate 256 n.waiting) × (self.old.links ≡ replicate 2048 0) }
-        ensures { Linked (catalogue k marks.now unions.now t.now) (waiting_in l n.waiting w.now) n.waiting k.conditions 0 self.new.heads self.new.links }
+        ensures { Linked (catalogue_of catalogue.now) (waiting_in l n.waiting w.now) n.waiting (counts_of catalogue.now).conditions 0 self.new.heads self.new.links }
     {
         for i in (0..n.waiting).rev() {
-            self.link_entry(marks, unions, t, k, w, l, n, i);
+            self.link_entry(catalogue, w, l, n, i);
         }
     }
 

@@ -142,8 +142,8 @@ module _ {r m n x : ℕ} {st : ℕ → List ℕ} (f : Free r m n x st) where
       length_after : (j : ℕ) → length (after j) ≡ length (st j)
       length_after j = length_stored (stored st r n x) m x 1 j ∙ length_stored st r n x j
 
-  pub push_is : (st₁ st₂ : ℕ → List ℕ) → st₁ ≡ stored st r n x → st₂ ≡ stored st₁ m x 1 → Pushed r m n x st (n + 1) st₂
-  push_is st₁ st₂ e d = rw (d, e) pushed
+  pub push_is : (st₁ st₂ : ℕ → List ℕ) (a b : ℕ) → a ≡ r → b ≡ m → st₁ ≡ stored st a n x → st₂ ≡ stored st₁ b x 1 → Pushed r m n x st (n + 1) st₂
+  push_is st₁ st₂ a b p q e d = rw (d, e, p, q) pushed
 
 -- ---- clear
 

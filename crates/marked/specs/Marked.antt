@@ -4,6 +4,25 @@ use Rattle.rules.specs.Lists.{elem, snoc}
 use Rattle.rules.specs.Catalogue.{Owner, root, part}
 use Rattle.rules.proofs.Membership.{Once}
 use Rattle.state.specs.Changed.{Changed}
+use Rattle.marked.specs.declared.MarkedList.{MarkedList}
+use Rattle.marked.specs.declared.MarkedList.TheVariants.{Owners, Names, Added, Named, Tracked, Candidates}
+
+-- the regions of a list and of its marks
+abbrev pub list_of : MarkedList → ℕ
+list_of Owners = 1
+list_of Names = 3
+list_of Added = 6
+list_of Named = 8
+list_of Tracked = 10
+list_of Candidates = 14
+
+abbrev pub marks_of : MarkedList → ℕ
+marks_of Owners = 2
+marks_of Names = 4
+marks_of Added = 7
+marks_of Named = 9
+marks_of Tracked = 11
+marks_of Candidates = 15
 
 -- the first n numbers of region r
 unfoldable pub listed : (n r : ℕ) → (ℕ → List ℕ) → List ℕ

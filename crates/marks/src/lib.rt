@@ -32,74 +32,103 @@ fn with_bit(x: u8, j: usize) -> u8
     x + power_of(j)
 }
 
-// Is part p a member of range r?
-pub fn marked(m: &[u8], r: usize, p: usize) -> bool
-    requires { (r < 512) × (65536 ≤ length m.now) }
-    ensures { result ≡ is_marked m.now r p }
-{
-    if p < 1024 {
-        has(m[r * 128 + p / 8], p % 8)
-    } else {
-        false
-    }
+// The bits in a lent area that has room for them all.
+#[derive(Clone, Copy)]
+pub struct Marks<'a> {
+    pub area: &'a [u8],
+    pub ghost room: { 65536 ≤ length area.now },
 }
 
-// The first member of range r from `from` on, of the parts below `to`; or `to`. Eight parts without a member are passed at once.
-pub fn next(m: &[u8], r: usize, from: usize, to: usize) -> usize
-    requires { (r < 512) × (65536 ≤ length m.now) × (from ≤ to) × (to ≤ 1024) }
-    ensures { NextMember m.now r from to result }
-{
-    let mut p = from;
-    while p < to {
-        let x = m[r * 128 + p / 8];
-        if x == 0 {
-            p = p + 8 - p % 8;
+impl Marks<'_> {
+    // Is part p a member of range r?
+    pub fn marked(&self, r: usize, p: usize) -> bool
+        requires { r < 512 }
+        ensures { result ≡ is_marked self.now.area.now r p }
+    {
+        if p < 1024 {
+            has(self.area[r * 128 + p / 8], p % 8)
         } else {
-            if has(x, p % 8) {
-                return p;
-            }
-            p += 1;
+            false
         }
     }
-    to
-}
 
-// One behind the last member of range r, of the parts below `to`; or 0.
-pub fn end(m: &[u8], r: usize, to: usize) -> usize
-    requires { (r < 512) × (65536 ≤ length m.now) × (to ≤ 1024) }
-    ensures { EndOfMembers m.now r to result }
-{
-    let mut p = to;
-    while 0 < p {
-        let q = p - 1;
-        let x = m[r * 128 + q / 8];
-        if x == 0 {
-            p = q - q % 8;
-        } else {
-            if has(x, q % 8) {
-                return p;
+    // The first member of range r from `from` on, of the parts below `to`; or `to`. Eight parts without a member are passed at once.
+    pub fn next(&self, r: usize, from: usize, to: usize) -> usize
+        requires { (r < 512) × (from ≤ to) × (to ≤ 1024) }
+        ensures { NextMember self.now.area.now r from to result }
+    {
+        // Kept: no plainer: a step is one part or the rest of a byte, so no `for` counts it.
+        let mut p = from;
+        while p < to {
+            let x = self.area[r * 128 + p / 8];
+            if x == 0 {
+                p = p + 8 - p % 8;
+            } else {
+                if has(x, p % 8) {
+                    return p;
+                }
+                p += 1;
             }
-            p = q;
         }
+        to
     }
-    0
+
+    // One behind the last member of range r, of the parts below `to`; or 0.
+    pub fn end(&self, r: usize, to: usize) -> usize
+        requires { (r < 512) × (to ≤ 1024) }
+        ensures { EndOfMembers self.now.area.now r to result }
+    {
+        // Kept: no plainer: as in `next`, downwards.
+        let mut p = to;
+        while 0 < p {
+            let q = p - 1;
+            let x = self.area[r * 128 + q / 8];
+            if x == 0 {
+                p = q - q % 8;
+            } else {
+                if has(x, q % 8) {
+                    return p;
+                }
+                p = q;
+            }
+        }
+        0
+    }
 }
 
-// Part p becomes a member of range r.
-pub fn mark(m: &mut [u8], r: usize, p: usize)
-    requires { (r < 512) × (65536 ≤ length m.old) × (p < 1024) }
-    ensures { Marked m.old m.new r p }
-{
-    let at = r * 128 + p / 8;
-    m[at] = with_bit(m[at], p % 8);
+// The same area, to be written.
+#[derive(Drop)]
+pub struct MarksMut<'a> {
+    pub area: &'a mut [u8],
+    pub ghost room: { 65536 ≤ length area.now },
 }
 
-// Range r has no member.
-pub fn clear_row(m: &mut [u8], r: usize)
-    requires { (r < 512) × (65536 ≤ length m.old) }
-    ensures { Cleared m.old m.new r }
-{
-    let from = r * 128;
-    let to = from + 128;
-    words::clear(&mut m[from..to]);
+impl MarksMut<'_> {
+    // The same bits, to be read.
+    pub fn as_marks(&self) -> Marks<'_>
+        ensures { result.area.now ≡ self.now.area.now }
+    {
+        Marks { area: self.area }
+    }
+
+    // Part p becomes a member of range r.
+    pub fn mark(&mut self, r: usize, p: usize)
+        requires { (r < 512) × (p < 1024) }
+        ensures marked { Marked self.old.area.now self.new.area.now r p }
+        ensures same_area { self.new.area.ghost_name ≡ self.old.area.ghost_name }
+    {
+        let at = r * 128 + p / 8;
+        self.area[at] = with_bit(self.area[at], p % 8);
+    }
+
+    // Range r has no member.
+    pub fn clear_row(&mut self, r: usize)
+        requires { r < 512 }
+        ensures cleared { Cleared self.old.area.now self.new.area.now r }
+        ensures same_area { self.new.area.ghost_name ≡ self.old.area.ghost_name }
+    {
+        let from = r * 128;
+        let to = from + 128;
+        self.area[from..to].fill(0);
+    }
 }

@@ -1,11 +1,10 @@
 -- The first candidate of a range: found along its members, and named for tracking unless one of its name was.
 use mathlib.Core.Path.{◌≡◌, refl, sym, ◌∙◌, ap}
-use mathlib.Core.Bool.{Bool, true, false, not}
+use mathlib.Core.Bool.{Bool, true, false}
 use mathlib.Core.List.{List, [], ◌∷◌, ◌++◌}
 use Prim.Native.Nat.{ℕ, ◌+◌, ◌<◌, ◌≤◌}
 use native.Mathlib.Numerals.{add-one}
 use native.Mathlib.Omega.{arith}
-use lib.Dec.{eqb}
 use lib.ListN.{length, get_or, set, take, replicate, length-replicate, get_or-eq_default}
 use lib.Seq.{take_all, take-suc, set_out}
 use Rattle.rules.specs.Lists.{fold, unless}
@@ -64,23 +63,19 @@ module _ (k : Counts) (m u t : List ℕ) (r : ℕ) where
 
 -- ---- flags of names
 
-pub seen_within : (seen : List ℕ) (i : ℕ) (b : Bool) → b ≡ not (eqb (get_or seen i 0) 0) → b ≡ is_seen seen i
+pub seen_past : (seen : List Bool) (i : ℕ) → length seen ≤ i → false ≡ is_seen seen i
 unfolding is_seen
-seen_within seen i b e = e
+seen_past seen i h = rw (get_or-eq_default seen false h)
 
-pub seen_past : (seen : List ℕ) (i : ℕ) → length seen ≤ i → false ≡ is_seen seen i
-unfolding is_seen
-seen_past seen i h = rw (get_or-eq_default seen 0 h)
-
-pub set_past : (seen : List ℕ) (i : ℕ) → length seen ≤ i → seen ≡ set seen i 1
-set_past seen i h = sym (set_out seen i 1 h)
+pub set_past : (seen : List Bool) (i : ℕ) → length seen ≤ i → seen ≡ set seen i true
+set_past seen i h = sym (set_out seen i true h)
 
 -- ---- it is named, unless one of its name was
 
 name_is : (k : Counts) (m u t : List ℕ) (r : ℕ) {x : ℕ} → x ≡ get_or (tables k t).ranges r 0 → range_name (catalogue k m u t) r ≡ x
 name_is k m u t r e = range_name_held k m u t r ∙ sym e
 
-module _ (k : Counts) (m u t : List ℕ) (l : Limits) (r : ℕ) {x : ℕ} (e : x ≡ get_or (tables k t).ranges r 0) (seen : List ℕ) {b : Bool} (d : b ≡ is_seen seen x) where
+module _ (k : Counts) (m u t : List ℕ) (l : Limits) (r : ℕ) {x : ℕ} (e : x ≡ get_or (tables k t).ranges r 0) (seen : List Bool) {b : Bool} (d : b ≡ is_seen seen x) where
   pub first_seen : b ≡ true → {n : Counters} {st : ℕ → List ℕ} → NamesFirst (catalogue k m u t) l r seen n st seen n st
   first_seen h =
       record {
@@ -89,7 +84,7 @@ module _ (k : Counts) (m u t : List ℕ) (l : Limits) (r : ℕ) {x : ℕ} (e : x
       }
 
   module _ (h : b ≡ false) {p : ℕ} (f : FirstOf (matching (catalogue k m u t) r) k.parts p) where
-    pub first_named : p < k.parts → {n n' : Counters} {st st' : ℕ → List ℕ} {seen' : List ℕ} → seen' ≡ set seen x 1
+    pub first_named : p < k.parts → {n n' : Counters} {st st' : ℕ → List ℕ} {seen' : List Bool} → seen' ≡ set seen x true
         → StateDid (catalogue k m u t) l (λ v. on_opening (name_for_tracking (catalogue k m u t) p)) n st n' st'
         → NamesFirst (catalogue k m u t) l r seen n st seen' n' st'
     first_named low g a =
@@ -108,42 +103,42 @@ module _ (k : Counts) (m u t : List ℕ) (l : Limits) (r : ℕ) {x : ℕ} (e : x
 -- ---- one range after another
 
 -- the flags after these ranges
-unfoldable pub seen_of : Catalogue → List ℕ → List ℕ → List ℕ
+unfoldable pub seen_of : Catalogue → List ℕ → List Bool → List Bool
 seen_of c rs seen = fold (seen_after c) rs seen
 
-firsts_more : (c : Catalogue) (rs : List ℕ) (r : ℕ) (seen : List ℕ) (o : Opening)
+firsts_more : (c : Catalogue) (rs : List ℕ) (r : ℕ) (seen : List Bool) (o : Opening)
     → name_firsts c (rs ++ (r ∷ [])) seen o ≡ first_unless c (seen_of c rs seen) r (name_firsts c rs seen o)
 unfolding name_firsts seen_of fold
 firsts_more c [] r seen o = refl
 firsts_more c (x ∷ rs) r seen o = firsts_more c rs r (seen_after c x seen) (first_unless c seen x o)
 
-seen_more : (c : Catalogue) (rs : List ℕ) (r : ℕ) (seen : List ℕ) → seen_of c (rs ++ (r ∷ [])) seen ≡ seen_after c r (seen_of c rs seen)
+seen_more : (c : Catalogue) (rs : List ℕ) (r : ℕ) (seen : List Bool) → seen_of c (rs ++ (r ∷ [])) seen ≡ seen_after c r (seen_of c rs seen)
 unfolding seen_of fold
 seen_more c rs r seen = fold_append (seen_after c) rs (r ∷ []) seen
 
 -- the first j ranges were passed
-pub record FirstsPassed (c : Catalogue) (l : Limits) (ranges : ℕ) (n₀ : Counters) (s₀ : List ℕ) (n : Counters) (s seen : List ℕ) (j : ℕ) : Type 0 where
+pub record FirstsPassed (c : Catalogue) (l : Limits) (ranges : ℕ) (n₀ : Counters) (s₀ : List ℕ) (n : Counters) (s : List ℕ) (seen : List Bool) (j : ℕ) : Type 0 where
   pub within : j ≤ ranges
   pub same : length s ≡ length s₀
   pub alone : GoodAlone c l n (held l s)
   pub long : length seen ≡ 64
-  pub flags : seen ≡ seen_of c (take j (listed ranges 14 (held l s₀))) (replicate 64 0)
-  pub did : StateDid c l (λ v. on_opening (name_firsts c (take j (listed ranges 14 (held l s₀))) (replicate 64 0))) n₀ (held l s₀) n (held l s)
+  pub flags : seen ≡ seen_of c (take j (listed ranges 14 (held l s₀))) (replicate 64 false)
+  pub did : StateDid c l (λ v. on_opening (name_firsts c (take j (listed ranges 14 (held l s₀))) (replicate 64 false))) n₀ (held l s₀) n (held l s)
 
 module _ {c : Catalogue} {l : Limits} {ranges : ℕ} {n₀ : Counters} {s₀ : List ℕ} where
-  pub firsts_start : GoodAlone c l n₀ (held l s₀) → FirstsPassed c l ranges n₀ s₀ n₀ s₀ (replicate 64 0) 0
+  pub firsts_start : GoodAlone c l n₀ (held l s₀) → FirstsPassed c l ranges n₀ s₀ n₀ s₀ (replicate 64 false) 0
   firsts_start g =
       record {
         within = omega arith;
         same = refl;
         alone = g;
-        long = length-replicate {A = ℕ} 64 0;
+        long = length-replicate {A = Bool} 64 false;
         flags = unfold seen_of fold in refl;
         did = state_none (λ v s. unfold on_opening name_firsts in refl);
       }
 
-  module _ {n : Counters} {s seen : List ℕ} {j : ℕ} (x : FirstsPassed c l ranges n₀ s₀ n s seen j) (g : GoodAlone c l n₀ (held l s₀)) (k : Marked 14 15 ranges (held l s₀)) where
-    pub firsts_step : {n' : Counters} {s' seen' : List ℕ} (y : ℕ) → y ≡ get_or (listed ranges 14 (held l s)) j 0 → j < ranges → length s' ≡ length s → length seen' ≡ length seen
+  module _ {n : Counters} {s : List ℕ} {seen : List Bool} {j : ℕ} (x : FirstsPassed c l ranges n₀ s₀ n s seen j) (g : GoodAlone c l n₀ (held l s₀)) (k : Marked 14 15 ranges (held l s₀)) where
+    pub firsts_step : {n' : Counters} {s' : List ℕ} {seen' : List Bool} (y : ℕ) → y ≡ get_or (listed ranges 14 (held l s)) j 0 → j < ranges → length s' ≡ length s → length seen' ≡ length seen
         → NamesFirst c l y seen n (held l s) seen' n' (held l s') → FirstsPassed c l ranges n₀ s₀ n' s' seen' (j + 1)
     firsts_step y e h i w d =
         let xs = listed ranges 14 (held l s₀) in
@@ -154,10 +149,10 @@ module _ {c : Catalogue} {l : Limits} {ranges : ℕ} {n₀ : Counters} {s₀ : L
           same = i ∙ x.same;
           alone = alone_after d.did x.alone;
           long = w ∙ x.long;
-          flags = rw more (d.flags ∙ rw x.flags (sym (seen_more c (take j xs) y (replicate 64 0))));
+          flags = rw more (d.flags ∙ rw x.flags (sym (seen_more c (take j xs) y (replicate 64 false))));
           did = state_same (state_then x.did d.did)
-              (λ v t. rw more (unfold on_opening in rw x.flags (ap (λ o. set_opening o t) (sym (firsts_more c (take j xs) y (replicate 64 0) t.opening)))));
+              (λ v t. rw more (unfold on_opening in rw x.flags (ap (λ o. set_opening o t) (sym (firsts_more c (take j xs) y (replicate 64 false) t.opening)))));
         }
 
-    pub firsts_end : ranges ≤ j → StateDid c l (λ v. on_opening (name_firsts c (listed ranges 14 (held l s₀)) (replicate 64 0))) n₀ (held l s₀) n (held l s)
+    pub firsts_end : ranges ≤ j → StateDid c l (λ v. on_opening (name_firsts c (listed ranges 14 (held l s₀)) (replicate 64 false))) n₀ (held l s₀) n (held l s)
     firsts_end h = state_same x.did (λ v t. rw (take_all j (listed ranges 14 (held l s₀)) (rw (length_listed k) h)))

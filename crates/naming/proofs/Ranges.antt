@@ -23,8 +23,6 @@ use Rattle.cache.specs.Lists.{asked, chosen}
 use Rattle.cache.proofs.Laws.{range_name_held}
 use Rattle.cache.proofs.Lists.{of_name_law}
 use Rattle.state.specs.declared.Limits.{Limits}
-use Rattle.variable_map.specs.declared.Origin as code
-use Rattle.variable_map.specs.Mapping.{origin_of}
 use Rattle.encoder.specs.declared.Counters.{Counters}
 use Rattle.encoder.specs.Did.{StateDid, PlainDid}
 use Rattle.encoder.proofs.Steps.{state_same, state_then}
@@ -71,12 +69,12 @@ parts_some c x (p ∷ ps) s h = refl
 
 module _ (k : Counts) (m u t : List ℕ) (r : ℕ) where
   module _ {l : Limits} {n n' : Counters} {st st' : ℕ → List ℕ} {b : Bool} (e : b ≡ ltb 0 (length (non_matching (catalogue k m u t) r))) where
-    pub one_named : b ≡ false → {x : ℕ} (o : code.Origin) → x ≡ get_or (tables k t).ranges r 0 → origin_of o ≡ one x → PlainDid l (λ c v. add_variable (origin_of o)) n st n' st'
+    pub one_named : b ≡ false → {x : ℕ} → x ≡ get_or (tables k t).ranges r 0 → PlainDid l (λ c v. add_variable (one x)) n st n' st'
         → StateDid (catalogue k m u t) l (λ v. name_range (catalogue k m u t) r) n st n' st'
     unfolding name_range
-    one_named z {x} o i j d =
+    one_named z {x} i d =
         let q : range_name (catalogue k m u t) r ≡ x = range_name_held k m u t r ∙ sym i in
-        state_same (d.is (catalogue k m u t)) (λ v s. rw (j, q) (parts_none (catalogue k m u t) x (non_matching (catalogue k m u t) r) s (omega (arith, ltb-false 0 (length (non_matching (catalogue k m u t) r)) (sym e ∙ z)))))
+        state_same (d.is (catalogue k m u t)) (λ v s. rw q (parts_none (catalogue k m u t) x (non_matching (catalogue k m u t) r) s (omega (arith, ltb-false 0 (length (non_matching (catalogue k m u t) r)) (sym e ∙ z)))))
 
     pub rest_named : b ≡ true → StateDid (catalogue k m u t) l (λ v. fold (naming_of (catalogue k m u t) Tracked) (parts_for (catalogue k m u t) (Chosen r NonMatching))) n st n' st'
         → StateDid (catalogue k m u t) l (λ v. name_range (catalogue k m u t) r) n st n' st'

@@ -2,7 +2,7 @@
 -- no opened owner, no name that was served with several allowed and no part that was named for tracking or is tracked is lost.
 use mathlib.Core.Path.{◌≡◌, refl, sym, ◌∙◌, ap}
 use mathlib.Core.Logic.{⊎_elim}
-use mathlib.Core.Bool.{Bool, true, false, not, ◌||◌}
+use mathlib.Core.Bool.{Bool, true, false, not, ◌||◌, false≢true}
 use mathlib.Core.List.Memᴰ
 use mathlib.Core.List.{List, [], ◌∷◌, ◌++◌}
 use Prim.Native.Nat.{ℕ, zero, suc}
@@ -18,7 +18,6 @@ use Rattle.rules.specs.Opening.{Opening, set_named, name_for_tracking, open_read
 use Rattle.rules.specs.State.{State}
 use Rattle.rules.specs.Called.{◌∈◌}
 use Rattle.rules.proofs.Bools.{by_cases, or_right}
-use Rattle.rules.proofs.Member.{not_one}
 use Rattle.rules.proofs.Membership.{in_left, in_right, in_either, filter_out, filter_either, any_in, any_out, unless_either}
 use Rattle.rules.proofs.Grows.{Prefix, whole, ending, either}
 use Rattle.rules.proofs.Places.{keeps_variable}
@@ -150,7 +149,7 @@ module _ (c : Catalogue) where
   first_stands [] o = stands_same
   first_stands (p ∷ ps) o = tracking_stands c p o
 
-  unless_stands : (seen : List ℕ) (r : ℕ) (o : Opening) → Stands o (first_unless c seen r o)
+  unless_stands : (seen : List Bool) (r : ℕ) (o : Opening) → Stands o (first_unless c seen r o)
   unfolding first_unless
   unless_stands seen r o = unless_either (Stands o) _ _ o (λ _. stands_same) (λ _. first_stands (matching c r) o)
 
@@ -191,7 +190,7 @@ module _ (c : Catalogue) where
     pub passed : passed_over c part o ≡ true
 
   -- there is one of each name that is flagged
-  record Seen (seen : List ℕ) (o : Opening) : Type 0 where
+  record Seen (seen : List Bool) (o : Opening) : Type 0 where
     pub one : (n : ℕ) → is_seen seen n ≡ true → One n o
 
   one_noted : {n : ℕ} {o : Opening} (x : One n o) → Noted c x.part o
@@ -200,13 +199,13 @@ module _ (c : Catalogue) where
   one_kept : {n : ℕ} {o : Opening} (p : ℕ) → One n o → One n (name_for_tracking c p o)
   one_kept {o = o} p x = record { part = x.part; of_name_law = x.of_name_law; passed = (tracking_once c).keeps x.part p o x.passed }
 
-  none_seen : (k : ℕ) (o : Opening) → Seen (replicate k 0) o
-  none_seen k o = record { one = λ n e. absurd (not_one (zeros k n e)) }
+  none_seen : (k : ℕ) (o : Opening) → Seen (replicate k false) o
+  none_seen k o = record { one = λ n e. absurd (false≢true (none k n e)) }
     where
-      zeros : (k n : ℕ) → is_seen (replicate k 0) n ≡ true → ◌≡◌ {A = ℕ} 0 1
-      zeros zero n e = unfold is_seen in cc
-      zeros (suc k) zero e = unfold is_seen in cc
-      zeros (suc k) (suc n) e = zeros k n (unfold is_seen in e)
+      none : (k n : ℕ) → is_seen (replicate k false) n ≡ true → false ≡ true
+      none zero n e = unfold is_seen in e
+      none (suc k) zero e = unfold is_seen in e
+      none (suc k) (suc n) e = none k n (unfold is_seen in e)
 
   -- where there is one, to name another of its name does nothing more
   seen_idle : (ps : List ℕ) {n : ℕ} (o : Opening) → One n o → ((p : ℕ) → p ∈ ps → Noted c p o × (name_of c p ≡ n)) → Alike c (name_first c ps o) o
@@ -216,7 +215,7 @@ module _ (c : Catalogue) where
       let y = h p (Memᴰ.head refl) in
       rw ((tracking_once c).again x.part o x.passed) at (either_named p x.part o (y.1 ∙ sym x.of_name_law) y.0 (one_noted x))
 
-  module _ (r : ℕ) (o : Opening) (h : (p : ℕ) → p ∈ sorted c r → Noted c p o) (seen : List ℕ) (k : Seen seen o) where
+  module _ (r : ℕ) (o : Opening) (h : (p : ℕ) → p ∈ sorted c r → Noted c p o) (seen : List Bool) (k : Seen seen o) where
     unless_named : Alike c (fold (name_for_tracking c) (sorted c r) o) (first_unless c seen r o)
     unfolding first_unless
     unless_named = alike_then (range_named r o h) (go (is_seen seen (range_name c r)) refl)
@@ -236,25 +235,25 @@ module _ (c : Catalogue) where
             record {
               one = λ n e. by_cases (eqb n (range_name c r))
                   (λ i. record { part = p; of_name_law = f p (Memᴰ.head refl) ∙ sym (eqb-true n (range_name c r) i); passed = (tracking_once c).does p o })
-                  (λ i. one_kept p (k.one n (unfold is_seen in (rw (get_or-set_other seen (range_name c r) n 1 0 (eqb-false n (range_name c r) i)) at e))));
+                  (λ i. one_kept p (k.one n (unfold is_seen in (rw (get_or-set_other seen (range_name c r) n true false (eqb-false n (range_name c r) i)) at e))));
             }
 
         go : (b : Bool) → Seen (unless b (seen_by (matching c r) (range_name c r)) seen) (unless b (name_first c (matching c r)) o)
         go true = unfold unless in k
         go false = unfold unless in more (matching c r) (λ p m. of_range r m)
 
-  range_alike : (r : ℕ) (seen : List ℕ) (s : State) → ((p : ℕ) → p ∈ sorted c r → Settled c s p) → Seen seen s.opening
+  range_alike : (r : ℕ) (seen : List Bool) (s : State) → ((p : ℕ) → p ∈ sorted c r → Settled c s p) → Seen seen s.opening
       → AlikeIn c (fold (naming_of c Candidate) (sorted c r) s) (on_opening (first_unless c seen r) s)
   unfolding on_opening
   range_alike r seen s h k =
       rw (each_settled (sorted c r) s h) (record { rest = refl; opening = unless_named r s.opening (λ p m. (h p m).noted) seen k })
 
-  seen_alike : (r : ℕ) (seen : List ℕ) (s : State) → ((p : ℕ) → p ∈ sorted c r → Settled c s p) → Seen seen s.opening
+  seen_alike : (r : ℕ) (seen : List Bool) (s : State) → ((p : ℕ) → p ∈ sorted c r → Settled c s p) → Seen seen s.opening
       → Seen (seen_after c r seen) (on_opening (first_unless c seen r) s).opening
   unfolding on_opening
   seen_alike r seen s h k = seen_named r s.opening (λ p m. (h p m).noted) seen k
 
-  firsts_enough : (rs seen : List ℕ) (s : State) → AllSettled c rs s → Seen seen s.opening
+  firsts_enough : (rs : List ℕ) (seen : List Bool) (s : State) → AllSettled c rs s → Seen seen s.opening
       → AlikeIn c (fold (λ r. fold (naming_of c Candidate) (sorted c r)) rs s) (on_opening (name_firsts c rs seen) s)
   unfolding fold
   firsts_enough [] seen s h k = unfold on_opening name_firsts in in_same
@@ -273,7 +272,7 @@ module _ (c : Catalogue) where
   -- NAMING ONE OF EACH NAME WILL DO
   pub first_enough : (rs : List ℕ) (s : State) → AllSettled c rs s → AlikeIn c (name_candidates c false rs s) (name_candidates c true rs s)
   unfolding name_candidates
-  first_enough rs s h = firsts_enough rs (replicate 64 0) s h (none_seen 64 s.opening)
+  first_enough rs s h = firsts_enough rs (replicate 64 false) s h (none_seen 64 s.opening)
 
   -- which leaves the variables alone
   pub first_variables : (rs : List ℕ) (s : State) → (name_candidates c true rs s).variables ≡ s.variables

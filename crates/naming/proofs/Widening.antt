@@ -36,7 +36,7 @@ module _ (c : Catalogue) where
   first_widens [] s = unfold on_opening name_first in widens_same
   first_widens (p ∷ ps) s = unfold name_first in name_for_tracking_widens c p s
 
-  unless_widens : (seen : List ℕ) (r : ℕ) (s : State) → Widens s (on_opening (first_unless c seen r) s)
+  unless_widens : (seen : List Bool) (r : ℕ) (s : State) → Widens s (on_opening (first_unless c seen r) s)
   unfolding first_unless
   unless_widens seen r s = go (is_seen seen (range_name c r))
     where
@@ -44,7 +44,7 @@ module _ (c : Catalogue) where
       go true = unfold on_opening unless in widens_same
       go false = unfold on_opening unless in first_widens (matching c r) s
 
-  firsts_widen : (rs seen : List ℕ) (s : State) → Widens s (on_opening (name_firsts c rs seen) s)
+  firsts_widen : (rs : List ℕ) (seen : List Bool) (s : State) → Widens s (on_opening (name_firsts c rs seen) s)
   unfolding on_opening name_firsts
   firsts_widen [] seen s = widens_same
   firsts_widen (r ∷ rs) seen s = widens_then (unless_widens seen r s) (firsts_widen rs (seen_after c r seen) (on_opening (first_unless c seen r) s))
@@ -52,7 +52,7 @@ module _ (c : Catalogue) where
   pub named_widens : (settled : Bool) (rs : List ℕ) (s : State) → Widens s (name_candidates c settled rs s)
   unfolding name_candidates
   named_widens false rs s = candidates_widen rs s
-  named_widens true rs s = firsts_widen rs (replicate 64 0) s
+  named_widens true rs s = firsts_widen rs (replicate 64 false) s
 
   parts_widen : (n : ℕ) (ps : List ℕ) (s : State) → Widens s (name_parts c n ps s)
   unfolding name_parts

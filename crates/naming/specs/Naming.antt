@@ -1,5 +1,5 @@
 -- The candidates of ranges, and the variables of fired ranges.
-use Rattle.std.specs.Prelude.{Bool, true, false, not, ◌≡◌, List, [], ◌∷◌, ℕ, ◌<◌, ◌≤◌, eqb, length, get_or, set, replicate}
+use Rattle.std.specs.Prelude.{Bool, true, false, ◌≡◌, List, [], ◌∷◌, ℕ, ◌<◌, ◌≤◌, length, get_or, set, replicate}
 use Rattle.rules.specs.Lists.{fold, unless}
 use Rattle.rules.specs.Catalogue.{Catalogue, range_name}
 use Rattle.rules.specs.Candidates.{matching, non_matching, sorted}
@@ -14,8 +14,6 @@ use Rattle.encoder.specs.declared.Counters.{Counters}
 use Rattle.encoder.specs.Did.{on_opening, StateDid}
 use Rattle.parts.specs.declared.Naming.TheVariants.{Tracked, Candidate}
 use Rattle.parts.specs.Parts.{naming_of}
-use Rattle.firing.specs.declared.Indices.{Indices}
-use Rattle.firing.specs.Firing.{indices_in}
 
 -- p is the first of these parts; or there is none, and it is at least `most`
 pub record FirstOf (ps : List ℕ) (most p : ℕ) : Type 0 where
@@ -29,26 +27,26 @@ name_first c (p ∷ ps) o = name_for_tracking c p o
 
 -- ---- of settled candidates the first of each name will do; `seen` flags the names of which one was named
 
-unfoldable pub is_seen : (seen : List ℕ) → ℕ → Bool
-is_seen seen n = not (eqb (get_or seen n 0) 0)
+unfoldable pub is_seen : (seen : List Bool) → ℕ → Bool
+is_seen seen n = get_or seen n false
 
-unfoldable pub first_unless : Catalogue → (seen : List ℕ) → ℕ → Opening → Opening
+unfoldable pub first_unless : Catalogue → (seen : List Bool) → ℕ → Opening → Opening
 first_unless c seen r o = unless (is_seen seen (range_name c r)) (name_first c (matching c r)) o
 
 -- name n is flagged, if there is a part
-unfoldable pub seen_by : List ℕ → ℕ → List ℕ → List ℕ
+unfoldable pub seen_by : List ℕ → ℕ → List Bool → List Bool
 seen_by [] n seen = seen
-seen_by (p ∷ ps) n seen = set seen n 1
+seen_by (p ∷ ps) n seen = set seen n true
 
-unfoldable pub seen_after : Catalogue → ℕ → List ℕ → List ℕ
+unfoldable pub seen_after : Catalogue → ℕ → List Bool → List Bool
 seen_after c r seen = unless (is_seen seen (range_name c r)) (seen_by (matching c r) (range_name c r)) seen
 
-unfoldable pub name_firsts : Catalogue → List ℕ → (seen : List ℕ) → Opening → Opening
+unfoldable pub name_firsts : Catalogue → List ℕ → (seen : List Bool) → Opening → Opening
 name_firsts c [] seen o = o
 name_firsts c (r ∷ rs) seen o = name_firsts c rs (seen_after c r seen) (first_unless c seen r o)
 
 -- range r was passed
-pub record NamesFirst (c : Catalogue) (l : Limits) (r : ℕ) (seen : List ℕ) (n : Counters) (st : ℕ → List ℕ) (seen' : List ℕ) (n' : Counters) (st' : ℕ → List ℕ) : Type 0 where
+pub record NamesFirst (c : Catalogue) (l : Limits) (r : ℕ) (seen : List Bool) (n : Counters) (st : ℕ → List ℕ) (seen' : List Bool) (n' : Counters) (st' : ℕ → List ℕ) : Type 0 where
   pub did : StateDid c l (λ v. on_opening (first_unless c seen r)) n st n' st'
   pub flags : seen' ≡ seen_after c r seen
 
@@ -56,7 +54,7 @@ pub record NamesFirst (c : Catalogue) (l : Limits) (r : ℕ) (seen : List ℕ) (
 
 unfoldable pub name_candidates : Catalogue → (settled : Bool) → List ℕ → State → State
 name_candidates c false rs s = fold (λ r. fold (naming_of c Candidate) (sorted c r)) rs s
-name_candidates c true rs s = on_opening (name_firsts c rs (replicate 64 0)) s
+name_candidates c true rs s = on_opening (name_firsts c rs (replicate 64 false)) s
 
 -- ---- fired ranges
 
@@ -71,6 +69,5 @@ unfoldable pub name_disjuncts : Catalogue → ℕ → List ℕ → State → Sta
 name_disjuncts c q is s = fold (λ i. fold (name_range c) (disjunct_at c q i)) is s
 
 -- each index is one of a disjunct of q
-pub record GivenIndices (c : Catalogue) (q : ℕ) (is : Indices) : Type 0 where
-  pub room : is.len ≤ 64
-  pub given : Each (λ i. i < length (disjuncts_of c q)) (indices_in is)
+pub record GivenIndices (c : Catalogue) (q : ℕ) (is : List ℕ) : Type 0 where
+  pub given : Each (λ i. i < length (disjuncts_of c q)) is

@@ -22,7 +22,8 @@ use Rattle.line.specs.Line.{queued, Queued}
 use Rattle.line.proofs.Line.{length_queued, line_room}
 use Rattle.encoder.specs.declared.Counters.{Counters}
 use Rattle.encoder.specs.Held.{Reading, task_in, opening_of, state_of, Good}
-use Rattle.encoder.specs.Did.{limits_of, room_of, beyond, on_opening, filled, Beside, PlainDid, is_full}
+use Rattle.encoder.specs.Did.{room_of, beyond, on_opening, filled, Beside, PlainDid, is_full}
+use Rattle.state.specs.Limits.{limits_of}
 use Rattle.encoder.proofs.Counted as counted
 use Rattle.encoder.proofs.Frames.{good_kept, list_kept}
 use Rattle.encoder.proofs.Did.{plain_full, did_filled, did_made}

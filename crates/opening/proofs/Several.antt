@@ -28,7 +28,8 @@ use Rattle.decision_tracker.proofs.Laws.{decisions_kept}
 use Rattle.marked.specs.Marked.{listed}
 use Rattle.encoder.specs.declared.Counters.{Counters}
 use Rattle.encoder.specs.Held.{Reading, opening_of, state_of, Good}
-use Rattle.encoder.specs.Did.{limits_of, room_of, beyond, on_opening, with_several, filled, PlainDid, is_full}
+use Rattle.encoder.specs.Did.{room_of, beyond, on_opening, with_several, filled, PlainDid, is_full}
+use Rattle.state.specs.Limits.{limits_of}
 use Rattle.encoder.proofs.Counted as counted
 use Rattle.encoder.proofs.Frames.{good_kept, list_kept, line_kept}
 use Rattle.encoder.proofs.Did.{plain_full, did_filled, did_made, beside_kept}

@@ -2,28 +2,30 @@
 use mathlib.Core.Path.{◌≡◌, refl, sym, ◌∙◌}
 use mathlib.Core.Bool.{true, false, true≢false}
 use mathlib.Core.List.{List}
-use Prim.Native.Nat.{ℕ, ◌-◌, ◌<◌, ◌≤◌}
+use Prim.Native.Nat.{ℕ}
 use native.Mathlib.Omega.{arith}
 use lib.Dec.{ltb}
 use lib.ListN.{length}
 use borrow.Author.Tests.{lt-ltb}
 use Rattle.rules.specs.Lists.{any}
 use Rattle.rules.specs.Catalogue.{Catalogue}
-use Rattle.rules.specs.Variables.{Origin, known, variable_of, with_variable}
+use Rattle.rules.specs.Variables.{Origin, known, with_variable}
 use Rattle.rules.proofs.ListLaws.{length_snoc}
 use Rattle.rules.proofs.Each.{each_imp}
 use Rattle.rules.proofs.Places.{stands}
 use Rattle.rules.proofs.Grows.{Prefix, with_variable_prefix}
 use Rattle.rules.proofs.Capped.{add_variable, only_variables}
 use Rattle.state.specs.declared.Limits.{Limits}
-use Rattle.variable_map.specs.Mapping.{variables, place, Made, Lacking}
+use Rattle.std.specs.Prelude.{Option, None, Some, unwrap_or}
+use Rattle.variable_map.specs.Mapping.{variables, found, Made, Lacking}
 use Rattle.variable_map.proofs.Laws.{count}
-use Rattle.variable_map.proofs.Places.{place_known, placed, unplaced, with_new}
+use Rattle.variable_map.proofs.Places.{found_known, found_none, with_new}
 use Rattle.decision_tracker.proofs.Laws.{decisions_kept}
 use Rattle.encoder.specs.declared.Counters.{Counters}
 use Rattle.solver.specs.Rows.{rows}
 use Rattle.encoder.specs.Held.{Reading, clauses_in, opening_of, state_of, Good}
-use Rattle.encoder.specs.Did.{limits_of, room_of, beyond, filled, Looked, PlainDid, is_full}
+use Rattle.encoder.specs.Did.{room_of, beyond, filled, Looked, PlainDid, is_full}
+use Rattle.state.specs.Limits.{limits_of}
 use Rattle.encoder.proofs.Counted as counted
 use Rattle.encoder.proofs.Frames.{state_kept, list_kept, line_kept, sound_still, clauses_still, good_within}
 use Rattle.encoder.proofs.Did.{plain_full, did_filled, did_made, beside_kept}
@@ -89,13 +91,10 @@ module _ (l : Limits) (n : Counters) where
 
 -- ---- an origin's variable
 
-pub looked_some : (vs : List Origin) (o : Origin) (p : ℕ) → p ≡ place vs o → 0 < p → Looked vs o (p - 1)
-looked_some vs o p e h =
-    let k = placed vs o p e h in
-    let q : p - 1 ≡ variable_of vs o = omega (arith, e ∙ place_known vs o k) in
-    record { is = λ _. q; below = λ _. rw q (stands vs o o k).0 }
-
-pub looked_none : (vs : List Origin) (o : Origin) (p : ℕ) → p ≡ place vs o → p ≤ 0 → Looked vs o 0
-looked_none vs o p e h =
-    let k = unplaced vs o p e h in
+pub looked_is : (vs : List Origin) (o : Origin) (r : Option ℕ) (x : ℕ) → r ≡ found vs o → x ≡ unwrap_or r 0 → Looked vs o x
+looked_is vs o (Some y) x e d =
+    let k = found_known vs o (Some y) e y refl in
+    record { is = λ _. d ∙ k.1; below = λ _. rw (d, k.1) (stands vs o o k.0).0 }
+looked_is vs o None x e d =
+    let k = found_none vs o None e refl in
     record { is = λ t. absurd (true≢false (sym t ∙ k)); below = λ t. absurd (true≢false (sym t ∙ k)) }

@@ -16,7 +16,8 @@ use Rattle.state.proofs.Changed.{changed_none}
 use Rattle.entries.specs.Entries.{waiting_in, PushedWaiting}
 use Rattle.encoder.specs.declared.Counters.{Counters}
 use Rattle.encoder.specs.Held.{Reading, opening_of, state_of, Good}
-use Rattle.encoder.specs.Did.{limits_of, room_of, beyond, filled, WaitingDid, is_full}
+use Rattle.encoder.specs.Did.{room_of, beyond, filled, WaitingDid, is_full}
+use Rattle.state.specs.Limits.{limits_of}
 use Rattle.encoder.proofs.Counted as counted
 use Rattle.encoder.proofs.Frames.{good_kept, waiting_counted, good_within}
 use Rattle.encoder.proofs.Did.{did_full, did_filled, did_made, beside_same}

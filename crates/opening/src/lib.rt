@@ -9,36 +9,36 @@ ghost use Rattle.rules.specs.Catalogue.{Catalogue};
 ghost use Rattle.rules.specs.Opening.{queue, set_several, open_owner, open_name, name_for_tracking};
 ghost use Rattle.rules.specs.Opening as rules;
 ghost use Rattle.rules.proofs.Capped.{add_waiting, add_variable};
-ghost use Rattle.tables.specs.Tables.{Laid};
 ghost use Rattle.cache.specs.Areas.{catalogue};
 ghost use Rattle.state.specs.Layout.{held, Fits};
 ghost use Rattle.variable_map.specs.Mapping.{origin_of, in_tables, variables, Mapped};
 ghost use Rattle.marked.specs.Marked.{listed, owner_of, Marked};
 ghost use Rattle.entries.specs.Entries.{entry_of, Long};
+ghost use Rattle.line.specs.Tasks.{task_number};
 ghost use Rattle.encoder.specs.Held.{task_in};
 ghost use Rattle.encoder.specs.Did.{on_opening, with_several, Looked, StateDid, PlainDid, WaitingDid};
 
 use encoder::Counters;
 use entries::Entry;
-use state::Limits;
-use tables::Counts;
-use variable_map::{Named, Origin};
+use line::Task;
+use marked::MarkedList;
+use state::{Limits, Region};
+use tables::Tables;
+use variable_map::Origin;
 
 // ---- the line
 
 // One task more.
-pub fn queue(s: &mut [u8], l: Limits, n: Counters, task: u16) -> Counters
-    requires { Fits l (length s.old) }
-    ensures { PlainDid l (λ c v. on_opening (queue (task_in c v task))) n (held l s.old) result (held l s.new) }
+pub fn queue(s: &mut [u8], l: Limits, n: Counters, task: Task) -> Counters
+    requires { Fits l (length s.old) × (task_number task < 65536) }
+    ensures { PlainDid l (λ c v. on_opening (queue (task_in c v (task_number task)))) n (held l s.old) result (held l s.new) }
 {
     if n.full != 0 {
         return n;
     }
     if n.tail < 3649 + l.waiting {
         let tail = line::push(s, l, n.tail, task);
-        let mut m = n;
-        m.tail = tail;
-        return m;
+        return Counters { tail, ..n };
     }
     encoder::filled(n)
 }
@@ -54,13 +54,11 @@ pub fn open_owner(s: &mut [u8], l: Limits, n: Counters, o: u16) -> Counters
     if n.full != 0 {
         return n;
     }
-    if marked::contains(s, l, state::OWNER_MARKS, o) {
+    if marked::contains(s, l, MarkedList::Owners, o) {
         return n;
     }
-    let owners = marked::push(s, l, state::OWNERS, state::OWNER_MARKS, n.owners, o);
-    let mut m = n;
-    m.owners = owners;
-    queue(s, l, m, o)
+    let owners = marked::push(s, l, MarkedList::Owners, n.owners, o);
+    queue(s, l, Counters { owners, ..n }, Task::Owner(o))
 }
 
 pub fn open_name(s: &mut [u8], l: Limits, n: Counters, name: u16) -> Counters
@@ -72,13 +70,11 @@ pub fn open_name(s: &mut [u8], l: Limits, n: Counters, name: u16) -> Counters
     if n.full != 0 {
         return n;
     }
-    if marked::contains(s, l, state::NAME_MARKS, name) {
+    if marked::contains(s, l, MarkedList::Names, name) {
         return n;
     }
-    let names = marked::push(s, l, state::NAMES, state::NAME_MARKS, n.names, name);
-    let mut m = n;
-    m.names = names;
-    queue(s, l, m, 1025 + name)
+    let names = marked::push(s, l, MarkedList::Names, n.names, name);
+    queue(s, l, Counters { names, ..n }, Task::Name(name))
 }
 
 // ---- names served with several allowed
@@ -89,12 +85,10 @@ pub fn is_several(s: &[u8], l: Limits, count: usize, name: u16) -> bool
     requires count_bound { count ≤ 64 }
     ensures { result ≡ elem name (listed count 5 (held l s.now)) }
 {
-    let mut i = 0;
-    while i < count {
-        if state::get(s, l, state::SEVERAL, i) == name {
+    for i in 0..count {
+        if state::get(s, l, Region::Several, i) == name {
             return true;
         }
-        i += 1;
     }
     false
 }
@@ -107,10 +101,11 @@ pub fn push_several(s: &mut [u8], l: Limits, n: Counters, name: u16) -> Counters
         return n;
     }
     if n.several < 64 {
-        state::set(s, l, state::SEVERAL, n.several, name);
-        let mut m = n;
-        m.several = n.several + 1;
-        return m;
+        state::set(s, l, Region::Several, n.several, name);
+        return Counters {
+            several: n.several + 1,
+            ..n
+        };
     }
     encoder::filled(n)
 }
@@ -118,37 +113,25 @@ pub fn push_several(s: &mut [u8], l: Limits, n: Counters, name: u16) -> Counters
 // ---- tracking
 
 // Part p is named for tracking, unless it is already or its name was served with several allowed.
-pub fn name_for_tracking(
-    marks: &[u8],
-    unions: &[u8],
-    t: &[u8],
-    k: Counts,
-    s: &mut [u8],
-    l: Limits,
-    n: Counters,
-    p: u16,
-) -> Counters
-    requires laid { Laid k (length t.now) }
+pub fn name_for_tracking(tables: &Tables, s: &mut [u8], l: Limits, n: Counters, p: u16) -> Counters
     requires fits { Fits l (length s.old) }
     requires several_bound { (n.several ≤ 64) × Marked 8 9 n.named (held l s.old) × (p < 1024) }
-    ensures { StateDid (catalogue k marks.now unions.now t.now) l
-        (λ v. on_opening (name_for_tracking (catalogue k marks.now unions.now t.now) p))
+    ensures { (m u : List ℕ) → StateDid (catalogue tables.now.counts m u tables.now.area.now) l
+        (λ v. on_opening (name_for_tracking (catalogue tables.now.counts m u tables.now.area.now) p))
         n (held l s.old) result (held l s.new) }
 {
     if n.full != 0 {
         return n;
     }
-    if marked::contains(s, l, state::NAMED_MARKS, p) {
+    if marked::contains(s, l, MarkedList::Named, p) {
         return n;
     }
-    let name = tables::part_name(t, k, p as usize);
+    let name = tables.part_name(p as usize);
     if is_several(s, l, n.several, name) {
         return n;
     }
-    let named = marked::push(s, l, state::NAMED, state::NAMED_MARKS, n.named, p);
-    let mut m = n;
-    m.named = named;
-    m
+    let named = marked::push(s, l, MarkedList::Named, n.named, p);
+    Counters { named, ..n }
 }
 
 // ---- waiting entries
@@ -163,9 +146,7 @@ pub fn add_waiting(w: &mut [u8], l: Limits, n: Counters, e: Entry) -> Counters
     }
     if n.waiting < l.waiting {
         let waiting = entries::push_waiting(w, l, n.waiting, e);
-        let mut m = n;
-        m.waiting = waiting;
-        return m;
+        return Counters { waiting, ..n };
     }
     encoder::filled(n)
 }
@@ -183,22 +164,21 @@ pub fn name_variable(s: &mut [u8], l: Limits, n: Counters, o: Origin) -> Counter
         return n;
     }
     match variable_map::name(s, l, n.variables, o) {
-        Named::Variable { count, variable: _ } => {
-            let mut m = n;
-            m.variables = count;
-            m
-        }
-        Named::Full => encoder::filled(n),
+        Some(named) => Counters {
+            variables: named.count,
+            ..n
+        },
+        None => encoder::filled(n),
     }
 }
 
 // The variable of an origin that has one.
+#[tactic(auto, using(crate::proofs::Variables::looked_is))]
 pub fn variable_of(s: &[u8], l: Limits, n: Counters, o: Origin) -> u16
     requires fits { Fits l (length s.now) }
     requires mapped { Mapped l n.variables (held l s.now) }
     requires o_value { in_tables (origin_of o) ≡ true }
     ensures { Looked (variables n.variables (held l s.now)) (origin_of o) result }
 {
-    let place = variable_map::variable(s, l, n.variables, o);
-    if place > 0 { place - 1 } else { 0 }
+    variable_map::variable(s, l, n.variables, o).unwrap_or(0)
 }

@@ -15,7 +15,6 @@ use Rattle.rules.specs.Job.{reading, carrying, stopped, walk, run_step, check_st
 use Rattle.rules.proofs.Reached.{Given, checked_given}
 use Rattle.rules.proofs.WellFormed.{well_formed}
 use Rattle.rules.proofs.WalkLaws.{walk_record, walk_end, walk_still, run_reads, check_sheet, check_carries}
-use Rattle.refusal.specs.declared.Refusal.{Refusal}
 use Rattle.refusal.specs.declared.RefusedAt.{RefusedAt}
 use Rattle.refusal.specs.Refusing.{refusal_of}
 use Rattle.tables.specs.declared.Counts.{Counts}
@@ -32,7 +31,7 @@ use Rattle.catalogue.specs.Walking.{place_of, progress_of, UpToSheet, ReadUp}
 use Rattle.state.specs.declared.Limits.{Limits}
 use Rattle.encoder.specs.declared.Counters.{Counters}
 use Rattle.encoder.specs.Held.{LongEnough}
-use Rattle.goals.specs.Goals.{Catalogued}
+use Rattle.index.specs.Catalogued.{Catalogued}
 use Rattle.carried.specs.Carrying.{end_from, Came, SheetDid}
 use Rattle.beginning.specs.Beginning.{Reaches}
 use Rattle.ending.specs.declared.Accepted.{Accepted}
@@ -46,8 +45,14 @@ refused_comes job out e = record { answer = refl; listing = refl }
 
 -- ---- the catalogue
 
-module _ {job : List ℕ} {at : ℕ} {k : Counts} {m u t : List ℕ} {x : Read} (h : ReadUp job x m u t) (e : x ≡ Read.Sheet at k) where
-  abbrev read_up : ReadUp job (Read.Sheet at k) m u t
+module _ {job : List ℕ} {r : Read} {m u t : List ℕ} {x : Result Read RefusedAt} (h : ReadUp job x m u t) (e : x ≡ Ok r) where
+  abbrev at : ℕ
+  at = r.at
+
+  abbrev k : Counts
+  k = r.counts
+
+  abbrev read_up : ReadUp job (Ok r) m u t
   read_up = rw e at h
 
   check_end : (z : Terms) → (walk (check_step z job) 0 at (drop at job) (reading (catalogue k m u t)) ≡ reading (catalogue k m u t))
@@ -62,7 +67,7 @@ module _ {job : List ℕ} {at : ℕ} {k : Counts} {m u t : List ℕ} {x : Read} 
   ]
 
   -- any terms will do
-  given_read : Given (catalogue k m u t)
+  pub given_read : Given (catalogue k m u t)
   unfolding place_of progress_of
   given_read =
       let z : Terms = record { limits = record { variables = 0; clauses = 0; condition_literals = 0; waiting = 0 }; lent = []; listing = 0 } in
@@ -89,7 +94,7 @@ module _ {job : List ℕ} {at : ℕ} {k : Counts} {m u t : List ℕ} {x : Read} 
         let a = read_up.ended.kept in
         record { held = rw (y, z) a.held; given = rw b.kept a.given; sized = rw b.same a.sized }
 
-    pub read_built : ReadWhole job (Read.Sheet at k) m u' t'
+    pub read_built : ReadWhole job (Ok r) m u' t'
     unfolding place_of progress_of
     read_built =
         let a = read_up in
@@ -101,38 +106,37 @@ module _ {job : List ℕ} {at : ℕ} {k : Counts} {m u t : List ℕ} {x : Read} 
           chains = (b.chains, rw b.kept b.members);
         }
 
-  -- what the sheet asks for, with the rest
-  sheet_asks : {A : Type 0} → Chains k m t × Threaded k (rows k.members u) 0 (words t) (words u) → A
-      → Catalogued k m u t × (UpToSheet job at k m u t × (Given (catalogue k m u t) × A))
-  sheet_asks d a =
-      let b = read_up.ended.kept in (
-        record { kept = record { held = b.held; given = b.given; sized = b.sized; chains = d.0; members = d.1 }; formed = well_formed given_read },
-        (read_up.ended, (given_read, a)),
-      )
+  -- what a catalogue's type says of areas with their chains
+  pub read_catalogued : Chains k m t × Threaded k (rows k.members u) 0 (words t) (words u) → Catalogued k m u t
+  read_catalogued d =
+      let b = read_up.ended.kept in
+      record { kept = record { held = b.held; given = b.given; sized = b.sized; chains = d.0; members = d.1 }; formed = well_formed given_read }
+
+  pub up_to_sheet : UpToSheet job at k m u t
+  up_to_sheet = read_up.ended
 
   -- what comes of the job is what comes of it from the sheet on
-  pub from_sheet : {l : Limits} {r : Result Accepted RefusedAt} {out out' : List ℕ} → RunsFrom l job at (reading (catalogue k m u t)) r out out' → RunsFrom l job 0 (reading empty_catalogue) r out out'
+  pub from_sheet : {l : Limits} {y : Result Accepted RefusedAt} {out out' : List ℕ} → RunsFrom l job at (reading (catalogue k m u t)) y out out' → RunsFrom l job 0 (reading empty_catalogue) y out out'
   unfolding end_from place_of progress_of
   from_sheet g = record { is = λ z e f. rw (read_up.same.run z) (g.is z e f) }
 
--- what the sheet asks for, of a catalogue with its chains
-pub whole_asks : {job : List ℕ} {at : ℕ} {k : Counts} {m u t : List ℕ} {x : Read} {A : Type 0} → ReadWhole job x m u t → x ≡ Read.Sheet at k → A
-    → Catalogued k m u t × (UpToSheet job at k m u t × (Given (catalogue k m u t) × A))
-whole_asks h e a = sheet_asks h.read e (rw e at h).chains a
+pub whole_catalogued : {job : List ℕ} {r : Read} {m u t : List ℕ} {x : Result Read RefusedAt} → ReadWhole job x m u t → x ≡ Ok r → Catalogued r.counts m u t
+whole_catalogued h e = read_catalogued h.read e (rw e at h).chains
 
-pub not_read : {job : List ℕ} {f : Refusal} {at : ℕ} {m u t : List ℕ} {x : Read} → ReadUp job x m u t → x ≡ Read.Refused f at → ReadWhole job (Read.Refused f at) m u t
-not_read h e = record { read = rw e at h; chains = tt }
+pub not_read : {job : List ℕ} {f : RefusedAt} {m u t m' u' t' : List ℕ} {x : Result Read RefusedAt} → ReadUp job x m u t → x ≡ Err f → ReadWhole job (Err f) m' u' t'
+unfolding place_of progress_of
+not_read h e = let g = rw e at h in record { read = record { same = g.same; ended = tt }; chains = tt }
 
 -- the catalogue is refused
-pub from_refused : {l : Limits} {job : List ℕ} {f : Refusal} {at : ℕ} {m u t : List ℕ} {x : Read} (out : List ℕ) → ReadUp job x m u t → x ≡ Read.Refused f at
-    → RunsFrom l job 0 (reading empty_catalogue) (Err (record { refusal = f; at = at })) out out
+pub from_refused : {l : Limits} {job : List ℕ} {f : RefusedAt} {m u t : List ℕ} {x : Result Read RefusedAt} (out : List ℕ) → ReadUp job x m u t → x ≡ Err f
+    → RunsFrom l job 0 (reading empty_catalogue) (Err f) out out
 unfolding end_from place_of progress_of ended
-from_refused {job = job} {f = f} {at = at} out h k =
+from_refused {job = job} {f = f} out h k =
     let r = rw k at h in
     record {
       is = λ z e g.
-          rw (r.same.run z ∙ walk_still (run_step z job) (stopped (number_and_place (length job) at (refusal_of f))) ((run_reads z job).over _) 0 at (drop at job))
-          (refused_comes job out (record { refusal = f; at = at }));
+          rw (r.same.run z ∙ walk_still (run_step z job) (stopped (number_and_place (length job) f.at (refusal_of f.refusal))) ((run_reads z job).over _) 0 f.at (drop f.at job))
+          (refused_comes job out f);
     }
 
 -- ---- the sheet

@@ -6,27 +6,25 @@ ghost use Rattle.std.specs.Prelude.{◌<◌, ◌≤◌, length};
 ghost use Rattle.rules.specs.Catalogue.{empty_catalogue};
 ghost use Rattle.rules.specs.Job.{reading};
 ghost use Rattle.rules.proofs.Reached.{Given};
-ghost use Rattle.cache.specs.Areas.{catalogue};
 ghost use Rattle.catalogue.specs.Walking.{UpToSheet};
 ghost use Rattle.state.specs.Layout.{Fits};
 ghost use Rattle.encoder.specs.Held.{LongEnough};
-ghost use Rattle.goals.specs.Goals.{Catalogued};
+ghost use Rattle.index.specs.Views.{catalogue_of, counts_of, bytes_of};
 ghost use Rattle.outcome.specs.Outcomes.{ReadWhole, RunsFrom};
 
+use cache::Areas;
 use catalogue::Read;
 use ending::Accepted;
+use index::{Catalogue, Index};
 use refusal::RefusedAt;
 use state::Limits;
-use tables::Counts;
+use tables::Tables;
 
 // The sheet from its first record on, and the end.
 fn run_sheet(
     job: &[u8],
     from: usize,
-    marks: &[u8],
-    unions: &[u8],
-    t: &[u8],
-    k: Counts,
+    catalogue: &Catalogue,
     s: &mut [u8],
     clauses: &mut [u8],
     w: &mut [u8],
@@ -34,39 +32,39 @@ fn run_sheet(
     out: &mut [u8],
 ) -> Result<Accepted, RefusedAt>
     requires job_len_bound { length job.now ≤ 65536 }
-    requires catalogued { Catalogued k marks.now unions.now t.now }
-    requires up_to_sheet { UpToSheet job.now from k marks.now unions.now t.now }
-    requires given { Given (catalogue k marks.now unions.now t.now) }
+    requires up_to_sheet { UpToSheet job.now from (counts_of catalogue.now) catalogue.now.index.areas.marks.now catalogue.now.index.areas.unions.now (bytes_of catalogue.now) }
+    requires given { Given (catalogue_of catalogue.now) }
     requires fits { Fits l (length s.old) }
     requires long_enough { LongEnough l (length clauses.old) (length w.old) }
     requires variables_nonzero { (0 < l.variables) × (0 < l.clauses) }
-    ensures { RunsFrom l job.now from (reading (catalogue k marks.now unions.now t.now)) result out.old out.new }
+    ensures { RunsFrom l job.now from (reading (catalogue_of catalogue.now)) result out.old out.new }
 {
     state::clear(s, l);
     let n = carried::start(s, clauses, l);
-    let m = carried::carry_sheet(job, from, marks, unions, t, k, s, clauses, w, l, n)?;
-    ending::finish(marks, unions, t, k, s, clauses, w, l, m, out)
+    let m = carried::carry_sheet(job, from, catalogue, s, clauses, w, l, n)?;
+    ending::finish(catalogue, s, clauses, w, l, m, out)
 }
 
 // The catalogue is read, and its chains are made.
-fn read_whole(job: &[u8], marks: &mut [u8], unions: &mut [u8], t: &mut [u8]) -> Read
-    requires { (65536 ≤ length marks.old) × (52428 ≤ length unions.old) × (50696 ≤ length t.old) × (length job.now ≤ 65536) }
-    ensures { ReadWhole job.now result marks.new unions.new t.new }
-{
-    match catalogue::read_catalogue(job, marks, unions, t) {
-        Read::Sheet { at, counts } => {
-            index::build(marks, unions, t, counts);
-            Read::Sheet { at, counts }
-        }
-        Read::Refused { refusal, at } => Read::Refused { refusal, at },
-    }
-}
-
-pub fn run(
+fn read_whole(
     job: &[u8],
     marks: &mut [u8],
     unions: &mut [u8],
     t: &mut [u8],
+) -> Result<Read, RefusedAt>
+    requires { (65536 ≤ length marks.old) × (52428 ≤ length unions.old) × (50696 ≤ length t.old) × (length job.now ≤ 65536) }
+    ensures { ReadWhole job.now result marks.new unions.new t.new }
+{
+    let read = catalogue::read_catalogue(job, marks, unions, t)?;
+    index::build(marks, unions, t, read.counts);
+    Ok(read)
+}
+
+pub fn run<'a>(
+    job: &[u8],
+    marks: &'a mut [u8],
+    unions: &'a mut [u8],
+    t: &'a mut [u8],
     s: &mut [u8],
     clauses: &mut [u8],
     w: &mut [u8],
@@ -79,10 +77,17 @@ pub fn run(
     requires variables_nonzero { (0 < l.variables) × (0 < l.clauses) }
     ensures { RunsFrom l job.now 0 (reading empty_catalogue) result out.old out.new }
 {
-    match read_whole(job, marks, unions, t) {
-        Read::Sheet { at, counts } => run_sheet(
-            job, at, marks, unions, t, counts, s, clauses, w, l, out,
-        ),
-        Read::Refused { refusal, at } => Err(RefusedAt { refusal, at }),
-    }
+    let read = read_whole(job, marks, unions, t)?;
+    let tables = Tables {
+        area: t,
+        counts: read.counts,
+    };
+    let areas = Areas {
+        marks,
+        unions,
+        tables,
+    };
+    let index = Index { areas };
+    let catalogue = Catalogue { index };
+    run_sheet(job, read.at, &catalogue, s, clauses, w, l, out)
 }

@@ -1,6 +1,7 @@
 -- A walk along an owner's chain takes a rule for each of its records: those that are passed are others'.
 use mathlib.Core.Path.{◌≡◌, sym, ◌∙◌}
 use mathlib.Core.Bool.{false}
+use mathlib.Core.Logic.{◌⊎◌, inl, inr}
 use mathlib.Core.List.{List}
 use Prim.Native.Nat.{ℕ, zero, suc, ◌+◌, ◌-◌, ◌<◌, ◌≤◌}
 use native.Mathlib.Omega.{arith}
@@ -14,8 +15,6 @@ use Rattle.cache.specs.Areas.{catalogue}
 use Rattle.index.specs.Chains.{First, row_of, requirements_by_owner, constraints_by_owner, key_of, Skips}
 use Rattle.index.proofs.Owners.{skips_requirements, skips_constraints}
 use Rattle.state.specs.declared.Limits.{Limits}
-use Rattle.marked.specs.Marked.{owner_of}
-use Rattle.marked.proofs.Owners.{root_is, part_is}
 use Rattle.encoder.specs.declared.Counters.{Counters}
 use Rattle.encoder.specs.Held.{Reading}
 use Rattle.encoder.specs.Did.{on_opening}
@@ -25,58 +24,34 @@ use Rattle.owners.specs.declared.Rule.TheVariants.{OpenRequirement, OpenConstrai
 use Rattle.owners.specs.Owners.{is_of, rule_of, cardinal}
 use Rattle.owners.proofs.Rules.{Ruled, fold_last}
 
--- ---- rows
-
-pub row_root : (o : ℕ) → o ≡ 1024 → 0 ≡ row_of (owner_of o)
-unfolding row_of
-row_root o e = rw (e, root_is)
-
-pub row_part : (o : ℕ) → o < 1025 → (o ≡ 1024 → ⊥) → o + 1 ≡ row_of (owner_of o)
-unfolding row_of
-row_part o h ne = let l : o < 1024 = omega arith in rw (part_is o l)
-
 -- ---- the walk
 
 module _ (k : Counts) (m u t : List ℕ) (w : Rule) (o : Owner) where
-  pub along_open_requirement : {x from r : ℕ} → x ≡ row_of o → w ≡ OpenRequirement → First k.requirements (key_of requirements_by_owner (words t)) x from r
+  pub along_requirements : {x from r : ℕ} → x ≡ row_of o → (w ≡ OpenRequirement) ⊎ (w ≡ QueueRequirement) → First k.requirements (key_of requirements_by_owner (words t)) x from r
       → Skips (cardinal k w) (is_of (catalogue k m u t) w o) from r
   unfolding cardinal is_of
-  along_open_requirement e q f = rw q (skips_requirements k m u t o e f)
+  along_requirements e (inl q) f = rw q (skips_requirements k m u t o e f)
+  along_requirements e (inr q) f = rw q (skips_requirements k m u t o e f)
 
-  pub along_open_constraint : {x from r : ℕ} → x ≡ row_of o → w ≡ OpenConstraint → First k.constraints (key_of constraints_by_owner (words t)) x from r
+  pub along_constraints : {x from r : ℕ} → x ≡ row_of o → (w ≡ OpenConstraint) ⊎ (w ≡ QueueConstraint) → First k.constraints (key_of constraints_by_owner (words t)) x from r
       → Skips (cardinal k w) (is_of (catalogue k m u t) w o) from r
   unfolding cardinal is_of
-  along_open_constraint e q f = rw q (skips_constraints k m u t o e f)
-
-  pub along_queue_requirement : {x from r : ℕ} → x ≡ row_of o → w ≡ QueueRequirement → First k.requirements (key_of requirements_by_owner (words t)) x from r
-      → Skips (cardinal k w) (is_of (catalogue k m u t) w o) from r
-  unfolding cardinal is_of
-  along_queue_requirement e q f = rw q (skips_requirements k m u t o e f)
-
-  pub along_queue_constraint : {x from r : ℕ} → x ≡ row_of o → w ≡ QueueConstraint → First k.constraints (key_of constraints_by_owner (words t)) x from r
-      → Skips (cardinal k w) (is_of (catalogue k m u t) w o) from r
-  unfolding cardinal is_of
-  along_queue_constraint e q f = rw q (skips_constraints k m u t o e f)
+  along_constraints e (inl q) f = rw q (skips_constraints k m u t o e f)
+  along_constraints e (inr q) f = rw q (skips_constraints k m u t o e f)
 
 module _ (k : Counts) (w : Rule) where
   pub below_cardinal : {count i : ℕ} → count ≡ cardinal k w → i < count → i < cardinal k w
   below_cardinal e h = rw e at h
 
-  pub below_open_requirement : {i : ℕ} → i < cardinal k w → w ≡ OpenRequirement → i < k.requirements
+  pub below_requirements : {i : ℕ} → i < cardinal k w → (w ≡ OpenRequirement) ⊎ (w ≡ QueueRequirement) → i < k.requirements
   unfolding cardinal
-  below_open_requirement h q = rw q at h
+  below_requirements h (inl q) = rw q at h
+  below_requirements h (inr q) = rw q at h
 
-  pub below_open_constraint : {i : ℕ} → i < cardinal k w → w ≡ OpenConstraint → i < k.constraints
+  pub below_constraints : {i : ℕ} → i < cardinal k w → (w ≡ OpenConstraint) ⊎ (w ≡ QueueConstraint) → i < k.constraints
   unfolding cardinal
-  below_open_constraint h q = rw q at h
-
-  pub below_queue_requirement : {i : ℕ} → i < cardinal k w → w ≡ QueueRequirement → i < k.requirements
-  unfolding cardinal
-  below_queue_requirement h q = rw q at h
-
-  pub below_queue_constraint : {i : ℕ} → i < cardinal k w → w ≡ QueueConstraint → i < k.constraints
-  unfolding cardinal
-  below_queue_constraint h q = rw q at h
+  below_constraints h (inl q) = rw q at h
+  below_constraints h (inr q) = rw q at h
 
 -- ---- what is passed does nothing
 

@@ -3,4 +3,3 @@ pub mod Records
 pub mod Rules
 pub mod Along
 pub mod Serving
-pub mod Origins

@@ -72,6 +72,10 @@ pub record Opened (k : Counts) (m us t : List ℕ) (l : Limits) (u : ℕ) (n₀ 
   pub good : GoodAlone (catalogue k m us t) l n st
   pub did : StateDid (catalogue k m us t) l (λ v. on_opening (open_names (catalogue k m us t) seen)) n₀ st₀ n st
 
+-- a row as the lent rows have it
+pub member_is : {n n' : ℕ} {us us' : List ℕ} (i : ℕ) (x : Member) → us' ≡ us → n' ≡ n → row_of x ≡ get_or (rows n' us') i no_row → row_of x ≡ get_or (rows n us) i no_row
+member_is i x e f q = rw (e, f) at q
+
 module _ {k : Counts} {m us t : List ℕ} {l : Limits} {u : ℕ} where
   pub opened_start : {n : Counters} {st : ℕ → List ℕ} {i : ℕ} → Indexed k m us t → GoodAlone (catalogue k m us t) l n st → Passes k (rows k.members us) u 0 i
       → Opened k m us t l u n st i n st

@@ -33,41 +33,6 @@ counted k m us t OpenConstraint = constraints_held k m us t
 counted k m us t QueueRequirement = requirements_held k m us t
 counted k m us t QueueConstraint = constraints_held k m us t
 
-module _ (k : Counts) (w : Rule) where
-  pub cardinal_open_requirement : w ≡ OpenRequirement → k.requirements ≡ cardinal k w
-  unfolding cardinal
-  cardinal_open_requirement e = rw e
-
-  pub cardinal_open_constraint : w ≡ OpenConstraint → k.constraints ≡ cardinal k w
-  unfolding cardinal
-  cardinal_open_constraint e = rw e
-
-  pub cardinal_queue_requirement : w ≡ QueueRequirement → k.requirements ≡ cardinal k w
-  unfolding cardinal
-  cardinal_queue_requirement e = rw e
-
-  pub cardinal_queue_constraint : w ≡ QueueConstraint → k.constraints ≡ cardinal k w
-  unfolding cardinal
-  cardinal_queue_constraint e = rw e
-
-  module _ (m us t : List ℕ) {i : ℕ} where
-    -- a record that the loop comes to
-    pub record_counted : {count : ℕ} → count ≡ cardinal k w → i < count → i < count_of (catalogue k m us t) w
-    record_counted e h = omega (arith, counted k m us t w)
-
-    -- and the record of one rule
-    pub given_open_requirement : w ≡ OpenRequirement → i < count_of (catalogue k m us t) w → i < k.requirements
-    given_open_requirement e h = omega (arith, counted k m us t w, cardinal_open_requirement e)
-
-    pub given_open_constraint : w ≡ OpenConstraint → i < count_of (catalogue k m us t) w → i < k.constraints
-    given_open_constraint e h = omega (arith, counted k m us t w, cardinal_open_constraint e)
-
-    pub given_queue_requirement : w ≡ QueueRequirement → i < count_of (catalogue k m us t) w → i < k.requirements
-    given_queue_requirement e h = omega (arith, counted k m us t w, cardinal_queue_requirement e)
-
-    pub given_queue_constraint : w ≡ QueueConstraint → i < count_of (catalogue k m us t) w → i < k.constraints
-    given_queue_constraint e h = omega (arith, counted k m us t w, cardinal_queue_constraint e)
-
 pub rule_taken : {c : Catalogue} {l : Limits} {w w' : Rule} (o : Owner) (i : ℕ) {n n' : Counters} {st st' : ℕ → List ℕ} → w ≡ w'
     → StateDid c l (λ v. on_opening (rule_of c v w' o i)) n st n' st' → StateDid c l (λ v. on_opening (rule_of c v w o i)) n st n' st'
 rule_taken o i e d = state_same d (λ v s. rw e)

@@ -8,7 +8,8 @@ use lib.ListN.{length, get_or}
 use borrow.Author.Tests.{lt-ltb}
 use Rattle.rules.specs.Lists.{fold, list_if, unless}
 use Rattle.rules.specs.Clause.{excluded, unknown_dependencies}
-use Rattle.rules.specs.Catalogue.{Owner, root, part, Part, Catalogue, no_part, part_at, unknown_owner}
+use Rattle.rules.specs.Catalogue as rules
+use Rattle.rules.specs.Catalogue.{Owner, root, part, Catalogue, no_part, part_at, unknown_owner}
 use Rattle.rules.specs.Variables.{Origin, known, with_variable, with_variables, part_origin, part_variable}
 use Rattle.rules.specs.Opening.{owner, serve_owner, serve}
 use Rattle.rules.specs.Encoding.{served, task_origins, origins, task_clauses, clauses}
@@ -26,8 +27,10 @@ use Rattle.cache.proofs.Laws.{parts_held, part_held}
 use Rattle.index.specs.Indexed.{Indexed}
 use Rattle.state.specs.declared.Limits.{Limits}
 use Rattle.variable_map.specs.Mapping.{in_tables, variables, Mapped}
+use Rattle.requirement.specs.declared.Owner as code
+use Rattle.requirement.specs.declared.Owner.TheVariants.{Root, Part}
+use Rattle.requirement.specs.Requirements.{owner_is}
 use Rattle.marked.specs.Marked.{owner_of}
-use Rattle.marked.proofs.Owners.{root_is, part_is}
 use Rattle.encoder.specs.declared.Counters.{Counters}
 use Rattle.encoder.specs.declared.Run as encoder
 use Rattle.encoder.specs.Held.{run_of, Reading, state_of, LongEnough, Good}
@@ -109,9 +112,9 @@ module _ (c : Catalogue) (r : Run) (p : ℕ) (e : unknown_owner c (part p) ≡ t
   unknown_is : (s : State) → forget s ≡ s → serving c r (owner (part p)) s ≡ exclude_unknown r p (add_variable (part_origin p) s)
   unknown_is s f = serving_unknown s ∙ (sym (emit_forgets c r (served (owner (part p))) s) ∙ (ap (emit c r (served (owner (part p)))) f ∙ one_emitted s))
 
-pub part_in_tables : (k : Counts) (m us t : List ℕ) {o : Origin} {p : ℕ} → Indexed k m us t → p < k.parts → o ≡ part_origin p → in_tables o ≡ true
+pub part_in_tables : (k : Counts) (m us t : List ℕ) {p : ℕ} → Indexed k m us t → p < k.parts → in_tables (part_origin p) ≡ true
 unfolding in_tables
-part_in_tables k m us t {p = p} h b e = rw e (lt-ltb p 1024 (omega (arith, h.held.laid.parts)))
+part_in_tables k m us t {p} h b = lt-ltb p 1024 (omega (arith, h.held.laid.parts))
 
 excluded_is : (r : Run) (p x : ℕ) (s : State) → x ≡ part_variable (with_variable (part_origin p) s.variables) p
     → add_clause r (excluded x p (reason_for true)) (add_variable (part_origin p) s) ≡ exclude_unknown r p (add_variable (part_origin p) s)
@@ -123,32 +126,29 @@ variables_after_law : (c : Catalogue) (l : Limits) (v : Reading) (n n' : Counter
 unfolding state_of add_variable
 variables_after_law c l v n n' st st' cl wt o e = ap (λ (z : State). z.variables) e
 
-module _ (c : Catalogue) {l : Limits} (r : encoder.Run) (p : ℕ) (o : Origin) {n n' : Counters} {st st' : ℕ → List ℕ}
-    (e : unknown_owner c (part p) ≡ true) (i : o ≡ part_origin p) (d : PlainDid l (λ c v. add_variable o) n st n' st') where
-  named : PlainDid l (λ c v. add_variable (part_origin p)) n st n' st'
-  named = rw i at d
-
+module _ (c : Catalogue) {l : Limits} (r : encoder.Run) (p : ℕ) {n n' : Counters} {st st' : ℕ → List ℕ}
+    (e : unknown_owner c (part p) ≡ true) (d : PlainDid l (λ c v. add_variable (part_origin p)) n st n' st') where
   pub unknown_full : {cl : List ℕ} → is_full n' ≡ true → ClausesDid c l (λ v. serving c (run_of r) (owner (part p))) n st cl n' st' cl
   unknown_full {cl} f =
       record {
-        is = λ wt. did_as (did_stop {G = λ v. exclude_unknown (run_of r) p} ((named.is c).is cl wt) f (λ v s. exclude_widens (run_of r) p s))
+        is = λ wt. did_as (did_stop {G = λ v. exclude_unknown (run_of r) p} ((d.is c).is cl wt) f (λ v s. exclude_widens (run_of r) p s))
             (λ v s. unknown_widens c (run_of r) p e s)
             (λ g u v. sym (unknown_is c (run_of r) p e (state_of c l v n st cl wt) (nothing_kept c l v n st cl wt)));
       }
 
-  pub unknown_excluded : {cl cl' : List ℕ} {n'' : Counters} {x : ℕ} {a : Origin} → is_full n' ≡ false → a ≡ part_origin p → Looked (variables n'.variables st') a x
+  pub unknown_excluded : {cl cl' : List ℕ} {n'' : Counters} {x : ℕ} → is_full n' ≡ false → Looked (variables n'.variables st') (part_origin p) x
       → Adds l r (excluded x p (reason_for true)) n' st' cl n'' st' cl'
       → ClausesDid c l (λ v. serving c (run_of r) (owner (part p))) n st cl n'' st' cl'
-  unknown_excluded {cl} {cl'} {x = x} f j k g =
+  unknown_excluded {cl} {cl'} {x = x} f k g =
       record {
-        is = λ wt. did_as (did_then ((named.is c).is cl wt) (g.is c wt))
+        is = λ wt. did_as (did_then ((d.is c).is cl wt) (g.is c wt))
             (λ v s. unknown_widens c (run_of r) p e s)
             (λ h u v. same wt h u v ∙ sym (unknown_is c (run_of r) p e (state_of c l v n st cl wt) (nothing_kept c l v n st cl wt)));
       }
     where
       vars : (wt : List ℕ) → Good c l n st cl wt → is_full n ≡ false → (v : Reading)
           → variables n'.variables st' ≡ with_variable (part_origin p) (state_of c l v n st cl wt).variables
-      vars wt h u v = variables_after_law c l v n n' st st' cl wt (part_origin p) (((named.is c).is cl wt).done h u f v)
+      vars wt h u v = variables_after_law c l v n n' st st' cl wt (part_origin p) (((d.is c).is cl wt).done h u f v)
 
       same : (wt : List ℕ) → Good c l n st cl wt → is_full n ≡ false → (v : Reading)
           → add_clause (run_of r) (excluded x p (reason_for true)) (add_variable (part_origin p) (state_of c l v n st cl wt))
@@ -156,8 +156,7 @@ module _ (c : Catalogue) {l : Limits} (r : encoder.Run) (p : ℕ) (o : Origin) {
       same wt h u v =
           let now = vars wt h u v in
           let there : known (variables n'.variables st') (part_origin p) ≡ true = rw now (with_variable_known (part_origin p) (state_of c l v n st cl wt).variables) in
-          let looked : Looked (variables n'.variables st') (part_origin p) x = rw j at k in
-          excluded_is (run_of r) p x (state_of c l v n st cl wt) (looked.is there ∙ rw now)
+          excluded_is (run_of r) p x (state_of c l v n st cl wt) (k.is there ∙ rw now)
 
 -- what a clause needs
 pub can_add : {c : Catalogue} {l : Limits} {n : Counters} {st : ℕ → List ℕ} {cl wt : List ℕ} {k : ℕ} → Good c l n st cl wt → LongEnough l (length cl) k → CanAdd l n st (length cl)
@@ -173,30 +172,32 @@ named_mapped g d = (named_good g d).state.mapped
 
 -- ---- which of the two
 
-pub root_known : (c : Catalogue) {o : ℕ} → o ≡ 1024 → unknown_owner c (owner_of o) ≡ false
+pub root_known : (c : Catalogue) (o : code.Owner) → ((p : ℕ) → o ≡ Part p → ⊥) → unknown_owner c (owner_is o) ≡ false
 unfolding unknown_owner
-root_known c e = rw (e, root_is)
+root_known c Root n = refl
+root_known c (Part p) n = absurd (n p refl)
 
-module _ (k : Counts) (m us t : List ℕ) {o : ℕ} (h : o < 1025) (ne : o ≡ 1024 → ⊥) where
-  owner_is_law : owner_of o ≡ part o
-  owner_is_law = let low : o < 1024 = below h ne in part_is o low
-    where
-      below : o < 1025 → (o ≡ 1024 → ⊥) → o < 1024
-      below h ne = omega arith
+pub part_of_law : (o : ℕ) {p : ℕ} {w : code.Owner} → owner_is w ≡ owner_of o → w ≡ Part p → owner_of o ≡ part p
+part_of_law o f q = sym f ∙ ap owner_is q
 
-  pub part_given : OwnerGiven (catalogue k m us t) (owner_of o) → o < k.parts
-  part_given g = let low : o < length (catalogue k m us t).parts = rw owner_is_law at g in omega (arith, parts_held k m us t)
+module _ (k : Counts) (m us t : List ℕ) (o p : ℕ) (w : code.Owner) (f : owner_is w ≡ owner_of o) (q : w ≡ Part p) where
+  pub part_given : OwnerGiven (catalogue k m us t) (owner_of o) → p < k.parts
+  part_given g = let low : p < length (catalogue k m us t).parts = rw (part_of_law o f q) at g in omega (arith, parts_held k m us t)
 
-  module _ {b : Bool} (e : b ≡ (get_or (tables k t).parts o no_part).unknown) where
-    pub part_unknown : b ≡ true → unknown_owner (catalogue k m us t) (part o) ≡ true
+  module _ {b : Bool} (e : b ≡ (get_or (tables k t).parts p no_part).unknown) where
+    pub part_unknown : b ≡ true → unknown_owner (catalogue k m us t) (part p) ≡ true
     unfolding unknown_owner
-    part_unknown f = ap (λ (x : Part). x.unknown) (part_held k m us t o) ∙ (sym e ∙ f)
+    part_unknown h = ap (λ (x : rules.Part). x.unknown) (part_held k m us t p) ∙ (sym e ∙ h)
 
-    pub part_known : b ≡ false → unknown_owner (catalogue k m us t) (owner_of o) ≡ false
+    pub part_known : b ≡ false → unknown_owner (catalogue k m us t) (part p) ≡ false
     unfolding unknown_owner
-    part_known f = rw owner_is_law (ap (λ (x : Part). x.unknown) (part_held k m us t o) ∙ (sym e ∙ f))
+    part_known h = ap (λ (x : rules.Part). x.unknown) (part_held k m us t p) ∙ (sym e ∙ h)
 
   pub served_unknown : {l : Limits} (r : Run) {n n' : Counters} {st st' : ℕ → List ℕ} {cl cl' : List ℕ}
-      → ClausesDid (catalogue k m us t) l (λ v. serving (catalogue k m us t) r (owner (part o))) n st cl n' st' cl'
+      → ClausesDid (catalogue k m us t) l (λ v. serving (catalogue k m us t) r (owner (part p))) n st cl n' st' cl'
       → ClausesDid (catalogue k m us t) l (λ v. serving (catalogue k m us t) r (owner (owner_of o))) n st cl n' st' cl'
-  served_unknown r d = rw owner_is_law d
+  served_unknown r d = rw (part_of_law o f q) d
+
+pub served_as : {c : Catalogue} {o w : Owner} → w ≡ o → {l : Limits} (r : encoder.Run) {n n' : Counters} {st st' : ℕ → List ℕ} (cl : List ℕ)
+    → unknown_owner c w ≡ false → StateDid c l (λ v. on_opening (serve_owner c w)) n st n' st' → ClausesDid c l (λ v. serving c (run_of r) (owner o)) n st cl n' st' cl
+served_as {c} {w = w} e r cl h d = rw e at (served_known c w h r cl d)

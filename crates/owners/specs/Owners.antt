@@ -3,23 +3,21 @@ use Rattle.std.specs.Prelude.{◌≡◌, Bool, ◌&&◌, ℕ, ◌<◌, length}
 use Rattle.rules.specs.Lists.{when}
 use Rattle.rules.specs.Catalogue.{Owner, Catalogue, constraint_at, owner_at, range_name, same_owner}
 use Rattle.rules.specs.Conditions.{unconditional}
-use Rattle.rules.specs.Items as items
 use Rattle.rules.specs.Opening.{Task, constraint, Opening, queue, open_name, open_names, ranges_of, task_by}
 use Rattle.rules.specs.State.{State}
 use Rattle.rules.specs.State as rules
 use Rattle.rules.specs.Run.{serve_task}
 use Rattle.rules.proofs.Forgotten.{forget}
+use Rattle.requirement.specs.declared.Owner as code
+use Rattle.requirement.specs.declared.Owner.TheVariants.{Part}
 use Rattle.tables.specs.declared.Counts.{Counts}
 use Rattle.encoder.specs.Held.{Reading}
 use Rattle.owners.specs.declared.Rule.{Rule}
 use Rattle.owners.specs.declared.Rule.TheVariants.{OpenRequirement, OpenConstraint, QueueRequirement, QueueConstraint}
 
-unfoldable pub owner_is : ℕ → Owner
-owner_is o = items.owner_of o
-
--- an owner of the tables: the root, or below the ceiling of parts
-pub record OwnerNumber (o : ℕ) : Type 0 where
-  pub low : (o ≡ 65535 → ⊥) → o < 1024
+-- an owner of the tables: the root, or a part below the ceiling of parts
+pub record OwnerNumber (o : code.Owner) : Type 0 where
+  pub low : (p : ℕ) → o ≡ Part p → p < 1024
 
 -- record i, if it is this owner's
 unfoldable pub rule_of : Catalogue → Reading → Rule → Owner → ℕ → Opening → Opening

@@ -1,3 +1,3 @@
 pub mod Items
 pub mod Search
-pub mod Free
+pub mod Claims

@@ -1,305 +1,151 @@
-// The catalogue's names, parts, ranges and members: the refusals 3, 4 and 5 of each in their order, and its effect on the tables and marks.
-// A part that is the second locked or favoured one of its name is told by a byte for each name and flag, and where that does not tell by a search.
+// The catalogue's names, parts, ranges and members: the refusals 3, 4 and 5 of each in their order, and its effect on the draft.
+// A part that is the second locked or favoured one of its name is told by what is known of the name, and where that does not tell by a search.
 #![tactic(auto)]
 
-ghost use Rattle.std.specs.Prelude.{◌≡◌, ◌&&◌, ◌<◌, ◌≤◌, eqb, length, get_or};
-ghost use Rattle.rules.specs.Catalogue.{no_part, part_at};
+ghost use Rattle.std.specs.Prelude.{◌≡◌, ◌<◌, get_or, OnErr};
 ghost use Rattle.rules.specs.Records.{Item};
-ghost use Rattle.rules.specs.Items.{of_same_name};
-ghost use Rattle.tables.specs.Tables.{Laid, tables};
-ghost use Rattle.cache.specs.Areas.{catalogue};
-ghost use Rattle.kept.specs.Kept.{Kept};
-ghost use Rattle.kept.specs.Entered.{Entered};
-ghost use Rattle.part_items.specs.Flags.{in_flags, has, is_second, Vacant, If, Place, Open, FlagNoted, Plain, First, Noted, Fitting, Free, Joined};
+ghost use Rattle.rules.specs.Lists.{any};
+ghost use Rattle.rules.specs.Catalogue.{no_part};
+ghost use Rattle.tables.specs.Views.{tables_of};
+ghost use Rattle.kept.specs.Vacancies.{nothing_known};
+ghost use Rattle.kept.specs.Drafts.{catalogue_in, EnteredInto, Unchanged, SameAreas};
+ghost use Rattle.part_items.specs.Second.{such, is_second};
+ghost use Rattle.part_items.specs.Claimed.{Claimed};
 
-use kept::Added;
+use kept::{Draft, Vacancy, has_flag};
 use refusal::{Contradiction, Refusal, Thing};
-use tables::Counts;
+use tables::{Flag, Tables};
 
-// A flag that one part of a name may have.
-#[derive(Clone, Copy)]
-enum Flag {
-    Locked,
-    Favoured,
-}
-
-pub fn add_name(marks: &[u8], unions: &[u8], t: &mut [u8], k: Counts, flags: u8) -> Added
-    requires { Kept k marks.now unions.now t.old }
-    ensures { Entered k (catalogue k marks.now unions.now t.old) (Item.name flags)
-        result marks.now unions.now t.new }
+pub fn add_name(draft: &mut Draft, flags: u8) -> Result<(), Refusal>
+    ensures entered { EnteredInto draft.old (Item.name flags) result draft.new }
+    ensures refused { OnErr result (Unchanged draft.old draft.new) }
+    ensures same_areas { SameAreas draft.old draft.new }
 {
-    if 64 <= k.names {
-        return Added::Refused(Refusal::TooMany(Thing::Name));
+    if 64 <= draft.tables.counts.names {
+        return Err(Refusal::TooMany(Thing::Name));
     }
     if 1 < flags {
-        return Added::Refused(Refusal::Contradicts(Contradiction::OtherBits));
+        return Err(Refusal::Contradicts(Contradiction::OtherBits));
     }
-    Added::Counted(tables::put_name(t, k, flags))
+    draft.tables.push_name(flags);
+    Ok(())
 }
 
-// ---- parts: a second locked or favoured one of a name
+// ---- parts
 
-fn is_set(flag: Flag, flags: u8) -> bool
-    ensures { result ≡ in_flags flag flags }
+// Is a part of this name, and has it the flag?
+fn is_such(tables: &Tables, flag: Flag, name: u16, part: usize) -> bool
+    ensures { result ≡ such flag name (get_or (tables_of tables.now).parts part no_part) }
 {
-    match flag {
-        Flag::Locked => tables::has_bit(words::wide(flags), 4),
-        Flag::Favoured => tables::has_bit(words::wide(flags), 8),
-    }
+    tables.part_name(part) == name && tables.has(flag, part)
 }
 
-fn part_has(t: &[u8], k: Counts, flag: Flag, p: usize) -> bool
-    requires { Laid k (length t.now) }
-    ensures { result ≡ has flag (get_or (tables k t.now).parts p no_part) }
+// Has a part of this name the flag?
+fn has_such(tables: &Tables, flag: Flag, name: u16) -> bool
+    ensures { result ≡ any (such flag name) (tables_of tables.now).parts }
 {
-    match flag {
-        Flag::Locked => tables::locked(t, k, p),
-        Flag::Favoured => tables::favoured(t, k, p),
-    }
-}
-
-// Is part p of this name, and has it the flag?
-fn is_such(
-    marks: &[u8],
-    unions: &[u8],
-    t: &[u8],
-    k: Counts,
-    flag: Flag,
-    name: u16,
-    p: usize,
-) -> bool
-    requires { Kept k marks.now unions.now t.now }
-    ensures { result ≡ (eqb (part_at (catalogue k marks.now unions.now t.now) p).name name
-        && has flag (part_at (catalogue k marks.now unions.now t.now) p)) }
-{
-    if tables::part_name(t, k, p) == name {
-        return part_has(t, k, flag, p);
-    }
-    false
-}
-
-fn has_such(marks: &[u8], unions: &[u8], t: &[u8], k: Counts, flag: Flag, name: u16) -> bool
-    requires { Kept k marks.now unions.now t.now }
-    ensures { result ≡ of_same_name (catalogue k marks.now unions.now t.now) (has flag) name }
-{
-    let mut p = 0;
-    while p < k.parts {
-        if is_such(marks, unions, t, k, flag, name, p) {
+    for part in 0..tables.counts.parts {
+        if is_such(tables, flag, name, part) {
             return true;
         }
-        p += 1;
     }
     false
 }
 
-// Would a part of these flags be the second one of its name that has the flag?
-fn is_second(
-    marks: &[u8],
-    unions: &[u8],
-    t: &[u8],
-    k: Counts,
-    flag: Flag,
-    name: u16,
-    flags: u8,
-) -> bool
-    requires { Kept k marks.now unions.now t.now }
-    ensures { result ≡ is_second (catalogue k marks.now unions.now t.now) flag name flags }
+// Would a part of these flags be the second one of its name that has the flag? So much is known of the name.
+fn is_second(draft: &Draft, known: Vacancy, flag: Flag, name: u16, flags: u8) -> bool
+    requires { known ≡ get_or draft.now.vacancies.now name nothing_known }
+    ensures { result ≡ is_second (catalogue_in draft.now) flag name flags }
 {
-    if is_set(flag, flags) {
-        return has_such(marks, unions, t, k, flag, name);
-    }
-    false
+    has_flag(flags, flag) && !known.is_of(flag) && has_such(&draft.tables.as_tables(), flag, name)
 }
 
+// Refuses a part that is the second locked or favoured one of its name; of any other it is noted what flags it has. Most parts are neither.
+#[inline(always)]
+fn claim(draft: &mut Draft, name: u16, flags: u8) -> Result<(), Refusal>
+    requires { name < 64 }
+    ensures claimed { Claimed draft.old name flags result draft.new }
+    ensures refused { OnErr result (Unchanged draft.old draft.new) }
+    ensures same_areas { SameAreas draft.old draft.new }
+{
+    if !has_flag(flags, Flag::Locked) && !has_flag(flags, Flag::Favoured) {
+        return Ok(());
+    }
+    let known = draft.vacancies[name as usize];
+    if is_second(draft, known, Flag::Locked, name, flags) {
+        return Err(Refusal::Contradicts(Contradiction::SecondLocked));
+    }
+    if is_second(draft, known, Flag::Favoured, name, flags) {
+        return Err(Refusal::Contradicts(Contradiction::SecondFavoured));
+    }
+    draft.vacancies[name as usize].note(flags);
+    Ok(())
+}
+
+#[inline(always)]
 pub fn add_part(
-    marks: &[u8],
-    unions: &[u8],
-    t: &mut [u8],
-    k: Counts,
+    draft: &mut Draft,
     name: u16,
     flags: u8,
     unknown: u16,
     exclusion: u16,
-) -> Added
-    requires { Kept k marks.now unions.now t.old }
-    ensures { Entered k (catalogue k marks.now unions.now t.old) (Item.part name flags unknown exclusion)
-        result marks.now unions.now t.new }
+) -> Result<(), Refusal>
+    ensures entered { EnteredInto draft.old (Item.part name flags unknown exclusion) result draft.new }
+    ensures refused { OnErr result (Unchanged draft.old draft.new) }
+    ensures same_areas { SameAreas draft.old draft.new }
 {
-    if 1024 <= k.parts {
-        return Added::Refused(Refusal::TooMany(Thing::Part));
+    if 1024 <= draft.tables.counts.parts {
+        return Err(Refusal::TooMany(Thing::Part));
     }
-    if k.names <= name as usize {
-        return Added::Refused(Refusal::Missing(Thing::Name, 1));
+    if draft.tables.counts.names <= name as usize {
+        return Err(Refusal::Missing(Thing::Name, 1));
     }
     if 31 < flags {
-        return Added::Refused(Refusal::Contradicts(Contradiction::OtherBits));
+        return Err(Refusal::Contradicts(Contradiction::OtherBits));
     }
-    if is_second(marks, unions, t, k, Flag::Locked, name, flags) {
-        return Added::Refused(Refusal::Contradicts(Contradiction::SecondLocked));
-    }
-    if is_second(marks, unions, t, k, Flag::Favoured, name, flags) {
-        return Added::Refused(Refusal::Contradicts(Contradiction::SecondFavoured));
-    }
-    Added::Counted(tables::put_part(t, k, name, flags, unknown, exclusion))
-}
-
-// ---- the same without a search, by a byte for each flag and name: 1 only where no part of the name has the flag
-
-fn place_of(flag: Flag, name: usize) -> usize
-    requires { name < 64 }
-    ensures { Place flag name result }
-{
-    match flag {
-        Flag::Locked => name,
-        Flag::Favoured => 64 + name,
-    }
-}
-
-// Is the flag not set, or a part of this name the first one that has it?
-fn is_open(vacant: &[u8; 128], flag: Flag, name: usize, flags: u8) -> bool
-    requires { name < 64 }
-    ensures { If result (Open flag vacant.now name flags) }
-{
-    if is_set(flag, flags) {
-        return vacant[place_of(flag, name)] == 1;
-    }
-    true
-}
-
-// The flag, if it is set, is noted for the name.
-fn note_flag(vacant: &mut [u8; 128], flag: Flag, name: usize, flags: u8)
-    requires { name < 64 }
-    ensures { FlagNoted flag name flags vacant.old vacant.new }
-{
-    if is_set(flag, flags) {
-        let place = place_of(flag, name);
-        vacant[place] = 0;
-    }
-}
-
-// Most parts are neither locked nor favoured: no byte is asked or noted for them.
-fn is_plain(flags: u8) -> bool
-    ensures { If result (Plain flags) }
-{
-    if is_set(Flag::Locked, flags) {
-        return false;
-    }
-    !is_set(Flag::Favoured, flags)
-}
-
-fn is_first(vacant: &[u8; 128], name: usize, flags: u8) -> bool
-    requires { name < 64 }
-    ensures { If result (First vacant.now name flags) }
-{
-    if is_plain(flags) {
-        return true;
-    }
-    if is_open(vacant, Flag::Locked, name, flags) {
-        return is_open(vacant, Flag::Favoured, name, flags);
-    }
-    false
-}
-
-fn note(vacant: &mut [u8; 128], name: usize, flags: u8)
-    requires { name < 64 }
-    ensures { Noted name flags vacant.old vacant.new }
-{
-    if is_plain(flags) {
-        return;
-    }
-    note_flag(vacant, Flag::Locked, name, flags);
-    note_flag(vacant, Flag::Favoured, name, flags);
-}
-
-// ---- a part that nothing speaks against
-
-// Is there room for a part, its name given, and no other bit set?
-fn fits(k: Counts, name: u16, flags: u8) -> bool
-    ensures { If result (Fitting k name flags) }
-{
-    if 1024 <= k.parts {
-        return false;
-    }
-    if k.names <= name as usize {
-        return false;
-    }
-    flags <= 31
-}
-
-// Does nothing speak against a part? A part that is left out by a byte may still be entered by `add_part`.
-pub fn is_free(vacant: &[u8; 128], k: Counts, name: u16, flags: u8) -> bool
-    requires { k.names ≤ 64 }
-    ensures { If result (Free k vacant.now name flags) }
-{
-    if fits(k, name, flags) {
-        return is_first(vacant, name as usize, flags);
-    }
-    false
-}
-
-// Such a part.
-pub fn add_free(
-    marks: &[u8],
-    unions: &[u8],
-    t: &mut [u8],
-    vacant: &mut [u8; 128],
-    k: Counts,
-    name: u16,
-    flags: u8,
-    unknown: u16,
-    exclusion: u16,
-) -> Counts
-    requires kept { Kept k marks.now unions.now t.old }
-    requires vacant { Vacant vacant.old (catalogue k marks.now unions.now t.old) }
-    requires free { Free k vacant.old name flags }
-    ensures { Joined k (catalogue k marks.now unions.now t.old) name flags unknown exclusion
-        result marks.now unions.now t.new vacant.new }
-{
-    note(vacant, name as usize, flags);
-    tables::put_part(t, k, name, flags, unknown, exclusion)
+    claim(draft, name, flags)?;
+    draft.tables.push_part(name, flags, unknown, exclusion);
+    Ok(())
 }
 
 // ---- ranges and their members
 
-pub fn add_range(marks: &mut [u8], unions: &[u8], t: &mut [u8], k: Counts, name: u16) -> Added
-    requires { Kept k marks.old unions.now t.old }
-    ensures { Entered k (catalogue k marks.old unions.now t.old) (Item.range name)
-        result marks.new unions.now t.new }
+pub fn add_range(draft: &mut Draft, name: u16) -> Result<(), Refusal>
+    ensures entered { EnteredInto draft.old (Item.range name) result draft.new }
+    ensures refused { OnErr result (Unchanged draft.old draft.new) }
+    ensures same_areas { SameAreas draft.old draft.new }
 {
-    if 512 <= k.ranges {
-        return Added::Refused(Refusal::TooMany(Thing::Range));
+    if 512 <= draft.tables.counts.ranges {
+        return Err(Refusal::TooMany(Thing::Range));
     }
-    if k.names <= name as usize {
-        return Added::Refused(Refusal::Missing(Thing::Name, 1));
+    if draft.tables.counts.names <= name as usize {
+        return Err(Refusal::Missing(Thing::Name, 1));
     }
-    marks::clear_row(marks, k.ranges);
-    Added::Counted(tables::put_range(t, k, name))
+    draft.marks.clear_row(draft.tables.counts.ranges);
+    draft.tables.push_range(name);
+    Ok(())
 }
 
-pub fn add_member(
-    marks: &mut [u8],
-    unions: &[u8],
-    t: &[u8],
-    k: Counts,
-    range: u16,
-    part: u16,
-) -> Added
-    requires { Kept k marks.old unions.now t.now }
-    ensures { Entered k (catalogue k marks.old unions.now t.now) (Item.member range part)
-        result marks.new unions.now t.now }
+pub fn add_member(draft: &mut Draft, range: u16, part: u16) -> Result<(), Refusal>
+    ensures entered { EnteredInto draft.old (Item.member range part) result draft.new }
+    ensures refused { OnErr result (Unchanged draft.old draft.new) }
+    ensures same_areas { SameAreas draft.old draft.new }
 {
-    if k.ranges <= range as usize {
-        return Added::Refused(Refusal::Missing(Thing::Range, 1));
+    let range = range as usize;
+    let part = part as usize;
+    if draft.tables.counts.ranges <= range {
+        return Err(Refusal::Missing(Thing::Range, 1));
     }
-    if k.parts <= part as usize {
-        return Added::Refused(Refusal::Missing(Thing::Part, 3));
+    if draft.tables.counts.parts <= part {
+        return Err(Refusal::Missing(Thing::Part, 3));
     }
-    if tables::part_name(t, k, part as usize) != tables::range_name(t, k, range as usize) {
-        return Added::Refused(Refusal::Contradicts(Contradiction::PartOfAnotherName));
+    let tables = draft.tables.as_tables();
+    if tables.part_name(part) != tables.range_name(range) {
+        return Err(Refusal::Contradicts(Contradiction::PartOfAnotherName));
     }
-    if marks::marked(marks, range as usize, part as usize) {
-        return Added::Refused(Refusal::Contradicts(Contradiction::MemberTwice));
+    if draft.marks.as_marks().marked(range, part) {
+        return Err(Refusal::Contradicts(Contradiction::MemberTwice));
     }
-    marks::mark(marks, range as usize, part as usize);
-    Added::Counted(k)
+    draft.marks.mark(range, part);
+    Ok(())
 }

@@ -8,7 +8,7 @@ use lib.ListN.{length}
 use Rattle.rules.specs.Lists.{filter, fold, when, up_to}
 use Rattle.rules.specs.Clause.{Clause, excluded, constrains, aux_out, lock}
 use Rattle.rules.specs.Catalogue.{Catalogue}
-use Rattle.rules.specs.Variables.{Origin, known, variable_of, part_origin, part_variable}
+use Rattle.rules.specs.Variables.{Origin, known, part_origin, part_variable}
 use Rattle.rules.specs.State.{State}
 use Rattle.rules.specs.State as rules
 use Rattle.rules.proofs.Each.{Each, each_out}
@@ -20,8 +20,7 @@ use Rattle.cache.specs.Areas.{catalogue}
 use Rattle.cache.proofs.Laws.{parts_held}
 use Rattle.state.specs.declared.Limits.{Limits}
 use Rattle.state.specs.Layout.{held}
-use Rattle.variable_map.specs.declared.Origin as code
-use Rattle.variable_map.specs.Mapping.{origin_of, variables}
+use Rattle.variable_map.specs.Mapping.{variables}
 use Rattle.encoder.specs.declared.Counters.{Counters}
 use Rattle.encoder.specs.declared.Run.{Run}
 use Rattle.encoder.specs.Held.{run_of, state_of, Good, KnownUnlessFull}
@@ -34,21 +33,17 @@ use Rattle.index.specs.Chains.{Skips}
 use Rattle.index.proofs.Walking.{walk}
 use Rattle.parts.specs.declared.Parts.{Parts}
 use Rattle.parts.specs.declared.Adding.{Adding}
-use Rattle.parts.specs.Parts.{selected_of, parts_for, clause_for, adding_of, CanAdd}
+use Rattle.parts.specs.Parts.{selected_of, parts_for, clause_for, adding_of}
 use Rattle.parts.proofs.Lists.{fold_none, fold_more}
 
 -- ---- one part
 
-pub settable_out : {l : Limits} {r : Run} {a : Adding} {y : ℕ} → CanAdd l r a → a ≡ Adding.AuxOut y → y < l.variables
-settable_out h e = rw e at h.settable
-
-module _ (o : code.Origin) (n : Counters) (st : ℕ → List ℕ) {x p : ℕ}
-    (e : origin_of o ≡ part_origin p) (k : Looked (variables n.variables st) (origin_of o) x) (h : KnownUnlessFull (is_full n) (variables n.variables st) (p ∷ [])) where
+module _ (n : Counters) (st : ℕ → List ℕ) {x p : ℕ} (k : Looked (variables n.variables st) (part_origin p) x) (h : KnownUnlessFull (is_full n) (variables n.variables st) (p ∷ [])) where
   its_variable : is_full n ≡ false → x ≡ part_variable (variables n.variables st) p
   its_variable f = first (h.known f).known
     where
       first : Each (λ q. known (variables n.variables st) (part_origin q) ≡ true) (p ∷ []) → x ≡ part_variable (variables n.variables st) p
-      first (Each.cons q qs) = k.is (rw e q) ∙ ap (variable_of (variables n.variables st)) e
+      first (Each.cons q qs) = k.is q
 
   module _ {c : Catalogue} {l : Limits} {r : Run} {n' : Counters} {st' : ℕ → List ℕ} {cl cl' : List ℕ} (a : Adding) where
     added : {i : Clause} → Adds l r i n st cl n' st' cl' → i ≡ clause_for a x p → ClausesDid c l (λ v. adding_of (run_of r) a p) n st cl n' st' cl'

@@ -4,9 +4,9 @@ use mathlib.Core.Bool.{Bool, true, false, not, true≢false}
 use mathlib.Core.List.{List, []}
 use Prim.Native.Nat.{ℕ, ◌+◌, ◌<◌, ◌≤◌}
 use native.Mathlib.Omega.{arith}
-use lib.Dec.{ltb}
 use lib.ListN.{length, get_or}
-use borrow.Author.Tests.{lt-ltb, ltb-true}
+use borrow.Author.Tests.{lt-ltb}
+use Rattle.std.specs.Prelude.{Option, None, Some, is_some}
 use Rattle.rules.specs.Lists.{filter, fold, when, up_to, elem}
 use Rattle.rules.specs.Catalogue.{Catalogue, no_part}
 use Rattle.rules.specs.Variables.{Origin, known, with_variable, part_origin}
@@ -23,9 +23,8 @@ use Rattle.cache.specs.Areas.{catalogue}
 use Rattle.cache.proofs.Laws.{parts_held, part_held, part_name_held}
 use Rattle.state.specs.declared.Limits.{Limits}
 use Rattle.state.specs.Layout.{held}
-use Rattle.variable_map.specs.declared.Origin as code
-use Rattle.variable_map.specs.Mapping.{origin_of, in_tables, variables, place}
-use Rattle.variable_map.proofs.Places.{placed, with_known}
+use Rattle.variable_map.specs.Mapping.{in_tables, variables, found}
+use Rattle.variable_map.proofs.Places.{found_known, found_none, with_known}
 use Rattle.marked.specs.Marked.{owner_of, listed, is_marked, Marked}
 use Rattle.marked.proofs.Owners.{part_is}
 use Rattle.encoder.specs.declared.Counters.{Counters}
@@ -44,9 +43,9 @@ use Rattle.opening.proofs.Opens.{open_owner_again}
 use Rattle.parts.specs.Parts.{selected_of, parts_for, naming_of, Settled, Due}
 use Rattle.parts.proofs.Lists.{fold_none, fold_more}
 
-pub part_fits : (o : code.Origin) (p : ℕ) → origin_of o ≡ part_origin p → p < 1024 → in_tables (origin_of o) ≡ true
+pub part_fits : (p : ℕ) → p < 1024 → in_tables (part_origin p) ≡ true
 unfolding in_tables
-part_fits o p e h = rw e (lt-ltb p 1024 h)
+part_fits p h = lt-ltb p 1024 h
 
 -- ---- it is opened if it is ready
 
@@ -68,16 +67,13 @@ module _ {c : Catalogue} {l : Limits} {n n' : Counters} {st st' : ℕ → List �
     pub named_after : Marked 8 9 n'.named st'
     named_after = (alone_after (d.is c) g).good.state.named
 
-  module _ (o : code.Origin) (p : ℕ) (e : origin_of o ≡ part_origin p) (d : PlainDid l (λ c v. add_variable (origin_of o)) n st n' st') where
-    named_variable : StateDid c l (λ v. add_variable (part_origin p)) n st n' st'
-    named_variable = rw e at (d.is c)
-
+  module _ (p : ℕ) (d : PlainDid l (λ c v. add_variable (part_origin p)) n st n' st') where
     pub naming_variable : (naming : Naming) → naming ≡ Variable → StateDid c l (λ v. naming_of c naming p) n st n' st'
-    naming_variable naming i = state_same named_variable (λ v s. unfold naming_of in rw i)
+    naming_variable naming i = state_same (d.is c) (λ v s. unfold naming_of in rw i)
 
     pub tracked_named : {n'' : Counters} {st'' : ℕ → List ℕ} → StateDid c l (λ v. on_opening (name_for_tracking c p)) n' st' n'' st''
         → StateDid c l (λ v. naming_of c Tracked p) n st n'' st''
-    tracked_named h = state_same (state_then named_variable h) (λ v s. unfold naming_of in refl)
+    tracked_named h = state_same (state_then (d.is c) h) (λ v s. unfold naming_of in refl)
 
   module _ (p : ℕ) where
     pub candidate_named : {n'' : Counters} {st'' : ℕ → List ℕ} → StateDid c l (λ v. naming_of c Tracked p) n st n' st'
@@ -98,15 +94,20 @@ naming_other which naming p e i = state_none (λ v s. unfold when in rw (← e, 
 
 -- ---- a part that is settled
 
-pub variable_some : (vs : List Origin) (o : code.Origin) (p x : ℕ) → origin_of o ≡ part_origin p → x ≡ place vs (origin_of o) → ltb 0 x ≡ true → known vs (part_origin p) ≡ true
-variable_some vs o p x e h i = rw e at (placed vs (origin_of o) x h (ltb-true 0 x i))
+pub not_said : {A : Type 0} → false ≡ true → A
+not_said e = absurd (true≢false (sym e))
+
+pub variable_some : (vs : List Origin) (p : ℕ) (r : Option ℕ) → r ≡ found vs (part_origin p) → is_some r ≡ true → known vs (part_origin p) ≡ true
+variable_some vs p (Some x) h i = (found_known vs (part_origin p) (Some x) h x refl).0
+variable_some vs p None h i = not_said i
+
+pub variable_none : (vs : List Origin) (p : ℕ) (r : Option ℕ) → r ≡ found vs (part_origin p) → is_some r ≡ false → known vs (part_origin p) ≡ false
+variable_none vs p None h i = found_none vs (part_origin p) None h refl
+variable_none vs p (Some x) h i = absurd (true≢false i)
 
 not_false : (f : Bool) → not f ≡ false → f ≡ true
 not_false true e = refl
 not_false false e = sym e
-
-pub not_said : {A : Type 0} → false ≡ true → A
-not_said e = absurd (true≢false (sym e))
 
 module _ {c : Catalogue} {l : Limits} {n : Counters} {st : ℕ → List ℕ} (p : ℕ) (k : known (variables n.variables st) (part_origin p) ≡ true) where
   pub known_idle : StateDid c l (λ v. add_variable (part_origin p)) n st n st

@@ -1,11 +1,11 @@
 -- Is a part one of these? A law for each way out. And for callers: the definitions' lists as such parts.
 use mathlib.Core.Path.{◌≡◌, sym}
-use mathlib.Core.Bool.{Bool, false, not, ◌&&◌}
+use mathlib.Core.Bool.{Bool, not, ◌&&◌}
 use mathlib.Core.List.{List, ◌∷◌}
 use Prim.Native.Nat.{ℕ}
 use lib.Dec.{eqb}
 use lib.ListN.{length, get_or}
-use borrow.Author.Tests.{eq-eqb, ne_eqb}
+use borrow.Author.Tests.{eq-eqb}
 use Rattle.rules.specs.Catalogue.{Catalogue, no_part, part_at, name_of, range_name, excluded_part}
 use Rattle.rules.specs.Lists.{filter, up_to}
 use Rattle.rules.specs.Candidates.{member, parts_of, non_matching, locked_part, others, locked_out, excluded_parts}
@@ -23,9 +23,6 @@ use Rattle.index.proofs.Selecting.{skips_name}
 use Rattle.parts.specs.declared.Parts.{Parts}
 use Rattle.parts.specs.declared.Parts.TheVariants.{Chosen, Locked, Others, Excluded}
 use Rattle.parts.specs.Parts.{selected_of, parts_for}
-
-pub not_named : (n x y : ℕ) (b : Bool) → x ≡ y → (x ≡ n → ⊥) → false ≡ (eqb y n && b)
-not_named n x y b e h = rw (← e, ne_eqb x n h)
 
 pub named : (n x y : ℕ) (a b : Bool) → x ≡ y → x ≡ n → a ≡ b → a ≡ (eqb y n && b)
 named n x y a b e h f = rw (← e, eq-eqb x n h) f

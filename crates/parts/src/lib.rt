@@ -6,21 +6,24 @@ ghost use Rattle.rules.specs.Lists.{fold, when};
 ghost use Rattle.rules.specs.Catalogue.{no_part};
 ghost use Rattle.rules.specs.Opening.{open_ready, name_for_tracking};
 ghost use Rattle.rules.specs.Variables.{known, part_origin};
-ghost use Rattle.tables.specs.Tables.{tables, Laid};
-ghost use Rattle.cache.specs.Areas.{catalogue};
+ghost use Rattle.tables.specs.Tables.{flag_of};
 ghost use Rattle.index.specs.Chains.{Skips};
-ghost use Rattle.index.specs.Indexed.{Indexed};
 ghost use Rattle.state.specs.Layout.{held, Fits};
 ghost use Rattle.variable_map.specs.Mapping.{variables, Mapped};
 ghost use Rattle.encoder.specs.Held.{run_of, LongEnough, Good, GoodAlone, KnownUnlessFull};
 ghost use Rattle.encoder.specs.Did.{on_opening, StateDid, ClausesDid, is_full};
 ghost use Rattle.parts.specs.declared.Naming.TheVariants.{Tracked, Candidate};
 ghost use Rattle.parts.specs.Parts.{selected_of, parts_for, naming_of, adding_of, CanAdd, Settled, Due};
+ghost use Rattle.index.specs.Views.{catalogue_in, counts_in};
+ghost use Rattle.tables.specs.Views.{tables_of as tables_at};
 
 use cache::Choice;
 use encoder::{Counters, Run};
+use index::Index;
+use marked::MarkedList;
 use state::Limits;
-use tables::Counts;
+use tables::{Flag, Tables};
+use variable_map::Origin;
 
 // Which parts: those chosen of a range; of a name the locked one, all but the locked one, or the excluded ones.
 #[derive(Clone, Copy)]
@@ -32,6 +35,7 @@ pub enum Parts {
 }
 
 // What is named: a variable; for a part that is also tracked; for a candidate, which is also opened if it is ready.
+// Kept: no plainer: a trait or closures in place of this enum and of `Adding` need an impl or a contract with all counters and areas for each of these arms.
 #[derive(Clone, Copy)]
 pub enum Naming {
     Variable,
@@ -48,75 +52,57 @@ pub enum Adding {
     AuxOut(u16),
 }
 
-fn is_locked(t: &[u8], k: Counts, name: u16, p: usize) -> bool
-    requires { Laid k (length t.now) }
-    ensures { result ≡ (eqb (get_or (tables k t.now).parts p no_part).name name && (get_or (tables k t.now).parts p no_part).locked) }
+// Is part p of this name, with this flag?
+fn is_flagged(tables: &Tables, name: u16, flag: Flag, p: usize) -> bool
+    ensures { result ≡ (eqb (get_or (tables_at tables.now).parts p no_part).name name && flag_of flag (get_or (tables_at tables.now).parts p no_part)) }
 {
-    if tables::part_name(t, k, p) != name {
-        return false;
-    }
-    tables::locked(t, k, p)
+    tables.part_name(p) == name && tables.has(flag, p)
 }
 
-fn is_other(t: &[u8], k: Counts, name: u16, locked: usize, p: usize) -> bool
-    requires { Laid k (length t.now) }
-    ensures { result ≡ (eqb (get_or (tables k t.now).parts p no_part).name name && not (eqb p locked)) }
+// Is part p of this name, and not the locked one?
+fn is_other(tables: &Tables, name: u16, locked: usize, p: usize) -> bool
+    ensures { result ≡ (eqb (get_or (tables_at tables.now).parts p no_part).name name && not (eqb p locked)) }
 {
-    if tables::part_name(t, k, p) != name {
-        return false;
-    }
-    p != locked
+    tables.part_name(p) == name && p != locked
 }
 
-fn is_excluded(t: &[u8], k: Counts, name: u16, p: usize) -> bool
-    requires { Laid k (length t.now) }
-    ensures { result ≡ (eqb (get_or (tables k t.now).parts p no_part).name name && (get_or (tables k t.now).parts p no_part).excluded) }
-{
-    if tables::part_name(t, k, p) != name {
-        return false;
+impl Parts {
+    // Is part p one of these?
+    pub fn selects(self, index: &Index, p: usize) -> bool
+        ensures { result ≡ selected_of (catalogue_in index.now) self p }
+    {
+        let tables = &index.areas.tables;
+        match self {
+            Parts::Chosen { range, choice } => index.areas.chosen(range, choice, p),
+            Parts::Locked(name) => is_flagged(tables, name, Flag::Locked, p),
+            Parts::Others { name, locked } => is_other(tables, name, locked, p),
+            Parts::Excluded(name) => is_flagged(tables, name, Flag::Excluded, p),
+        }
     }
-    tables::excluded(t, k, p)
-}
 
-// Is part p one of these?
-pub fn selected(marks: &[u8], unions: &[u8], t: &[u8], k: Counts, which: Parts, p: usize) -> bool
-    requires { Indexed k marks.now unions.now t.now }
-    ensures { result ≡ selected_of (catalogue k marks.now unions.now t.now) which p }
-{
-    match which {
-        Parts::Chosen { range, choice } => cache::chosen(marks, unions, t, k, range, choice, p),
-        Parts::Locked(name) => is_locked(t, k, name, p),
-        Parts::Others { name, locked } => is_other(t, k, name, locked, p),
-        Parts::Excluded(name) => is_excluded(t, k, name, p),
+    // The first of them, or a part before it.
+    pub fn first(self, index: &Index) -> usize
+        ensures { Skips (counts_in index.now).parts (selected_of (catalogue_in index.now) self) 0 result }
+    {
+        match self {
+            Parts::Chosen { range, choice } => index.first_chosen(range, choice),
+            Parts::Locked(name) => index.first_part(name),
+            Parts::Others { name, locked: _ } => index.first_part(name),
+            Parts::Excluded(name) => index.first_part(name),
+        }
     }
-}
 
-// The first of them, or a part before it.
-pub fn first(marks: &[u8], unions: &[u8], t: &[u8], k: Counts, which: Parts) -> usize
-    requires { Indexed k marks.now unions.now t.now }
-    ensures { Skips k.parts (selected_of (catalogue k marks.now unions.now t.now) which) 0 result }
-{
-    match which {
-        Parts::Chosen { range, choice } => index::first_chosen(marks, unions, t, k, range, choice),
-        Parts::Locked(name) => index::first_part(marks, t, k, name),
-        Parts::Others { name, locked } => index::first_part(marks, t, k, name),
-        Parts::Excluded(name) => index::first_part(marks, t, k, name),
-    }
-}
-
-// The next one behind part p, or a part before it.
-pub fn next(marks: &[u8], unions: &[u8], t: &[u8], k: Counts, which: Parts, p: usize) -> usize
-    requires indexed { Indexed k marks.now unions.now t.now }
-    requires p_lt_parts { p < k.parts }
-    ensures { Skips k.parts (selected_of (catalogue k marks.now unions.now t.now) which) (p + 1) result }
-{
-    match which {
-        Parts::Chosen { range, choice } => index::next_chosen(
-            marks, unions, t, k, range, choice, p,
-        ),
-        Parts::Locked(name) => index::next_part(marks, t, k, name, p),
-        Parts::Others { name, locked } => index::next_part(marks, t, k, name, p),
-        Parts::Excluded(name) => index::next_part(marks, t, k, name, p),
+    // The next one behind part p, or a part before it.
+    pub fn next(self, index: &Index, p: usize) -> usize
+        requires { p < (counts_in index.now).parts }
+        ensures { Skips (counts_in index.now).parts (selected_of (catalogue_in index.now) self) (p + 1) result }
+    {
+        match self {
+            Parts::Chosen { range, choice } => index.next_chosen(range, choice, p),
+            Parts::Locked(name) => index.next_part(name, p),
+            Parts::Others { name, locked: _ } => index.next_part(name, p),
+            Parts::Excluded(name) => index.next_part(name, p),
+        }
     }
 }
 
@@ -128,200 +114,123 @@ fn has_variable(s: &[u8], l: Limits, n: Counters, p: u16) -> bool
     requires mapped { Mapped l n.variables (held l s.now) × (p < 1024) }
     ensures { result ≡ true → known (variables n.variables (held l s.now)) (part_origin p) ≡ true }
 {
-    variable_map::variable(s, l, n.variables, variable_map::part(p)) > 0
+    variable_map::variable(s, l, n.variables, Origin::Part(p)).is_some()
 }
 
-fn open_ready(
-    marks: &[u8],
-    unions: &[u8],
-    t: &[u8],
-    k: Counts,
-    s: &mut [u8],
-    l: Limits,
-    n: Counters,
-    p: u16,
-) -> Counters
-    requires indexed { Indexed k marks.now unions.now t.now }
+fn open_ready(index: &Index, s: &mut [u8], l: Limits, n: Counters, p: u16) -> Counters
     requires fits { Fits l (length s.old) }
-    requires good_alone { GoodAlone (catalogue k marks.now unions.now t.now) l n (held l s.old) }
+    requires good_alone { GoodAlone (catalogue_in index.now) l n (held l s.old) }
     requires p_bound { p < 1024 }
-    ensures { StateDid (catalogue k marks.now unions.now t.now) l (λ v. on_opening (open_ready (catalogue k marks.now unions.now t.now) p)) n (held l s.old) result (held l s.new) }
+    ensures { StateDid (catalogue_in index.now) l (λ v. on_opening (open_ready (catalogue_in index.now) p)) n (held l s.old) result (held l s.new) }
 {
-    if tables::ready(t, k, p as usize) {
+    if index.areas.tables.has(Flag::Ready, p as usize) {
         return opening::open_owner(s, l, n, p);
     }
     n
 }
 
-fn name_tracked(
-    marks: &[u8],
-    unions: &[u8],
-    t: &[u8],
-    k: Counts,
-    s: &mut [u8],
-    l: Limits,
-    n: Counters,
-    p: u16,
-) -> Counters
-    requires indexed { Indexed k marks.now unions.now t.now }
+fn name_tracked(index: &Index, s: &mut [u8], l: Limits, n: Counters, p: u16) -> Counters
     requires fits { Fits l (length s.old) }
-    requires good_alone { GoodAlone (catalogue k marks.now unions.now t.now) l n (held l s.old) }
+    requires good_alone { GoodAlone (catalogue_in index.now) l n (held l s.old) }
     requires p_bound { p < 1024 }
-    ensures { StateDid (catalogue k marks.now unions.now t.now) l (λ v. naming_of (catalogue k marks.now unions.now t.now) Tracked p) n (held l s.old) result (held l s.new) }
+    ensures { StateDid (catalogue_in index.now) l (λ v. naming_of (catalogue_in index.now) Tracked p) n (held l s.old) result (held l s.new) }
 {
     if has_variable(s, l, n, p) {
-        return opening::name_for_tracking(marks, unions, t, k, s, l, n, p);
+        return opening::name_for_tracking(&index.areas.tables, s, l, n, p);
     }
-    let m = opening::name_variable(s, l, n, variable_map::part(p));
-    opening::name_for_tracking(marks, unions, t, k, s, l, m, p)
+    let m = opening::name_variable(s, l, n, Origin::Part(p));
+    opening::name_for_tracking(&index.areas.tables, s, l, m, p)
 }
 
-fn name_candidate(
-    marks: &[u8],
-    unions: &[u8],
-    t: &[u8],
-    k: Counts,
-    s: &mut [u8],
-    l: Limits,
-    n: Counters,
-    p: u16,
-) -> Counters
-    requires indexed { Indexed k marks.now unions.now t.now }
+fn name_candidate(index: &Index, s: &mut [u8], l: Limits, n: Counters, p: u16) -> Counters
     requires fits { Fits l (length s.old) }
-    requires good_alone { GoodAlone (catalogue k marks.now unions.now t.now) l n (held l s.old) }
+    requires good_alone { GoodAlone (catalogue_in index.now) l n (held l s.old) }
     requires p_bound { p < 1024 }
-    ensures { StateDid (catalogue k marks.now unions.now t.now) l (λ v. naming_of (catalogue k marks.now unions.now t.now) Candidate p) n (held l s.old) result (held l s.new) }
+    ensures { StateDid (catalogue_in index.now) l (λ v. naming_of (catalogue_in index.now) Candidate p) n (held l s.old) result (held l s.new) }
 {
-    let m = name_tracked(marks, unions, t, k, s, l, n, p);
-    open_ready(marks, unions, t, k, s, l, m, p)
+    let m = name_tracked(index, s, l, n, p);
+    open_ready(index, s, l, m, p)
 }
 
 fn name_part(
-    marks: &[u8],
-    unions: &[u8],
-    t: &[u8],
-    k: Counts,
+    index: &Index,
     s: &mut [u8],
     l: Limits,
     n: Counters,
     naming: Naming,
     p: u16,
 ) -> Counters
-    requires indexed { Indexed k marks.now unions.now t.now }
     requires fits { Fits l (length s.old) }
-    requires good_alone { GoodAlone (catalogue k marks.now unions.now t.now) l n (held l s.old) }
+    requires good_alone { GoodAlone (catalogue_in index.now) l n (held l s.old) }
     requires p_bound { p < 1024 }
-    ensures { StateDid (catalogue k marks.now unions.now t.now) l (λ v. naming_of (catalogue k marks.now unions.now t.now) naming p) n (held l s.old) result (held l s.new) }
+    ensures { StateDid (catalogue_in index.now) l (λ v. naming_of (catalogue_in index.now) naming p) n (held l s.old) result (held l s.new) }
 {
     match naming {
-        Naming::Variable => opening::name_variable(s, l, n, variable_map::part(p)),
-        Naming::Tracked => name_tracked(marks, unions, t, k, s, l, n, p),
-        Naming::Candidate => name_candidate(marks, unions, t, k, s, l, n, p),
+        Naming::Variable => opening::name_variable(s, l, n, Origin::Part(p)),
+        Naming::Tracked => name_tracked(index, s, l, n, p),
+        Naming::Candidate => name_candidate(index, s, l, n, p),
     }
 }
 
 // Part p is named for tracking, or its name was served with several allowed: naming it for tracking changes nothing.
-fn is_tracked(
-    marks: &[u8],
-    unions: &[u8],
-    t: &[u8],
-    k: Counts,
-    s: &[u8],
-    l: Limits,
-    n: Counters,
-    p: u16,
-) -> bool
-    requires indexed { Indexed k marks.now unions.now t.now }
+fn is_tracked(index: &Index, s: &[u8], l: Limits, n: Counters, p: u16) -> bool
     requires fits { Fits l (length s.now) }
-    requires good_alone { GoodAlone (catalogue k marks.now unions.now t.now) l n (held l s.now) }
-    ensures { result ≡ true → StateDid (catalogue k marks.now unions.now t.now) l (λ v. on_opening (name_for_tracking (catalogue k marks.now unions.now t.now) p)) n (held l s.now) n (held l s.now) }
+    requires good_alone { GoodAlone (catalogue_in index.now) l n (held l s.now) }
+    ensures { result ≡ true → StateDid (catalogue_in index.now) l (λ v. on_opening (name_for_tracking (catalogue_in index.now) p)) n (held l s.now) n (held l s.now) }
 {
-    if marked::contains(s, l, state::NAMED_MARKS, p) {
-        return true;
-    }
-    let name = tables::part_name(t, k, p as usize);
-    opening::is_several(s, l, n.several, name)
+    let name = index.areas.tables.part_name(p as usize);
+    marked::contains(s, l, MarkedList::Named, p) || opening::is_several(s, l, n.several, name)
 }
 
 // Part p has its variable, is tracked, and is opened if it is ready: no naming of it changes anything.
-fn is_settled(
-    marks: &[u8],
-    unions: &[u8],
-    t: &[u8],
-    k: Counts,
-    s: &[u8],
-    l: Limits,
-    n: Counters,
-    p: u16,
-) -> bool
-    requires indexed { Indexed k marks.now unions.now t.now }
+fn is_settled(index: &Index, s: &[u8], l: Limits, n: Counters, p: u16) -> bool
     requires fits { Fits l (length s.now) }
-    requires good_alone { GoodAlone (catalogue k marks.now unions.now t.now) l n (held l s.now) }
+    requires good_alone { GoodAlone (catalogue_in index.now) l n (held l s.now) }
     requires p_bound { p < 1024 }
-    ensures { result ≡ true → Settled (catalogue k marks.now unions.now t.now) l n (held l s.now) p }
+    ensures { result ≡ true → Settled (catalogue_in index.now) l n (held l s.now) p }
 {
     if !has_variable(s, l, n, p) {
         return false;
     }
-    if !is_tracked(marks, unions, t, k, s, l, n, p) {
+    if !is_tracked(index, s, l, n, p) {
         return false;
     }
-    if tables::ready(t, k, p as usize) {
-        return marked::contains(s, l, state::OWNER_MARKS, p);
+    if index.areas.tables.has(Flag::Ready, p as usize) {
+        return marked::contains(s, l, MarkedList::Owners, p);
     }
     true
 }
 
 // Is part p not settled, and one of these?
-fn is_due(
-    marks: &[u8],
-    unions: &[u8],
-    t: &[u8],
-    k: Counts,
-    s: &[u8],
-    l: Limits,
-    n: Counters,
-    which: Parts,
-    p: usize,
-) -> bool
-    requires indexed { Indexed k marks.now unions.now t.now }
+fn is_due(index: &Index, s: &[u8], l: Limits, n: Counters, which: Parts, p: usize) -> bool
     requires fits { Fits l (length s.now) }
-    requires good_alone { GoodAlone (catalogue k marks.now unions.now t.now) l n (held l s.now) }
+    requires good_alone { GoodAlone (catalogue_in index.now) l n (held l s.now) }
     requires p_bound { p < 1024 }
-    ensures { Due (catalogue k marks.now unions.now t.now) l n (held l s.now) which p result }
+    ensures { Due (catalogue_in index.now) l n (held l s.now) which p result }
 {
-    if is_settled(marks, unions, t, k, s, l, n, p as u16) {
-        return false;
-    }
-    selected(marks, unions, t, k, which, p)
+    !is_settled(index, s, l, n, p as u16) && which.selects(index, p)
 }
 
 // Each of these parts is named.
 pub fn name_each(
-    marks: &[u8],
-    unions: &[u8],
-    t: &[u8],
-    k: Counts,
+    index: &Index,
     s: &mut [u8],
     l: Limits,
     n: Counters,
     which: Parts,
     naming: Naming,
 ) -> Counters
-    requires indexed { Indexed k marks.now unions.now t.now }
     requires fits { Fits l (length s.old) }
-    requires good_alone { GoodAlone (catalogue k marks.now unions.now t.now) l n (held l s.old) }
-    ensures { StateDid (catalogue k marks.now unions.now t.now) l (λ v. fold (naming_of (catalogue k marks.now unions.now t.now) naming) (parts_for (catalogue k marks.now unions.now t.now) which)) n (held l s.old) result (held l s.new) }
+    requires good_alone { GoodAlone (catalogue_in index.now) l n (held l s.old) }
+    ensures { StateDid (catalogue_in index.now) l (λ v. fold (naming_of (catalogue_in index.now) naming) (parts_for (catalogue_in index.now) which)) n (held l s.old) result (held l s.new) }
 {
     let mut m = n;
-    let mut p = first(marks, unions, t, k, which);
-    while p < k.parts {
-        if is_due(marks, unions, t, k, s, l, m, which, p) {
-            m = name_part(marks, unions, t, k, s, l, m, naming, p as u16);
-            p = next(marks, unions, t, k, which, p);
-        } else {
-            p = next(marks, unions, t, k, which, p);
+    let mut p = which.first(index);
+    while p < index.areas.tables.counts.parts {
+        if is_due(index, s, l, m, which, p) {
+            m = name_part(index, s, l, m, naming, p as u16);
         }
+        p = which.next(index, p);
     }
     m
 }
@@ -329,10 +238,7 @@ pub fn name_each(
 // ---- adding
 
 fn add_part(
-    marks: &[u8],
-    unions: &[u8],
-    t: &[u8],
-    k: Counts,
+    index: &Index,
     s: &mut [u8],
     clauses: &mut [u8],
     l: Limits,
@@ -341,16 +247,15 @@ fn add_part(
     adding: Adding,
     p: u16,
 ) -> Counters
-    requires indexed { Indexed k marks.now unions.now t.now }
     requires fits { Fits l (length s.old) }
-    requires good { Good (catalogue k marks.now unions.now t.now) l n (held l s.old) clauses.old [] }
+    requires good { Good (catalogue_in index.now) l n (held l s.old) clauses.old [] }
     requires long_enough { LongEnough l (length clauses.old) 16384 }
     requires can_add { CanAdd l r adding }
     requires p_bound { p < 1024 }
     requires known_unless_full { KnownUnlessFull (is_full n) (variables n.variables (held l s.old)) (p ∷ []) }
-    ensures { ClausesDid (catalogue k marks.now unions.now t.now) l (λ v. adding_of (run_of r) adding p) n (held l s.old) clauses.old result (held l s.new) clauses.new }
+    ensures { ClausesDid (catalogue_in index.now) l (λ v. adding_of (run_of r) adding p) n (held l s.old) clauses.old result (held l s.new) clauses.new }
 {
-    let x = opening::variable_of(s, l, n, variable_map::part(p));
+    let x = opening::variable_of(s, l, n, Origin::Part(p));
     match adding {
         Adding::Lock => reporting::add_lock(s, clauses, l, n, r, x),
         Adding::Excluded => reporting::add_excluded(s, clauses, l, n, r, x, p, false),
@@ -360,10 +265,7 @@ fn add_part(
 }
 
 pub fn add_if(
-    marks: &[u8],
-    unions: &[u8],
-    t: &[u8],
-    k: Counts,
+    index: &Index,
     s: &mut [u8],
     clauses: &mut [u8],
     l: Limits,
@@ -373,27 +275,23 @@ pub fn add_if(
     adding: Adding,
     p: usize,
 ) -> Counters
-    requires indexed { Indexed k marks.now unions.now t.now }
     requires fits { Fits l (length s.old) }
-    requires good { Good (catalogue k marks.now unions.now t.now) l n (held l s.old) clauses.old [] }
+    requires good { Good (catalogue_in index.now) l n (held l s.old) clauses.old [] }
     requires long_enough { LongEnough l (length clauses.old) 16384 }
     requires can_add { CanAdd l r adding }
-    requires p_lt_parts { p < k.parts }
-    requires known_unless_full { KnownUnlessFull (is_full n) (variables n.variables (held l s.old)) (parts_for (catalogue k marks.now unions.now t.now) which) }
-    ensures { ClausesDid (catalogue k marks.now unions.now t.now) l (λ v. when (selected_of (catalogue k marks.now unions.now t.now) which p) (adding_of (run_of r) adding p)) n (held l s.old) clauses.old result (held l s.new) clauses.new }
+    requires p_lt_parts { p < (counts_in index.now).parts }
+    requires known_unless_full { KnownUnlessFull (is_full n) (variables n.variables (held l s.old)) (parts_for (catalogue_in index.now) which) }
+    ensures { ClausesDid (catalogue_in index.now) l (λ v. when (selected_of (catalogue_in index.now) which p) (adding_of (run_of r) adding p)) n (held l s.old) clauses.old result (held l s.new) clauses.new }
 {
-    if selected(marks, unions, t, k, which, p) {
-        return add_part(marks, unions, t, k, s, clauses, l, n, r, adding, p as u16);
+    if which.selects(index, p) {
+        return add_part(index, s, clauses, l, n, r, adding, p as u16);
     }
     n
 }
 
 // A clause is added for each of these parts, which have variables.
 pub fn add_each(
-    marks: &[u8],
-    unions: &[u8],
-    t: &[u8],
-    k: Counts,
+    index: &Index,
     s: &mut [u8],
     clauses: &mut [u8],
     l: Limits,
@@ -402,19 +300,18 @@ pub fn add_each(
     which: Parts,
     adding: Adding,
 ) -> Counters
-    requires indexed { Indexed k marks.now unions.now t.now }
     requires fits { Fits l (length s.old) }
-    requires good { Good (catalogue k marks.now unions.now t.now) l n (held l s.old) clauses.old [] }
+    requires good { Good (catalogue_in index.now) l n (held l s.old) clauses.old [] }
     requires long_enough { LongEnough l (length clauses.old) 16384 }
     requires can_add { CanAdd l r adding }
-    requires known_unless_full { KnownUnlessFull (is_full n) (variables n.variables (held l s.old)) (parts_for (catalogue k marks.now unions.now t.now) which) }
-    ensures { ClausesDid (catalogue k marks.now unions.now t.now) l (λ v. fold (adding_of (run_of r) adding) (parts_for (catalogue k marks.now unions.now t.now) which)) n (held l s.old) clauses.old result (held l s.new) clauses.new }
+    requires known_unless_full { KnownUnlessFull (is_full n) (variables n.variables (held l s.old)) (parts_for (catalogue_in index.now) which) }
+    ensures { ClausesDid (catalogue_in index.now) l (λ v. fold (adding_of (run_of r) adding) (parts_for (catalogue_in index.now) which)) n (held l s.old) clauses.old result (held l s.new) clauses.new }
 {
     let mut m = n;
-    let mut p = first(marks, unions, t, k, which);
-    while p < k.parts {
-        m = add_if(marks, unions, t, k, s, clauses, l, m, r, which, adding, p);
-        p = next(marks, unions, t, k, which, p);
+    let mut p = which.first(index);
+    while p < index.areas.tables.counts.parts {
+        m = add_if(index, s, clauses, l, m, r, which, adding, p);
+        p = which.next(index, p);
     }
     m
 }

@@ -61,9 +61,9 @@ module _ {M : Type 1} {𝓤 : Ura M} (𝓛 : Logic 𝓤) (κ : Lft) where
       fields : Values (D (κ, tt)).parts
       fields = (d.job, (d.at, tt))
 
-  pub puts_together : (s : Bor (List ℕ)) (n : ℕ) → n < 2 ^ 64 → ent 𝓤 (sem 𝓛 (OfJob κ s)) (sep 𝓤 (sem 𝓛 (OfReader κ (record { job = s; at = n }))) (sem 𝓛 (OfJob κ s)))
-  puts_together s n fits =
+  pub puts_together : (s : Bor (List ℕ)) (n : ℕ) → n < 2 ^ 64 → (i : n < length s.now) → ent 𝓤 (sem 𝓛 (OfJob κ s)) (sep 𝓤 (sem 𝓛 (OfReader κ (record { job = s; at = n; inside = i }))) (sem 𝓛 (OfJob κ s)))
+  puts_together s n fits i =
       qed 𝓛 (‵ (OfJob κ s) ∷ []) ∵ use1 𝓛 (‵ (OfJob κ s) ⊛ ‵ (OfJob κ s)) ((shr_slice_copy 𝓛 (named 0) κ u8 (uint_row_laws w8)).twice s (machine s ∷ [])) $ split ! $
       nothing ! $ owned ! usize (Is usize) (uint_Makes 𝓛 w64) n _ (refl, fits) $ fjoin ! $ move ! (1 ∷ 0 ∷ []) $ fjoin ! $
       -- [what the fields own together; what job owns]
-      use1 𝓛 (‵ (OfReader κ (record { job = s; at = n }))) (own_shut 𝓛 (D (κ, tt)) (L (κ, tt)) (s, (n, tt))) $ done !
+      use1 𝓛 (‵ (OfReader κ (record { job = s; at = n; inside = i }))) (own_shut 𝓛 (D (κ, tt)) (L (κ, tt)) (s, (n, tt))) $ done !

@@ -64,74 +64,36 @@ pub struct Told {
     pub place: usize,
 }
 
-// In a job of this length, for the record at `at`.
-pub fn number_and_place(length: usize, at: usize, refusal: Refusal) -> Told
-    ensures { (result.number, result.place) ≡ number_and_place length at (refusal_of refusal) }
-{
-    match refusal {
-        Refusal::Unfit => Told {
-            number: 7,
-            place: 0,
-        },
-        Refusal::Overlong => Told {
-            number: 3,
-            place: 0,
-        },
-        Refusal::UnknownKind => Told {
-            number: 2,
-            place: at,
-        },
-        Refusal::OutOfPlace => Told {
-            number: 2,
-            place: at,
-        },
-        Refusal::CutShort => Told {
-            number: 1,
-            place: at,
-        },
-        Refusal::TooMany(_) => Told {
-            number: 3,
-            place: at,
-        },
-        Refusal::Missing(_, _) => Told {
-            number: 4,
-            place: at,
-        },
-        Refusal::MissingVariable(_) => Told {
-            number: 4,
-            place: at,
-        },
-        Refusal::Contradicts(_) => Told {
-            number: 5,
-            place: at,
-        },
-        Refusal::DisjunctsOver => Told {
-            number: 6,
-            place: at,
-        },
-        Refusal::RangesOver => Told {
-            number: 6,
-            place: at,
-        },
-        Refusal::LevelLow => Told {
-            number: 9,
-            place: at,
-        },
-        Refusal::DecidedAgainst => Told {
-            number: 8,
-            place: at,
-        },
-        Refusal::RunFull => Told {
-            number: 10,
-            place: at,
-        },
-        Refusal::NotRun => Told {
-            number: 11,
-            place: length,
-        },
-        Refusal::ListingFull => Told {
-            number: 10,
-            place: length,
-        },
+impl Refusal {
+    // In a job of this length, for the record at `at`.
+    #[tactic(auto, unfolding(rules::specs::Refusals::number_and_place, crate::specs::Refusing::refusal_of))]
+    pub fn number_and_place(self, length: usize, at: usize) -> Told
+        ensures { (result.number, result.place) ≡ number_and_place length at (refusal_of self) }
+    {
+        let (number, place) = match self {
+            Refusal::Unfit => (7, 0),
+            Refusal::Overlong => (3, 0),
+            Refusal::TooMany(_) => (3, at),
+            Refusal::UnknownKind | Refusal::OutOfPlace => (2, at),
+            Refusal::CutShort => (1, at),
+            Refusal::Missing(_, _) | Refusal::MissingVariable(_) => (4, at),
+            Refusal::Contradicts(_) => (5, at),
+            Refusal::DisjunctsOver | Refusal::RangesOver => (6, at),
+            Refusal::LevelLow => (9, at),
+            Refusal::DecidedAgainst => (8, at),
+            Refusal::RunFull => (10, at),
+            Refusal::NotRun => (11, length),
+            Refusal::ListingFull => (10, length),
+        };
+        Told { number, place }
+    }
+}
+
+impl RefusedAt {
+    // In a job of this length.
+    pub fn told(self, length: usize) -> Told
+        ensures { (result.number, result.place) ≡ number_and_place length self.at (refusal_of self.refusal) }
+    {
+        self.refusal.number_and_place(length, self.at)
     }
 }

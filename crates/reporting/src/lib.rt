@@ -4,11 +4,13 @@
 
 ghost use Rattle.std.specs.Prelude.{◌+◌, ◌<◌, ◌≤◌, length};
 ghost use Rattle.rules.specs.Clause.{excluded, constrains, aux_owner, lock};
+ghost use Rattle.requirement.specs.Requirements.{goal_of};
 ghost use Rattle.state.specs.Layout.{held, Fits};
 ghost use Rattle.storing.specs.Adding.{reason_for, CanAdd, Adds, AddsRequires};
 
 use encoder::{Counters, Run};
-use solver::Stored;
+use requirement::Requirement;
+use solver::Clause;
 use state::Limits;
 
 // Part p, whose variable is x, is excluded, for its unknown dependencies or else for its exclusion.
@@ -27,12 +29,19 @@ pub fn add_excluded(
     requires number_nonzero { 0 < r.number }
     ensures { Adds l r (excluded x p (reason_for unknown)) n (held l s.now) clauses.old result (held l s.now) clauses.new }
 {
-    let conflict = decision_tracker::is_true(s, l, n.decisions, x);
-    let run = storing::run_if(conflict, r);
-    if unknown {
-        return storing::store(clauses, l, n, storing::pair(4, x, p, run));
-    }
-    storing::store(clauses, l, n, storing::pair(3, x, p, run))
+    let conflict = decision_tracker::is_true(s, l, n.decisions, x).then_some(r.number);
+    let clause = if unknown {
+        Clause::Unknown {
+            variable: x,
+            part: p,
+        }
+    } else {
+        Clause::Excluded {
+            variable: x,
+            part: p,
+        }
+    };
+    storing::store(clauses, l, n, clause, conflict)
 }
 
 pub fn add_constrains(
@@ -51,12 +60,8 @@ pub fn add_constrains(
 {
     let chosen = decision_tracker::is_true(s, l, n.decisions, x);
     let out = decision_tracker::is_false(s, l, n.decisions, owner);
-    storing::store(
-        clauses,
-        l,
-        n,
-        storing::pair(5, owner, x, storing::run_unless(chosen, out, r)),
-    )
+    let clause = Clause::Constrains { owner, variable: x };
+    storing::store(clauses, l, n, clause, storing::run_unless(chosen, out, r))
 }
 
 pub fn add_aux_owner(
@@ -75,12 +80,8 @@ pub fn add_aux_owner(
 {
     let violated = decision_tracker::is_true(s, l, n.decisions, violation);
     let out = decision_tracker::is_false(s, l, n.decisions, owner);
-    storing::store(
-        clauses,
-        l,
-        n,
-        storing::pair(8, owner, violation, storing::run_unless(violated, out, r)),
-    )
+    let clause = Clause::AuxOwner { owner, violation };
+    storing::store(clauses, l, n, clause, storing::run_unless(violated, out, r))
 }
 
 pub fn add_lock(s: &[u8], clauses: &mut [u8], l: Limits, n: Counters, r: Run, x: u16) -> Counters
@@ -88,7 +89,7 @@ pub fn add_lock(s: &[u8], clauses: &mut [u8], l: Limits, n: Counters, r: Run, x:
     requires can_add { CanAdd l n (held l s.now) (length clauses.old) }
     ensures { Adds l r (lock x) n (held l s.now) clauses.old result (held l s.now) clauses.new }
 {
-    storing::store(clauses, l, n, storing::pair(9, x, 0, 0))
+    storing::store(clauses, l, n, Clause::Lock(x), None)
 }
 
 // An owner's requires, whose literals there is room for.
@@ -100,27 +101,22 @@ fn store_requires(
     r: Run,
     owner: u16,
     count: usize,
-    form: u16,
-    number: u16,
+    goal: Requirement,
     all: bool,
 ) -> Counters
     requires fits { Fits l (length s.now) }
     requires can_add { CanAdd l n (held l s.now) (length clauses.old) }
     requires number_nonzero { (0 < r.number) × (n.literals + count ≤ l.literals) }
-    ensures { AddsRequires l r owner count form number all n (held l s.now) clauses.old result clauses.new }
+    ensures { AddsRequires l r owner count (goal_of goal) all n (held l s.now) clauses.old result clauses.new }
 {
     let out = decision_tracker::is_false(s, l, n.decisions, owner);
-    let row = Stored {
-        kind: 1,
-        first: owner,
-        second: 0,
+    let clause = Clause::Requires {
+        owner,
         start: n.literals as u16,
         count: count as u16,
-        form,
-        number,
-        conflict: storing::run_unless(all, out, r),
+        goal,
     };
-    storing::store(clauses, l, n, row)
+    storing::store(clauses, l, n, clause, storing::run_unless(all, out, r))
 }
 
 // An owner's requires: its condition literals are the `count` numbers behind those of the stored clauses, its candidates those of the goal.
@@ -132,14 +128,13 @@ pub fn add_requires(
     r: Run,
     owner: u16,
     count: usize,
-    form: u16,
-    number: u16,
+    goal: Requirement,
     all: bool,
 ) -> Counters
     requires fits { Fits l (length s.now) }
     requires can_add { CanAdd l n (held l s.now) (length clauses.old) }
     requires number_nonzero { (0 < r.number) × (count ≤ 16384) }
-    ensures { AddsRequires l r owner count form number all n (held l s.now) clauses.old result clauses.new }
+    ensures { AddsRequires l r owner count (goal_of goal) all n (held l s.now) clauses.old result clauses.new }
 {
     if n.full != 0 {
         return n;
@@ -147,5 +142,5 @@ pub fn add_requires(
     if l.literals < n.literals + count {
         return encoder::filled(n);
     }
-    store_requires(s, clauses, l, n, r, owner, count, form, number, all)
+    store_requires(s, clauses, l, n, r, owner, count, goal, all)
 }

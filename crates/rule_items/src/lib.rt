@@ -1,235 +1,208 @@
-// The catalogue's unions, conditions, requirements and constraints: the refusals 3, 4, 5 and 6 of each in their order, and its effect.
-// An owner or a condition is a number below its count, or 65,535.
+// The catalogue's unions, conditions, requirements and constraints: the refusals 3, 4, 5 and 6 of each in their order, and its effect on the draft.
 #![tactic(auto)]
 
-ghost use Rattle.std.specs.Prelude.{◌≡◌, ◌&&◌, ◌<◌, eqb, leb};
-ghost use Rattle.rules.specs.Catalogue.{unknown_owner};
+ghost use Rattle.std.specs.Prelude.{◌≡◌, ◌&&◌, ◌<◌, eqb, leb, OnErr};
 ghost use Rattle.rules.specs.Records.{Item};
-ghost use Rattle.rules.specs.Items.{owner_of};
-ghost use Rattle.cache.specs.Areas.{catalogue};
-ghost use Rattle.kept.specs.Kept.{Kept};
-ghost use Rattle.kept.specs.Entered.{Entered};
-ghost use Rattle.rule_items.specs.Such.{no_such};
+ghost use Rattle.tables.specs.Views.{tables_of};
+ghost use Rattle.kept.specs.Drafts.{EnteredInto, Unchanged, SameAreas};
+ghost use Rattle.rule_items.specs.Such.{past, past_condition, unknown_in, Joined};
 
-use kept::Added;
+use conditions::Conditions;
+use kept::Draft;
 use refusal::{Contradiction, Refusal, Thing};
-use requirement::{ConditionalRequirement, Requirement};
-use tables::{Condition, Constraint, Counts, Size};
+use requirement::{ConditionalRequirement, Owner, Requirement, condition_of};
+use tables::{Condition, Constraint, Flag, Size, Tables};
 use unions::Member;
 
 // ---- unions
 
-pub fn add_union(marks: &[u8], unions: &[u8], t: &[u8], k: Counts) -> Added
-    requires { Kept k marks.now unions.now t.now }
-    ensures { Entered k (catalogue k marks.now unions.now t.now) Item.union
-        result marks.now unions.now t.now }
+pub fn add_union(draft: &mut Draft) -> Result<(), Refusal>
+    ensures entered { EnteredInto draft.old Item.union result draft.new }
+    ensures refused { OnErr result (Unchanged draft.old draft.new) }
+    ensures same_areas { SameAreas draft.old draft.new }
 {
-    if 128 <= k.unions {
-        return Added::Refused(Refusal::TooMany(Thing::Union));
+    if 128 <= draft.tables.counts.unions {
+        return Err(Refusal::TooMany(Thing::Union));
     }
-    Added::Counted(tables::put_union(t, k))
+    draft.tables.push_union();
+    Ok(())
 }
 
-pub fn add_union_member(
-    marks: &[u8],
-    unions: &mut [u8],
-    t: &[u8],
-    k: Counts,
-    union: u16,
-    range: u16,
-) -> Added
-    requires kept { Kept k marks.now unions.old t.now }
-    requires members_bound { k.members < 13107 }
-    ensures { Entered k (catalogue k marks.now unions.old t.now) (Item.union_member union range)
-        result marks.now unions.new t.now }
+pub fn add_union_member(draft: &mut Draft, union: u16, range: u16) -> Result<(), Refusal>
+    requires { draft.old.members.now.count < 13107 }
+    ensures entered { EnteredInto draft.old (Item.union_member union range) result draft.new }
+    ensures refused { OnErr result (Unchanged draft.old draft.new) }
+    ensures same_areas { SameAreas draft.old draft.new }
 {
-    if k.unions <= union as usize {
-        return Added::Refused(Refusal::Missing(Thing::Union, 1));
+    if draft.tables.counts.unions <= union as usize {
+        return Err(Refusal::Missing(Thing::Union, 1));
     }
-    if k.ranges <= range as usize {
-        return Added::Refused(Refusal::Missing(Thing::Range, 3));
+    if draft.tables.counts.ranges <= range as usize {
+        return Err(Refusal::Missing(Thing::Range, 3));
     }
-    let mut more = k;
-    more.members = unions::push(unions, k.members, Member { union, range });
-    Added::Counted(more)
+    draft.members.push(Member { union, range });
+    Ok(())
 }
 
 // ---- conditions
 
-pub fn add_leaf(marks: &[u8], unions: &[u8], t: &mut [u8], k: Counts, range: u16) -> Added
-    requires { Kept k marks.now unions.now t.old }
-    ensures { Entered k (catalogue k marks.now unions.now t.old) (Item.leaf range)
-        result marks.now unions.now t.new }
+pub fn add_leaf(draft: &mut Draft, range: u16) -> Result<(), Refusal>
+    ensures entered { EnteredInto draft.old (Item.leaf range) result draft.new }
+    ensures refused { OnErr result (Unchanged draft.old draft.new) }
+    ensures same_areas { SameAreas draft.old draft.new }
 {
-    if 256 <= k.conditions {
-        return Added::Refused(Refusal::TooMany(Thing::Condition));
+    if 256 <= draft.tables.counts.conditions {
+        return Err(Refusal::TooMany(Thing::Condition));
     }
-    if k.ranges <= range as usize {
-        return Added::Refused(Refusal::Missing(Thing::Range, 1));
+    if draft.tables.counts.ranges <= range as usize {
+        return Err(Refusal::Missing(Thing::Range, 1));
     }
-    let c = Condition {
-        operator: 2,
-        left: range,
-        right: 0,
+    let size = Size {
+        count: 1,
+        longest: 1,
     };
-    Added::Counted(tables::put_condition(
-        t,
-        k,
-        c,
-        Size {
-            count: 1,
-            longest: 1,
-        },
-    ))
+    draft.tables.push_condition(Condition::Range(range), size);
+    Ok(())
 }
 
-pub fn add_joined(
-    marks: &[u8],
-    unions: &[u8],
-    t: &mut [u8],
-    k: Counts,
-    operator: u8,
-    left: u16,
-    right: u16,
-) -> Added
-    requires { Kept k marks.now unions.now t.old }
-    ensures { Entered k (catalogue k marks.now unions.now t.old) (Item.joined operator left right)
-        result marks.now unions.now t.new }
+// The condition with these halves.
+#[tactic(auto, unfolding(rules::specs::Items::operator_of))]
+fn joined(operator: u8, left: u16, right: u16) -> Result<Condition, Refusal>
+    ensures { Joined operator left right result }
 {
-    if 256 <= k.conditions {
-        return Added::Refused(Refusal::TooMany(Thing::Condition));
+    match operator {
+        0 => Ok(Condition::And { left, right }),
+        1 => Ok(Condition::Or { left, right }),
+        _ => Err(Refusal::Contradicts(Contradiction::OtherOperator)),
     }
-    if k.conditions <= left as usize {
-        return Added::Refused(Refusal::Missing(Thing::Condition, 2));
+}
+
+pub fn add_joined(draft: &mut Draft, operator: u8, left: u16, right: u16) -> Result<(), Refusal>
+    ensures entered { EnteredInto draft.old (Item.joined operator left right) result draft.new }
+    ensures refused { OnErr result (Unchanged draft.old draft.new) }
+    ensures same_areas { SameAreas draft.old draft.new }
+{
+    if 256 <= draft.tables.counts.conditions {
+        return Err(Refusal::TooMany(Thing::Condition));
     }
-    if k.conditions <= right as usize {
-        return Added::Refused(Refusal::Missing(Thing::Condition, 4));
+    if draft.tables.counts.conditions <= left as usize {
+        return Err(Refusal::Missing(Thing::Condition, 2));
     }
-    if 1 < operator {
-        return Added::Refused(Refusal::Contradicts(Contradiction::OtherOperator));
+    if draft.tables.counts.conditions <= right as usize {
+        return Err(Refusal::Missing(Thing::Condition, 4));
     }
-    let size = conditions::joined_size(t, k, operator, left, right);
+    let condition = joined(operator, left, right)?;
+    let conditions = Conditions {
+        tables: draft.tables.as_tables(),
+    };
+    let size = conditions.next_size(condition);
     if 64 < size.count {
-        return Added::Refused(Refusal::DisjunctsOver);
+        return Err(Refusal::DisjunctsOver);
     }
     if 16 < size.longest {
-        return Added::Refused(Refusal::RangesOver);
+        return Err(Refusal::RangesOver);
     }
-    let operator = operator as u16;
-    Added::Counted(tables::put_condition(
-        t,
-        k,
-        Condition {
-            operator,
-            left,
-            right,
-        },
-        size,
-    ))
+    draft.tables.push_condition(condition, size);
+    Ok(())
 }
 
 // ---- requirements and constraints
 
-// A number other than 65,535 that is not below the count: an owner or a condition that was not given.
-fn no_such(count: usize, n: u16) -> bool
-    ensures { result ≡ no_such count n }
+// A part that was not given, of this many.
+fn is_past(count: usize, owner: Owner) -> bool
+    ensures { result ≡ past count owner }
 {
-    if n == 65535 {
-        false
-    } else {
-        count <= n as usize
+    match owner {
+        Owner::Root => false,
+        Owner::Part(part) => count <= part as usize,
     }
 }
 
-// The goal is of this form, and its number is not below the count.
-fn no_goal(form: u8, this: u8, count: usize, n: u16) -> bool
-    ensures { result ≡ (eqb form this && leb count n) }
+// A condition that was not given, of this many.
+fn is_past_condition(count: usize, condition: Option<u16>) -> bool
+    ensures { result ≡ past_condition count condition }
 {
-    if form == this {
-        count <= n as usize
-    } else {
-        false
-    }
+    condition.is_some_and(|condition| count <= condition as usize)
 }
 
-fn owner_unknown(marks: &[u8], unions: &[u8], t: &[u8], k: Counts, owner: u16) -> bool
-    requires { Kept k marks.now unions.now t.now }
-    ensures { result ≡ unknown_owner (catalogue k marks.now unions.now t.now) (owner_of owner) }
+// A goal of this form that was not given, of this many.
+fn is_past_goal(form: u8, this: u8, count: usize, number: u16) -> bool
+    ensures { result ≡ (eqb form this && leb count number) }
 {
-    if owner == 65535 {
-        false
-    } else {
-        tables::unknown(t, k, owner as usize)
+    form == this && count <= number as usize
+}
+
+fn is_unknown(tables: &Tables, owner: Owner) -> bool
+    ensures { result ≡ unknown_in (tables_of tables.now).parts owner }
+{
+    match owner {
+        Owner::Root => false,
+        Owner::Part(part) => tables.has(Flag::Unknown, part as usize),
     }
 }
 
 pub fn add_requirement(
-    marks: &[u8],
-    unions: &[u8],
-    t: &mut [u8],
-    k: Counts,
+    draft: &mut Draft,
     owner: u16,
     form: u8,
     number: u16,
     condition: u16,
-) -> Added
-    requires { Kept k marks.now unions.now t.old }
-    ensures { Entered k (catalogue k marks.now unions.now t.old) (Item.requirement owner form number condition)
-        result marks.now unions.now t.new }
+) -> Result<(), Refusal>
+    ensures entered { EnteredInto draft.old (Item.requirement owner form number condition) result draft.new }
+    ensures refused { OnErr result (Unchanged draft.old draft.new) }
+    ensures same_areas { SameAreas draft.old draft.new }
 {
-    if 1024 <= k.requirements {
-        return Added::Refused(Refusal::TooMany(Thing::Requirement));
+    let counts = draft.tables.counts;
+    let owner = Owner::from(owner);
+    let condition = condition_of(condition);
+    if 1024 <= counts.requirements {
+        return Err(Refusal::TooMany(Thing::Requirement));
     }
-    if no_such(k.parts, owner) {
-        return Added::Refused(Refusal::Missing(Thing::Part, 1));
+    if is_past(counts.parts, owner) {
+        return Err(Refusal::Missing(Thing::Part, 1));
     }
-    if no_goal(form, 0, k.ranges, number) {
-        return Added::Refused(Refusal::Missing(Thing::Range, 4));
+    if is_past_goal(form, 0, counts.ranges, number) {
+        return Err(Refusal::Missing(Thing::Range, 4));
     }
-    if no_goal(form, 1, k.unions, number) {
-        return Added::Refused(Refusal::Missing(Thing::Union, 4));
+    if is_past_goal(form, 1, counts.unions, number) {
+        return Err(Refusal::Missing(Thing::Union, 4));
     }
-    if no_such(k.conditions, condition) {
-        return Added::Refused(Refusal::Missing(Thing::Condition, 6));
+    if is_past_condition(counts.conditions, condition) {
+        return Err(Refusal::Missing(Thing::Condition, 6));
     }
     if 1 < form {
-        return Added::Refused(Refusal::Contradicts(Contradiction::OtherForm));
+        return Err(Refusal::Contradicts(Contradiction::OtherForm));
     }
-    if owner_unknown(marks, unions, t, k, owner) {
-        return Added::Refused(Refusal::Contradicts(Contradiction::OwnerUnknown));
+    if is_unknown(&draft.tables.as_tables(), owner) {
+        return Err(Refusal::Contradicts(Contradiction::OwnerUnknown));
     }
-    let requirement = Requirement::from_parts(form as u16, number);
-    let q = ConditionalRequirement {
+    draft.tables.push_requirement(ConditionalRequirement {
         owner,
-        requirement,
+        requirement: Requirement::from_parts(form as u16, number),
         condition,
-    };
-    Added::Counted(tables::put_requirement(t, k, q))
+    });
+    Ok(())
 }
 
-pub fn add_constraint(
-    marks: &[u8],
-    unions: &[u8],
-    t: &mut [u8],
-    k: Counts,
-    owner: u16,
-    range: u16,
-) -> Added
-    requires { Kept k marks.now unions.now t.old }
-    ensures { Entered k (catalogue k marks.now unions.now t.old) (Item.constraint owner range)
-        result marks.now unions.now t.new }
+pub fn add_constraint(draft: &mut Draft, owner: u16, range: u16) -> Result<(), Refusal>
+    ensures entered { EnteredInto draft.old (Item.constraint owner range) result draft.new }
+    ensures refused { OnErr result (Unchanged draft.old draft.new) }
+    ensures same_areas { SameAreas draft.old draft.new }
 {
-    if 512 <= k.constraints {
-        return Added::Refused(Refusal::TooMany(Thing::Constraint));
+    let counts = draft.tables.counts;
+    let owner = Owner::from(owner);
+    if 512 <= counts.constraints {
+        return Err(Refusal::TooMany(Thing::Constraint));
     }
-    if no_such(k.parts, owner) {
-        return Added::Refused(Refusal::Missing(Thing::Part, 1));
+    if is_past(counts.parts, owner) {
+        return Err(Refusal::Missing(Thing::Part, 1));
     }
-    if k.ranges <= range as usize {
-        return Added::Refused(Refusal::Missing(Thing::Range, 3));
+    if counts.ranges <= range as usize {
+        return Err(Refusal::Missing(Thing::Range, 3));
     }
-    if owner_unknown(marks, unions, t, k, owner) {
-        return Added::Refused(Refusal::Contradicts(Contradiction::OwnerUnknown));
+    if is_unknown(&draft.tables.as_tables(), owner) {
+        return Err(Refusal::Contradicts(Contradiction::OwnerUnknown));
     }
-    Added::Counted(tables::put_constraint(t, k, Constraint { owner, range }))
+    draft.tables.push_constraint(Constraint { owner, range });
+    Ok(())
 }

@@ -3,10 +3,10 @@ use mathlib.Core.Path.{◌≡◌, refl, sym, ◌∙◌}
 use mathlib.Core.Bool.{Bool, true, false, true≢false}
 use mathlib.Core.List.Memᴰ
 use mathlib.Core.List.{List, [], ◌++◌}
-use Prim.Native.Nat.{ℕ, zero, suc, ◌+◌, ◌*◌, ◌-◌, ◌<◌}
+use Prim.Native.Nat.{ℕ, zero, suc, ◌+◌, ◌-◌, ◌<◌}
 use native.Mathlib.Omega.{arith}
 use lib.Dec.{eqb, ltb}
-use lib.ListN.{get_or, set, replicate}
+use lib.ListN.{length, get_or, set, replicate}
 use lib.Seq.{get_or-set_other}
 use borrow.Author.Tests.{eqb-true, eqb-false, lt-ltb, le-ltb}
 use Rattle.rules.specs.Lists.{elem, distinct, fold}
@@ -26,29 +26,25 @@ use Rattle.rules.proofs.Places.{with_variables_known}
 use Rattle.rules.proofs.DistinctEnough.{distinct_out, passed_over, tracking_once, ReadyOpened, ready_once}
 use Rattle.rules.proofs.WellFormed.{GoalGiven}
 use Rattle.requirement.specs.declared.ConditionalRequirement.{ConditionalRequirement}
-use Rattle.requirement.specs.Requirements.{goal_of, requirement_is, form_of, number_of}
+use Rattle.requirement.specs.declared.Requirement.TheVariants.{Single, Union}
+use Rattle.requirement.specs.Requirements.{goal_of, requirement_is}
 use Rattle.tables.specs.declared.Counts.{Counts}
 use Rattle.tables.specs.Tables.{tables}
 use Rattle.cache.specs.Areas.{catalogue}
 use Rattle.cache.proofs.Laws.{ranges_held, unions_held}
 use Rattle.state.specs.declared.Limits.{Limits}
-use Rattle.line.specs.declared.Task.{Task}
-use Rattle.line.specs.Tasks.{task_of}
 use Rattle.encoder.specs.declared.Counters.{Counters}
 use Rattle.encoder.specs.Held.{Reading, opening_of, state_of, Good}
-use Rattle.encoder.specs.Did.{Did}
-use Rattle.goals.specs.Goals.{Catalogued}
+use Rattle.index.specs.Catalogued.{Catalogued}
 use Rattle.owners.specs.Owners.{serving}
 use Rattle.firing.proofs.Required.{goal_is, goal_given}
 use Rattle.naming.specs.Settled.{Settled, AllSettled, Settles}
 use Rattle.naming.specs.Alike.{AlikeDid, ClausesAlike}
 use Rattle.naming.proofs.Settled.{any_stands, Stands}
-use Rattle.naming.proofs.AlikeDid.{did_alike, settles_done, settles_stand}
+use Rattle.naming.proofs.AlikeDid.{settles_done, settles_stand}
 use Rattle.serving.specs.Flags.{goal_from, Flagged}
-use Rattle.serving.specs.Serving.{served_as}
 use Rattle.serving.specs.Line.{from}
-use Rattle.serving.proofs.Tasks.{as_kind}
-use Rattle.serving.proofs.Stands.{each_stands, ready_stands, serving_stands, served_stands}
+use Rattle.serving.proofs.Stands.{each_stands, ready_stands, serving_stands}
 
 -- ---- a served requirement settles its goal's candidates
 
@@ -111,17 +107,6 @@ module _ {c : Catalogue} {l : Limits} {flags : List Bool} {n n' : Counters} {st 
       → ((v : Reading) (s : State) → Stands s.opening (F v s).opening) → Flagged c l flags n st → Flagged c l flags n' st'
   flagged_stand d g k f = record { settles = λ i h. settles_stand d g k (f.settles i h) }
 
-  -- a task is served
-  flagged_served : (r : Run) (ds : List (ℕ × ℕ)) (t : Task) {cl wt cl' wt' : List ℕ} → Did c l (λ v. served_as c r ds v t) n st cl wt n' st' cl' wt'
-      → Good c l n st cl wt → Flagged c l flags n st → Flagged c l flags n' st'
-  flagged_served r ds t d g f = flagged_stand (did_alike d) g (λ v. served_stands c r ds v t) f
-
-  -- the same of a task by its kind
-  pub kind_served : (r : Run) (ds : List (ℕ × ℕ)) {cl wt cl' wt' : List ℕ} {t k : Task} (x : ℕ) → t ≡ task_of x → t ≡ k
-      → Did c l (λ v. served_as c r ds v k) n st cl wt n' st' cl' wt' → Good c l n st cl wt → Flagged c l flags n st
-      → AlikeDid c l (λ v. served_as c r ds v (task_of x)) n st cl wt n' st' cl' wt' × Flagged c l flags n' st'
-  kind_served r ds {k = k} x e i d g f = (as_kind r ds x e i (did_alike d), flagged_served r ds k d g f)
-
   -- a requirement is, and its goal flagged
   pub flagged_more : (r : Run) (q : ℕ) (is : List ℕ) (i : ℕ) {cl cl' : List ℕ} → goal_from i ≡ goal_at c q
       → ClausesAlike c l (λ v. serving c r (requirement q is)) n st cl n' st' cl' → Good c l n st cl [] → Flagged c l flags n st → Flagged c l (set flags i true) n' st'
@@ -158,21 +143,21 @@ union_from u =
     let same : 512 + u - 512 ≡ u = omega arith in
     rw (past, same)
 
-place_of : (k : Counts) (m us t : List ℕ) → Catalogued k m us t → (g : Goal) (form number : ℕ) → GoalGiven (catalogue k m us t) g → form ≡ form_of g → number ≡ number_of g
-    → (512 * form + number < 640) × (goal_from (512 * form + number) ≡ g)
-unfolding form_of number_of
-place_of k m us t w (range r) form number low e h =
-    let below : r < 512 = omega (arith, low, ranges_held k m us t, w.kept.held.laid.ranges) in
-    let same : 512 * form + number ≡ r = omega (arith, e, h) in
-    rw same (omega arith, range_from r below)
-place_of k m us t w (union u) form number low e h =
-    let below : u < 128 = omega (arith, low, unions_held k m us t, w.kept.held.laid.unions) in
-    let same : 512 * form + number ≡ 512 + u = omega (arith, e, h) in
-    rw same (omega arith, union_from u)
-
 -- the place of a requirement's goal
-pub goal_placed : (k : Counts) (m us t : List ℕ) (q : ℕ) (it : ConditionalRequirement) → requirement_is it ≡ get_or (tables k t).requirements q no_requirement → Catalogued k m us t
-    → q < k.requirements → (form number : ℕ) → form ≡ form_of (goal_of it.requirement) → number ≡ number_of (goal_of it.requirement)
-    → (512 * form + number < 640) × (goal_from (512 * form + number) ≡ goal_at (catalogue k m us t) q)
-goal_placed k m us t q it e w h form number i j =
-    rw (goal_is k m us t q it e) (place_of k m us t w (goal_of it.requirement) form number (goal_given k m us t q it e w h) i j)
+module _ (k : Counts) (m us t : List ℕ) (q : ℕ) (it : ConditionalRequirement) (e : requirement_is it ≡ get_or (tables k t).requirements q no_requirement)
+    (w : Catalogued k m us t) (h : q < k.requirements) where
+  goal_here : (g : Goal) → goal_of it.requirement ≡ g → GoalGiven (catalogue k m us t) g × (goal_at (catalogue k m us t) q ≡ g)
+  goal_here g i = (rw i at (goal_given k m us t q it e w h), goal_is k m us t q it e ∙ i)
+
+  pub range_placed : (r : ℕ) → it.requirement ≡ Single r → (r < 640) × (goal_from r ≡ goal_at (catalogue k m us t) q)
+  range_placed r i =
+      let here = goal_here (range r) (unfold goal_of in rw i) in
+      let low : r < length (catalogue k m us t).ranges = here.0 in
+      let below : r < 512 = omega (arith, ranges_held k m us t, w.kept.held.laid.ranges) in
+      (omega arith, range_from r below ∙ sym here.1)
+
+  pub union_placed : (u : ℕ) → it.requirement ≡ Union u → (512 + u < 640) × (goal_from (512 + u) ≡ goal_at (catalogue k m us t) q)
+  union_placed u i =
+      let here = goal_here (union u) (unfold goal_of in rw i) in
+      let low : u < length (catalogue k m us t).unions = here.0 in
+      (omega (arith, unions_held k m us t, w.kept.held.laid.unions), union_from u ∙ sym here.1)

@@ -19,7 +19,8 @@ use Rattle.line.specs.Tasks.{task_of}
 use Rattle.entries.specs.Entries.{drawn_in}
 use Rattle.encoder.specs.declared.Counters.{Counters}
 use Rattle.encoder.specs.Held.{LongEnough, Good}
-use Rattle.encoder.specs.Did.{limits_of, is_full}
+use Rattle.encoder.specs.Did.{is_full}
+use Rattle.state.specs.Limits.{limits_of}
 use Rattle.serving.specs.Serving.{TaskGiven}
 use Rattle.beginning.specs.Beginning.{reading_of}
 use Rattle.serving.specs.Line.{from, Point, Serves, Begun, LineServed}

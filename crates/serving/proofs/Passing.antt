@@ -20,13 +20,15 @@ use Rattle.rules.proofs.StoppedRun.{task_grows}
 use Rattle.rules.proofs.Forgotten.{forget, serve_task_forgets}
 use Rattle.state.specs.declared.Limits.{Limits}
 use Rattle.state.proofs.Changed.{changed_none}
+use Rattle.line.specs.declared.Task as line
 use Rattle.line.specs.Line.{queued, line_at}
 use Rattle.line.specs.Tasks.{task_of}
 use Rattle.line.proofs.Line.{queued_none}
 use Rattle.entries.specs.Entries.{drawn_in}
 use Rattle.encoder.specs.declared.Counters.{Counters}
 use Rattle.encoder.specs.Held.{Reading, task_in, opening_of, state_of, Good}
-use Rattle.encoder.specs.Did.{limits_of, room_of, beyond, is_full}
+use Rattle.encoder.specs.Did.{room_of, beyond, is_full}
+use Rattle.state.specs.Limits.{limits_of}
 use Rattle.encoder.proofs.Frames.{good_kept}
 use Rattle.encoder.proofs.Steps.{nothing_kept}
 use Rattle.naming.specs.Alike.{AlikeIn, AlikeDid}
@@ -48,11 +50,11 @@ good_from {head = head} {n = n} {st = st} h g =
     let b : head + 1 ≤ n.tail = omega arith in
     good_kept (changed_none [] st) g (search) refl refl refl refl refl g.entries
 
--- served by its number
-pub served_next : {c : Catalogue} {l : Limits} (r : Run) {drawn : ℕ} (head x : ℕ) {n : Counters} {st : ℕ → List ℕ} {cl wt : List ℕ}
-    {n' : Counters} {st' : ℕ → List ℕ} {cl' wt' : List ℕ} → x ≡ line_at head st
-    → AlikeDid c l (λ v. served_as c r (drawn_in l drawn wt) v (task_of x)) (from (head + 1) n) st cl wt n' st' cl' wt' → Serves c l r drawn head n st cl wt n' st' cl' wt'
-served_next r head x e d = record { did = rw (← e) d }
+-- served as the task at the head
+pub served_next : {c : Catalogue} {l : Limits} (r : Run) {drawn : ℕ} (head : ℕ) (t : line.Task) {n : Counters} {st : ℕ → List ℕ} {cl wt : List ℕ}
+    {n' : Counters} {st' : ℕ → List ℕ} {cl' wt' : List ℕ} → t ≡ task_of (line_at head st)
+    → AlikeDid c l (λ v. served_as c r (drawn_in l drawn wt) v t) (from (head + 1) n) st cl wt n' st' cl' wt' → Serves c l r drawn head n st cl wt n' st' cl' wt'
+served_next r head t e d = record { did = rw (← e) d }
 
 from_is : (c : Catalogue) (l : Limits) (v : Reading) (head : ℕ) (n : Counters) (st : ℕ → List ℕ) (cl wt : List ℕ)
     → state_of c l v (from (head + 1) n) st cl wt ≡ behind_all (map (task_in c v) (queued (head + 1) n.tail st)) (state_of c l v (taken n) st cl wt)

@@ -20,7 +20,7 @@ use Rattle.line.proofs.Line.{queued_none, queued_first}
 use Rattle.entries.specs.Entries.{drawn_in}
 use Rattle.encoder.specs.declared.Counters.{Counters}
 use Rattle.encoder.specs.Held.{Reading, task_in, opening_of, state_of, Good}
-use Rattle.encoder.specs.Did.{limits_of}
+use Rattle.state.specs.Limits.{limits_of}
 use Rattle.serving.specs.Serving.{TaskGiven}
 use Rattle.serving.specs.Line.{from, taken, Point}
 use Rattle.serving.proofs.Served.{number_given}

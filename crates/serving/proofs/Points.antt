@@ -17,7 +17,7 @@ use Rattle.rules.proofs.Decided.{decided, no_part_made_true}
 use Rattle.rules.proofs.Ends.{room}
 use Rattle.rules.proofs.Drawn.{places}
 use Rattle.state.specs.declared.Limits.{Limits}
-use Rattle.encoder.specs.Did.{limits_of}
+use Rattle.state.specs.Limits.{limits_of}
 
 within_at : {c : Catalogue} {r : Run} {ts₀ : List Task} {s₀ : State} {k : ℕ} {ts : List Task} {u : State} → After c r ts₀ s₀ k ts u → Within c r s₀ u
 within_at begins = Within.begins

@@ -11,7 +11,6 @@ use Rattle.cache.proofs.Laws.{requirements_held, constraints_held}
 use Rattle.state.specs.declared.Limits.{Limits}
 use Rattle.line.specs.declared.Task.{Task}
 use Rattle.line.specs.declared.Task.TheVariants.{Condition, Requirement, Constraint, Drawn}
-use Rattle.line.specs.Tasks.{task_of}
 use Rattle.entries.specs.Entries.{drawn_in, Long}
 use Rattle.entries.proofs.Drain.{length_drawn}
 use Rattle.encoder.specs.declared.Counters.{Counters}
@@ -31,9 +30,8 @@ module _ {l : Limits} {cl wt : ℕ} (h : LongEnough l cl wt) where
 
 -- ---- the number names something given
 
-module _ {c : Catalogue} {ds : List (ℕ × ℕ)} {t : Task} (x : ℕ) (g : TaskGiven c ds (task_of x)) (e : t ≡ task_of x) where
-  pub given_as : {k : Task} → t ≡ k → TaskGiven c ds k
-  given_as f = rw (← f, e) g
+pub given_as : {c : Catalogue} {ds : List (ℕ × ℕ)} {t k : Task} → TaskGiven c ds t → t ≡ k → TaskGiven c ds k
+given_as g e = rw (← e) g
 
 module _ (k : Counts) (m us t : List ℕ) {ds : List (ℕ × ℕ)} {i : ℕ} where
   pub condition_below : TaskGiven (catalogue k m us t) ds (Condition i) → i < k.requirements
@@ -50,6 +48,6 @@ drawn_first l wt {drawn} g = omega (arith, g.given.0, length_drawn l drawn wt)
 
 -- ---- served as its kind is
 
-pub as_kind : {c : Catalogue} {l : Limits} (r : Run) (ds : List (ℕ × ℕ)) {n n' : Counters} {st st' : ℕ → List ℕ} {cl cl' wt wt' : List ℕ} {t k : Task} (x : ℕ)
-    → t ≡ task_of x → t ≡ k → AlikeDid c l (λ v. served_as c r ds v k) n st cl wt n' st' cl' wt' → AlikeDid c l (λ v. served_as c r ds v (task_of x)) n st cl wt n' st' cl' wt'
-as_kind r ds x e f d = rw (← e, f) d
+pub as_kind : {c : Catalogue} {l : Limits} (r : Run) (ds : List (ℕ × ℕ)) {n n' : Counters} {st st' : ℕ → List ℕ} {cl cl' wt wt' : List ℕ} {t k : Task}
+    → t ≡ k → AlikeDid c l (λ v. served_as c r ds v k) n st cl wt n' st' cl' wt' → AlikeDid c l (λ v. served_as c r ds v t) n st cl wt n' st' cl' wt'
+as_kind r ds e d = rw e d

@@ -14,7 +14,8 @@ use Rattle.line.specs.Tasks.{task_of}
 use Rattle.entries.specs.Entries.{drawn_in}
 use Rattle.encoder.specs.declared.Counters.{Counters}
 use Rattle.encoder.specs.Held.{Reading, task_in, state_of, Good}
-use Rattle.encoder.specs.Did.{limits_of, is_full}
+use Rattle.encoder.specs.Did.{is_full}
+use Rattle.state.specs.Limits.{limits_of}
 use Rattle.naming.specs.Alike.{AlikeIn, AlikeDid}
 use Rattle.beginning.specs.Beginning.{reading_of}
 use Rattle.serving.specs.Serving.{served_as}

@@ -12,63 +12,59 @@ ghost use Rattle.line.specs.Line.{line_at};
 ghost use Rattle.line.specs.Tasks.{task_of};
 ghost use Rattle.entries.specs.Entries.{drawn_in};
 ghost use Rattle.encoder.specs.Held.{run_of, LongEnough, Good};
-ghost use Rattle.goals.specs.Goals.{Catalogued};
 ghost use Rattle.owners.specs.Owners.{serving};
-ghost use Rattle.firing.specs.Firing.{indices_in};
 ghost use Rattle.naming.specs.Naming.{GivenIndices};
 ghost use Rattle.naming.specs.Alike.{AlikeDid, ClausesAlike};
 ghost use Rattle.serving.specs.Flags.{goal_from, Flagged};
 ghost use Rattle.serving.specs.Serving.{served_as, served_fired, served_drawn, TaskGiven};
 ghost use Rattle.serving.specs.Line.{Serves, Begun, LineServed};
+ghost use Rattle.index.specs.Views.{catalogue_of, counts_of};
 
 use encoder::{Counters, Run};
-use firing::Indices;
+use index::Catalogue;
 use line::Task;
+use requirement::Requirement;
 use state::Limits;
-use tables::Counts;
 
 // ---- goals whose candidates are settled
 
 // The place of a requirement's goal among the flags.
-fn goal_place(marks: &[u8], unions: &[u8], t: &[u8], k: Counts, q: usize) -> usize
-    requires catalogued { Catalogued k marks.now unions.now t.now }
-    requires q_lt_requirements { q < k.requirements }
-    ensures { (result < 640) × (goal_from result ≡ goal_at (catalogue k marks.now unions.now t.now) q) }
+fn goal_place(catalogue: &Catalogue, q: usize) -> usize
+    requires q_lt_requirements { q < (counts_of catalogue.now).requirements }
+    ensures { (result < 640) × (goal_from result ≡ goal_at (catalogue_of catalogue.now) q) }
 {
-    let it = tables::requirement_at(t, k, q);
-    let goal = it.requirement;
-    512 * goal.form() as usize + goal.number() as usize
+    let it = catalogue.index.areas.tables.requirement_at(q);
+    match it.requirement {
+        Requirement::Single(range) => range as usize,
+        Requirement::Union(union) => 512 + union as usize,
+    }
 }
 
 // Requirement q is handled for these disjuncts, and its goal flagged.
 fn serve_flagged(
-    marks: &[u8],
-    unions: &[u8],
-    t: &[u8],
-    k: Counts,
+    catalogue: &Catalogue,
     s: &mut [u8],
     clauses: &mut [u8],
     l: Limits,
     n: Counters,
     r: Run,
     q: usize,
-    is: Indices,
+    indices: &[u16],
     settled: &mut [bool; 640],
 ) -> Counters
-    requires catalogued { Catalogued k marks.now unions.now t.now }
     requires fits { Fits l (length s.old) }
-    requires good { Good (catalogue k marks.now unions.now t.now) l n (held l s.old) clauses.old [] }
+    requires good { Good (catalogue_of catalogue.now) l n (held l s.old) clauses.old [] }
     requires long_enough { LongEnough l (length clauses.old) 16384 }
-    requires q_lt_requirements { (q < k.requirements) × (0 < r.number) }
+    requires q_lt_requirements { (q < (counts_of catalogue.now).requirements) × (0 < r.number) }
     requires marked { Marked 14 15 0 (held l s.old) }
-    requires given_indices { GivenIndices (catalogue k marks.now unions.now t.now) q is }
-    requires flagged { Flagged (catalogue k marks.now unions.now t.now) l settled.old n (held l s.old) }
-    ensures clauses_alike { ClausesAlike (catalogue k marks.now unions.now t.now) l (λ v. serving (catalogue k marks.now unions.now t.now) (run_of r) (requirement q (indices_in is))) n (held l s.old) clauses.old result (held l s.new) clauses.new }
-    ensures flagged_2 { Flagged (catalogue k marks.now unions.now t.now) l settled.new result (held l s.new) }
+    requires given_indices { GivenIndices (catalogue_of catalogue.now) q indices.now }
+    requires flagged { Flagged (catalogue_of catalogue.now) l settled.old n (held l s.old) }
+    ensures clauses_alike { ClausesAlike (catalogue_of catalogue.now) l (λ v. serving (catalogue_of catalogue.now) (run_of r) (requirement q indices.now)) n (held l s.old) clauses.old result (held l s.new) clauses.new }
+    ensures flagged_2 { Flagged (catalogue_of catalogue.now) l settled.new result (held l s.new) }
 {
-    let i = goal_place(marks, unions, t, k, q);
+    let i = goal_place(catalogue, q);
     let known = settled[i];
-    let m = handling::serve_requirement(marks, unions, t, k, s, clauses, l, n, r, q, is, known);
+    let m = handling::serve_requirement(catalogue, s, clauses, l, n, r, q, indices, known);
     settled[i] = true;
     m
 }
@@ -77,10 +73,7 @@ fn serve_flagged(
 
 // Requirement q is handled for the disjuncts that hold now.
 fn serve_fired(
-    marks: &[u8],
-    unions: &[u8],
-    t: &[u8],
-    k: Counts,
+    catalogue: &Catalogue,
     s: &mut [u8],
     clauses: &mut [u8],
     l: Limits,
@@ -89,43 +82,28 @@ fn serve_fired(
     q: usize,
     settled: &mut [bool; 640],
 ) -> Counters
-    requires catalogued { Catalogued k marks.now unions.now t.now }
     requires fits { Fits l (length s.old) }
-    requires good { Good (catalogue k marks.now unions.now t.now) l n (held l s.old) clauses.old [] }
+    requires good { Good (catalogue_of catalogue.now) l n (held l s.old) clauses.old [] }
     requires long_enough { LongEnough l (length clauses.old) 16384 }
-    requires q_lt_requirements { (q < k.requirements) × (0 < r.number) }
+    requires q_lt_requirements { (q < (counts_of catalogue.now).requirements) × (0 < r.number) }
     requires marked { Marked 14 15 0 (held l s.old) }
-    requires flagged { Flagged (catalogue k marks.now unions.now t.now) l settled.old n (held l s.old) }
-    ensures clauses_alike { ClausesAlike (catalogue k marks.now unions.now t.now) l (λ v. served_fired (catalogue k marks.now unions.now t.now) (run_of r) q) n (held l s.old) clauses.old result (held l s.new) clauses.new }
-    ensures flagged_2 { Flagged (catalogue k marks.now unions.now t.now) l settled.new result (held l s.new) }
+    requires flagged { Flagged (catalogue_of catalogue.now) l settled.old n (held l s.old) }
+    ensures clauses_alike { ClausesAlike (catalogue_of catalogue.now) l (λ v. served_fired (catalogue_of catalogue.now) (run_of r) q) n (held l s.old) clauses.old result (held l s.new) clauses.new }
+    ensures flagged_2 { Flagged (catalogue_of catalogue.now) l settled.new result (held l s.new) }
 {
-    let it = tables::requirement_at(t, k, q);
-    if it.condition == 65535 {
-        return serve_flagged(
-            marks,
-            unions,
-            t,
-            k,
-            s,
-            clauses,
-            l,
-            n,
-            r,
-            q,
-            firing::none(),
-            settled,
-        );
+    let it = catalogue.index.areas.tables.requirement_at(q);
+    match it.condition {
+        None => serve_flagged(catalogue, s, clauses, l, n, r, q, &[], settled),
+        Some(_) => {
+            let fired = firing::judged(catalogue, s, l, n, q, true);
+            serve_flagged(catalogue, s, clauses, l, n, r, q, fired.as_slice(), settled)
+        }
     }
-    let is = firing::judged(marks, unions, t, k, s, l, n, q, true);
-    serve_flagged(marks, unions, t, k, s, clauses, l, n, r, q, is, settled)
 }
 
 // Entry e of the `drawn` ones is handled.
 fn serve_drawn(
-    marks: &[u8],
-    unions: &[u8],
-    t: &[u8],
-    k: Counts,
+    catalogue: &Catalogue,
     s: &mut [u8],
     clauses: &mut [u8],
     w: &[u8],
@@ -136,42 +114,34 @@ fn serve_drawn(
     e: usize,
     settled: &mut [bool; 640],
 ) -> Counters
-    requires catalogued { Catalogued k marks.now unions.now t.now }
     requires fits { Fits l (length s.old) }
-    requires good { Good (catalogue k marks.now unions.now t.now) l n (held l s.old) clauses.old [] }
+    requires good { Good (catalogue_of catalogue.now) l n (held l s.old) clauses.old [] }
     requires long_enough { LongEnough l (length clauses.old) 16384 }
     requires long_enough_2 { LongEnough l (length clauses.old) (length w.now) }
-    requires task_given { TaskGiven (catalogue k marks.now unions.now t.now) (drawn_in l drawn w.now) (Drawn e) }
+    requires task_given { TaskGiven (catalogue_of catalogue.now) (drawn_in l drawn w.now) (Drawn e) }
     requires number_nonzero { (0 < r.number) × (drawn ≤ l.waiting) × (e < drawn) }
     requires marked { Marked 14 15 0 (held l s.old) }
-    requires flagged { Flagged (catalogue k marks.now unions.now t.now) l settled.old n (held l s.old) }
-    ensures clauses_alike { ClausesAlike (catalogue k marks.now unions.now t.now) l (λ v. served_drawn (catalogue k marks.now unions.now t.now) (run_of r) (drawn_in l drawn w.now) e) n (held l s.old) clauses.old result (held l s.new) clauses.new }
-    ensures flagged_2 { Flagged (catalogue k marks.now unions.now t.now) l settled.new result (held l s.new) }
+    requires flagged { Flagged (catalogue_of catalogue.now) l settled.old n (held l s.old) }
+    ensures clauses_alike { ClausesAlike (catalogue_of catalogue.now) l (λ v. served_drawn (catalogue_of catalogue.now) (run_of r) (drawn_in l drawn w.now) e) n (held l s.old) clauses.old result (held l s.new) clauses.new }
+    ensures flagged_2 { Flagged (catalogue_of catalogue.now) l settled.new result (held l s.new) }
 {
     let entry = entries::drawn_at(w, l, drawn, e);
-    let is = firing::pushed(firing::none(), entry.disjunct);
     serve_flagged(
-        marks,
-        unions,
-        t,
-        k,
+        catalogue,
         s,
         clauses,
         l,
         n,
         r,
         entry.requirement as usize,
-        is,
+        &[entry.disjunct],
         settled,
     )
 }
 
-// The task of this number; `drawn` entries were drawn when the run began.
+// This task; `drawn` entries were drawn when the run began.
 fn serve_task(
-    marks: &[u8],
-    unions: &[u8],
-    t: &[u8],
-    k: Counts,
+    catalogue: &Catalogue,
     s: &mut [u8],
     clauses: &mut [u8],
     w: &mut [u8],
@@ -179,32 +149,29 @@ fn serve_task(
     n: Counters,
     r: Run,
     drawn: usize,
-    number: u16,
+    task: Task,
     settled: &mut [bool; 640],
 ) -> Counters
-    requires catalogued { Catalogued k marks.now unions.now t.now }
     requires fits { Fits l (length s.old) }
-    requires good { Good (catalogue k marks.now unions.now t.now) l n (held l s.old) clauses.old w.old }
+    requires good { Good (catalogue_of catalogue.now) l n (held l s.old) clauses.old w.old }
     requires long_enough { LongEnough l (length clauses.old) (length w.old) }
     requires marked { Marked 14 15 0 (held l s.old) }
-    requires task_given { TaskGiven (catalogue k marks.now unions.now t.now) (drawn_in l drawn w.old) (task_of number) }
+    requires task_given { TaskGiven (catalogue_of catalogue.now) (drawn_in l drawn w.old) task }
     requires number_nonzero { (0 < r.number) × (drawn ≤ l.waiting) × (n.drawn ≡ 0) }
-    requires flagged { Flagged (catalogue k marks.now unions.now t.now) l settled.old n (held l s.old) }
-    ensures alike_did { AlikeDid (catalogue k marks.now unions.now t.now) l (λ v. served_as (catalogue k marks.now unions.now t.now) (run_of r) (drawn_in l drawn w.old) v (task_of number)) n (held l s.old) clauses.old w.old result (held l s.new) clauses.new w.new }
-    ensures flagged_2 { Flagged (catalogue k marks.now unions.now t.now) l settled.new result (held l s.new) }
+    requires flagged { Flagged (catalogue_of catalogue.now) l settled.old n (held l s.old) }
+    ensures alike_did { AlikeDid (catalogue_of catalogue.now) l (λ v. served_as (catalogue_of catalogue.now) (run_of r) (drawn_in l drawn w.old) v task) n (held l s.old) clauses.old w.old result (held l s.new) clauses.new w.new }
+    ensures flagged_2 { Flagged (catalogue_of catalogue.now) l settled.new result (held l s.new) }
 {
-    match line::task_of(number) {
-        Task::Owner(o) => owners::serve_owner(marks, unions, t, k, s, clauses, l, n, r, o),
-        Task::Name(name) => names::serve_name(marks, unions, t, k, s, clauses, l, n, r, name),
-        Task::Condition(q) => firing::serve_condition(marks, unions, t, k, s, w, l, n, q),
-        Task::Requirement(q) => serve_fired(
-            marks, unions, t, k, s, clauses, l, n, r, q as usize, settled,
-        ),
+    match task {
+        Task::Owner(o) => owners::serve_owner(catalogue, s, clauses, l, n, r, o),
+        Task::Name(name) => names::serve_name(catalogue, s, clauses, l, n, r, name),
+        Task::Condition(q) => firing::serve_condition(catalogue, s, w, l, n, q),
+        Task::Requirement(q) => serve_fired(catalogue, s, clauses, l, n, r, q as usize, settled),
         Task::Constraint(i) => constraints::serve_constraint(
-            marks, unions, t, k, s, clauses, l, n, r, i as usize,
+            catalogue, s, clauses, l, n, r, i as usize,
         ),
         Task::Drawn(e) => serve_drawn(
-            marks, unions, t, k, s, clauses, w, l, n, r, drawn, e as usize, settled,
+            catalogue, s, clauses, w, l, n, r, drawn, e as usize, settled,
         ),
     }
 }
@@ -213,10 +180,7 @@ fn serve_task(
 
 // The task at `head` is taken from the line; what it queues goes behind.
 fn serve_next(
-    marks: &[u8],
-    unions: &[u8],
-    t: &[u8],
-    k: Counts,
+    catalogue: &Catalogue,
     s: &mut [u8],
     clauses: &mut [u8],
     w: &mut [u8],
@@ -227,33 +191,27 @@ fn serve_next(
     head: usize,
     settled: &mut [bool; 640],
 ) -> Counters
-    requires catalogued { Catalogued k marks.now unions.now t.now }
     requires fits { Fits l (length s.old) }
-    requires good { Good (catalogue k marks.now unions.now t.now) l n (held l s.old) clauses.old w.old }
+    requires good { Good (catalogue_of catalogue.now) l n (held l s.old) clauses.old w.old }
     requires long_enough { LongEnough l (length clauses.old) (length w.old) }
     requires marked { Marked 14 15 0 (held l s.old) }
-    requires task_given { TaskGiven (catalogue k marks.now unions.now t.now) (drawn_in l drawn w.old) (task_of (line_at head (held l s.old))) }
+    requires task_given { TaskGiven (catalogue_of catalogue.now) (drawn_in l drawn w.old) (task_of (line_at head (held l s.old))) }
     requires number_nonzero { (0 < r.number) × (drawn ≤ l.waiting) × (n.drawn ≡ 0) × (head < n.tail) }
-    requires flagged { Flagged (catalogue k marks.now unions.now t.now) l settled.old n (held l s.old) }
-    ensures serves { Serves (catalogue k marks.now unions.now t.now) l (run_of r) drawn head n (held l s.old) clauses.old w.old result (held l s.new) clauses.new w.new }
-    ensures flagged_2 { Flagged (catalogue k marks.now unions.now t.now) l settled.new result (held l s.new) }
+    requires flagged { Flagged (catalogue_of catalogue.now) l settled.old n (held l s.old) }
+    ensures serves { Serves (catalogue_of catalogue.now) l (run_of r) drawn head n (held l s.old) clauses.old w.old result (held l s.new) clauses.new w.new }
+    ensures flagged_2 { Flagged (catalogue_of catalogue.now) l settled.new result (held l s.new) }
 {
-    let number = line::at(s, l, head);
+    let task = line::at(s, l, head);
     let behind = Counters {
         first: head + 1,
         ..n
     };
-    serve_task(
-        marks, unions, t, k, s, clauses, w, l, behind, r, drawn, number, settled,
-    )
+    serve_task(catalogue, s, clauses, w, l, behind, r, drawn, task, settled)
 }
 
 // The whole line. `settled` flags goals whose candidates are settled, in this run or before.
 pub fn serve_line(
-    marks: &[u8],
-    unions: &[u8],
-    t: &[u8],
-    k: Counts,
+    catalogue: &Catalogue,
     s: &mut [u8],
     clauses: &mut [u8],
     w: &mut [u8],
@@ -263,15 +221,14 @@ pub fn serve_line(
     drawn: usize,
     settled: &mut [bool; 640],
 ) -> Counters
-    requires catalogued { Catalogued k marks.now unions.now t.now }
     requires fits { Fits l (length s.old) }
-    requires good { Good (catalogue k marks.now unions.now t.now) l n (held l s.old) clauses.old w.old }
+    requires good { Good (catalogue_of catalogue.now) l n (held l s.old) clauses.old w.old }
     requires long_enough { LongEnough l (length clauses.old) (length w.old) }
     requires marked { Marked 14 15 0 (held l s.old) × (0 < r.number) }
-    requires begun { Begun (catalogue k marks.now unions.now t.now) l (run_of r) drawn n (held l s.old) clauses.old w.old }
-    requires flagged { Flagged (catalogue k marks.now unions.now t.now) l settled.old n (held l s.old) }
-    ensures line_served { LineServed (catalogue k marks.now unions.now t.now) l (run_of r) drawn n (held l s.old) clauses.old w.old result (held l s.new) clauses.new w.new }
-    ensures flagged_2 { Flagged (catalogue k marks.now unions.now t.now) l settled.new result (held l s.new) }
+    requires begun { Begun (catalogue_of catalogue.now) l (run_of r) drawn n (held l s.old) clauses.old w.old }
+    requires flagged { Flagged (catalogue_of catalogue.now) l settled.old n (held l s.old) }
+    ensures line_served { LineServed (catalogue_of catalogue.now) l (run_of r) drawn n (held l s.old) clauses.old w.old result (held l s.new) clauses.new w.new }
+    ensures flagged_2 { Flagged (catalogue_of catalogue.now) l settled.new result (held l s.new) }
 {
     let mut m = n;
     let mut head = 0;
@@ -280,9 +237,7 @@ pub fn serve_line(
         if m.full != 0 {
             return m;
         }
-        m = serve_next(
-            marks, unions, t, k, s, clauses, w, l, m, r, drawn, head, settled,
-        );
+        m = serve_next(catalogue, s, clauses, w, l, m, r, drawn, head, settled);
         head += 1;
     }
     m

@@ -4,13 +4,15 @@
 
 ghost use Rattle.std.specs.Prelude.{◌<◌, length};
 ghost use Rattle.rules.specs.Clause.{forbid, aux_out, any_gate, any_one};
+ghost use Rattle.requirement.specs.Requirements.{goal_of};
 ghost use Rattle.clause.specs.Literals.{literal_of};
 ghost use Rattle.state.specs.Layout.{held, Fits};
 ghost use Rattle.storing.specs.Adding.{CanAdd, Adds, CanPair, AddsPair, AddsGated};
 
 use clause::Literal;
 use encoder::{Counters, Run};
-use solver::Stored;
+use requirement::Requirement;
+use solver::Clause;
 use state::Limits;
 use storing::Outcome;
 
@@ -22,29 +24,19 @@ pub fn add_gated(
     n: Counters,
     r: Run,
     gate: u16,
-    form: u16,
-    number: u16,
+    goal: Requirement,
     all: bool,
 ) -> Counters
     requires fits { Fits l (length s.old) }
     requires can_add { CanAdd l n (held l s.old) (length clauses.old) }
     requires gate_lt_variables { gate < l.variables }
-    ensures { AddsGated l r gate form number all n (held l s.old) clauses.old result (held l s.new) clauses.new }
+    ensures { AddsGated l r gate (goal_of goal) all n (held l s.old) clauses.old result (held l s.new) clauses.new }
 {
-    let row = Stored {
-        kind: 2,
-        first: gate,
-        second: 0,
-        start: 0,
-        count: 0,
-        form,
-        number,
-        conflict: 0,
-    };
+    let clause = Clause::Gated { gate, goal };
     if all {
-        return storing::store_setting(s, clauses, l, n, r, row, Literal::new(gate, false));
+        return storing::store_setting(s, clauses, l, n, r, clause, Literal::new(gate, false));
     }
-    storing::store(clauses, l, n, row)
+    storing::store(clauses, l, n, clause, None)
 }
 
 pub fn add_aux_out(
@@ -61,11 +53,14 @@ pub fn add_aux_out(
     requires violation_lt_variables { violation < l.variables }
     ensures { Adds l r (aux_out x violation) n (held l s.old) clauses.old result (held l s.new) clauses.new }
 {
-    let row = storing::pair(7, x, violation, 0);
+    let clause = Clause::AuxOut {
+        variable: x,
+        violation,
+    };
     if decision_tracker::is_true(s, l, n.decisions, x) {
-        return storing::store_setting(s, clauses, l, n, r, row, Literal::new(violation, true));
+        return storing::store_setting(s, clauses, l, n, r, clause, Literal::new(violation, true));
     }
-    storing::store(clauses, l, n, row)
+    storing::store(clauses, l, n, clause, None)
 }
 
 // One-of-name y for part x.
@@ -83,34 +78,37 @@ pub fn add_any_one(
     requires y_lt_variables { y < l.variables }
     ensures { Adds l r (any_one y x) n (held l s.old) clauses.old result (held l s.new) clauses.new }
 {
-    let row = storing::pair(11, y, x, 0);
+    let clause = Clause::AnyOne {
+        one: y,
+        variable: x,
+    };
     if storing::is_one(s, l, n, r, y, x) {
-        return storing::store_setting(s, clauses, l, n, r, row, Literal::new(y, true));
+        return storing::store_setting(s, clauses, l, n, r, clause, Literal::new(y, true));
     }
-    storing::store(clauses, l, n, row)
+    storing::store(clauses, l, n, clause, None)
 }
 
-// A row whose two literals are a and b.
+// A clause whose two literals are a and b.
 fn add_pair(
     s: &mut [u8],
     clauses: &mut [u8],
     l: Limits,
     n: Counters,
     r: Run,
-    row: Stored,
+    clause: Clause,
     a: Literal,
     b: Literal,
 ) -> Counters
     requires fits { Fits l (length s.old) }
     requires can_add { CanAdd l n (held l s.old) (length clauses.old) }
     requires can_pair { CanPair l r a b }
-    ensures { AddsPair l r row a b n (held l s.old) clauses.old result (held l s.new) clauses.new }
+    ensures { AddsPair l r clause a b n (held l s.old) clauses.old result (held l s.new) clauses.new }
 {
     match storing::outcome_of(s, l, n, a, b) {
-        Outcome::Nothing => storing::store(clauses, l, n, row),
-        Outcome::Conflict => storing::store(clauses, l, n, storing::as_conflict(row, r)),
-        Outcome::SetsFirst => storing::store_setting(s, clauses, l, n, r, row, a),
-        Outcome::SetsSecond => storing::store_setting(s, clauses, l, n, r, row, b),
+        Outcome::Nothing => storing::store(clauses, l, n, clause, None),
+        Outcome::Conflict => storing::store(clauses, l, n, clause, Some(r.number)),
+        Outcome::SetsFirst => storing::store_setting(s, clauses, l, n, r, clause, a),
+        Outcome::SetsSecond => storing::store_setting(s, clauses, l, n, r, clause, b),
     }
 }
 
@@ -135,7 +133,10 @@ pub fn add_forbid(
         l,
         n,
         r,
-        storing::pair(6, x, helper.code, 0),
+        Clause::Forbid {
+            variable: x,
+            helper,
+        },
         Literal::new(x, false),
         helper,
     )
@@ -161,7 +162,7 @@ pub fn add_any_gate(
         l,
         n,
         r,
-        storing::pair(10, gate, owner, 0),
+        Clause::AnyGate { gate, owner },
         Literal::new(gate, true),
         Literal::new(owner, false),
     )

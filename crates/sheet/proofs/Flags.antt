@@ -22,7 +22,7 @@ use Rattle.reader.specs.declared.Command.TheVariants as C
 use Rattle.reader.specs.Reading.{command_of}
 use Rattle.state.specs.declared.Limits.{Limits}
 use Rattle.encoder.specs.declared.Counters.{Counters}
-use Rattle.encoder.specs.Did.{limits_of}
+use Rattle.state.specs.Limits.{limits_of}
 use Rattle.naming.specs.Settled.{AllSettled, Settles}
 use Rattle.naming.proofs.Settled.{Stands, stands_same, settled_stands, other_areas}
 use Rattle.beginning.specs.Beginning.{Reaches}

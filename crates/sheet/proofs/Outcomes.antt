@@ -24,7 +24,8 @@ use Rattle.state.specs.declared.Limits.{Limits}
 use Rattle.marked.specs.Marked.{Marked}
 use Rattle.encoder.specs.declared.Counters.{Counters}
 use Rattle.encoder.specs.Held.{Reading, state_of, Good}
-use Rattle.encoder.specs.Did.{limits_of, is_full}
+use Rattle.encoder.specs.Did.{is_full}
+use Rattle.state.specs.Limits.{limits_of}
 use Rattle.reader.specs.declared.Command as code
 use Rattle.reader.specs.declared.Command.TheVariants as C
 use Rattle.reader.specs.Reading.{command_of}

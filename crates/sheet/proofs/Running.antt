@@ -23,7 +23,8 @@ use Rattle.refusal.specs.Refusing.{refusal_of}
 use Rattle.state.specs.declared.Limits.{Limits}
 use Rattle.decision_tracker.specs.Tracking.{decisions}
 use Rattle.encoder.specs.declared.Counters.{Counters}
-use Rattle.encoder.specs.Did.{limits_of, is_full}
+use Rattle.encoder.specs.Did.{is_full}
+use Rattle.state.specs.Limits.{limits_of}
 use Rattle.encoder.proofs.Frames.{good_within}
 use Rattle.encoding.specs.Running.{Holds, RunDid}
 use Rattle.sheet.specs.Sheet.{Gives, CommandDid}

@@ -6,23 +6,20 @@ ghost use Rattle.rules.specs.Records as rules;
 ghost use Rattle.cache.specs.Areas.{catalogue};
 ghost use Rattle.state.specs.Layout.{held, Fits};
 ghost use Rattle.encoder.specs.Held.{LongEnough};
-ghost use Rattle.goals.specs.Goals.{Catalogued};
 ghost use Rattle.reader.specs.Reading.{command_of};
 ghost use Rattle.encoding.specs.Running.{Reaches};
 ghost use Rattle.serving.specs.Flags.{Flagged};
 ghost use Rattle.sheet.specs.Sheet.{CommandDid, FlaggedAfter};
+ghost use Rattle.index.specs.Views.{catalogue_of};
 
 use encoder::Counters;
+use index::Catalogue;
 use reader::Command;
 use refusal::{Refusal, Thing};
 use state::Limits;
-use tables::Counts;
 
 fn draw(
-    marks: &[u8],
-    unions: &[u8],
-    t: &[u8],
-    k: Counts,
+    catalogue: &Catalogue,
     s: &mut [u8],
     clauses: &mut [u8],
     w: &mut [u8],
@@ -30,23 +27,20 @@ fn draw(
     n: Counters,
     c: u16,
 ) -> Result<Counters, Refusal>
-    requires catalogued { Catalogued k marks.now unions.now t.now }
     requires fits { Fits l (length s.old) }
-    requires reaches { Reaches (catalogue k marks.now unions.now t.now) l n (held l s.old) clauses.old w.old }
+    requires reaches { Reaches (catalogue_of catalogue.now) l n (held l s.old) clauses.old w.old }
     requires long_enough { LongEnough l (length clauses.old) (length w.old) × (n.runs < 65535) }
-    ensures { CommandDid (catalogue k marks.now unions.now t.now) l (rules.Command.draw c) n (held l s.old) clauses.old w.old result (held l s.new) clauses.new w.new }
+    ensures { CommandDid (catalogue_of catalogue.now) l (rules.Command.draw c) n (held l s.old) clauses.old w.old result (held l s.new) clauses.new w.new }
 {
-    if (c as usize) < k.conditions {
-        return Ok(commands::draw(marks, unions, t, k, s, w, l, n, c));
+    if (c as usize) < catalogue.index.areas.tables.counts.conditions {
+        Ok(commands::draw(catalogue, s, w, l, n, c))
+    } else {
+        Err(Refusal::Missing(Thing::Condition, 1))
     }
-    Err(Refusal::Missing(Thing::Condition, 1))
 }
 
 fn run(
-    marks: &[u8],
-    unions: &[u8],
-    t: &[u8],
-    k: Counts,
+    catalogue: &Catalogue,
     s: &mut [u8],
     clauses: &mut [u8],
     w: &mut [u8],
@@ -55,18 +49,17 @@ fn run(
     level: u16,
     settled: &mut [bool; 640],
 ) -> Result<Counters, Refusal>
-    requires catalogued { Catalogued k marks.now unions.now t.now }
     requires fits { Fits l (length s.old) }
-    requires reaches { Reaches (catalogue k marks.now unions.now t.now) l n (held l s.old) clauses.old w.old }
+    requires reaches { Reaches (catalogue_of catalogue.now) l n (held l s.old) clauses.old w.old }
     requires long_enough { LongEnough l (length clauses.old) (length w.old) × (n.runs < 65535) }
-    requires flagged { Flagged (catalogue k marks.now unions.now t.now) l settled.old n (held l s.old) }
-    ensures command_did { CommandDid (catalogue k marks.now unions.now t.now) l (rules.Command.run level) n (held l s.old) clauses.old w.old result (held l s.new) clauses.new w.new }
-    ensures flagged_after { FlaggedAfter (catalogue k marks.now unions.now t.now) l settled.new result (held l s.new) }
+    requires flagged { Flagged (catalogue_of catalogue.now) l settled.old n (held l s.old) }
+    ensures command_did { CommandDid (catalogue_of catalogue.now) l (rules.Command.run level) n (held l s.old) clauses.old w.old result (held l s.new) clauses.new w.new }
+    ensures flagged_after { FlaggedAfter (catalogue_of catalogue.now) l settled.new result (held l s.new) }
 {
     if commands::too_low(s, l, n.decisions, level) {
         return Err(Refusal::LevelLow);
     }
-    let m = encoding::run_once(marks, unions, t, k, s, clauses, w, l, n, level, settled);
+    let m = encoding::run_once(catalogue, s, clauses, w, l, n, level, settled);
     if m.full != 0 {
         return Err(Refusal::RunFull);
     }
@@ -75,10 +68,7 @@ fn run(
 
 // `settled` flags goals whose candidates are settled.
 pub fn carry_out(
-    marks: &[u8],
-    unions: &[u8],
-    t: &[u8],
-    k: Counts,
+    catalogue: &Catalogue,
     s: &mut [u8],
     clauses: &mut [u8],
     w: &mut [u8],
@@ -87,18 +77,17 @@ pub fn carry_out(
     command: Command,
     settled: &mut [bool; 640],
 ) -> Result<Counters, Refusal>
-    requires catalogued { Catalogued k marks.now unions.now t.now }
     requires fits { Fits l (length s.old) }
-    requires reaches { Reaches (catalogue k marks.now unions.now t.now) l n (held l s.old) clauses.old w.old }
+    requires reaches { Reaches (catalogue_of catalogue.now) l n (held l s.old) clauses.old w.old }
     requires long_enough { LongEnough l (length clauses.old) (length w.old) × (n.runs < 65535) }
-    requires flagged { Flagged (catalogue k marks.now unions.now t.now) l settled.old n (held l s.old) }
-    ensures command_did { CommandDid (catalogue k marks.now unions.now t.now) l (command_of command) n (held l s.old) clauses.old w.old result (held l s.new) clauses.new w.new }
-    ensures flagged_after { FlaggedAfter (catalogue k marks.now unions.now t.now) l settled.new result (held l s.new) }
+    requires flagged { Flagged (catalogue_of catalogue.now) l settled.old n (held l s.old) }
+    ensures command_did { CommandDid (catalogue_of catalogue.now) l (command_of command) n (held l s.old) clauses.old w.old result (held l s.new) clauses.new w.new }
+    ensures flagged_after { FlaggedAfter (catalogue_of catalogue.now) l settled.new result (held l s.new) }
 {
     match command {
-        Command::Add(owner) => commands::add(k, s, l, n, owner),
-        Command::Draw(c) => draw(marks, unions, t, k, s, clauses, w, l, n, c),
-        Command::Run(level) => run(marks, unions, t, k, s, clauses, w, l, n, level, settled),
+        Command::Add(owner) => commands::add(catalogue.index.areas.tables.counts, s, l, n, owner),
+        Command::Draw(c) => draw(catalogue, s, clauses, w, l, n, c),
+        Command::Run(level) => run(catalogue, s, clauses, w, l, n, level, settled),
         Command::Decide {
             variable,
             value,

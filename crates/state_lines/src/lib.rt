@@ -13,6 +13,7 @@ ghost use Rattle.solver.specs.Rows.{rows};
 ghost use Rattle.line_fields.specs.Listed.{texts, variable_text, owner_text, name_text, conflict_text, decision_text};
 
 use encoder::Counters;
+use marked::MarkedList;
 use state::Limits;
 use text::Writer;
 
@@ -27,8 +28,8 @@ fn variable_line(writer: &mut Writer, s: &[u8], l: Limits, n: Counters, x: usize
 {
     writer.put(b'v');
     writer.field_number(x);
-    let o = variable_map::origin_at(s, l, n.variables, x);
-    line_fields::origin_fields(writer, o);
+    let origin = variable_map::origin_at(s, l, n.variables, x);
+    line_fields::origin_fields(writer, origin);
     writer.line_feed();
 }
 
@@ -49,9 +50,9 @@ fn owner_line(writer: &mut Writer, s: &[u8], l: Limits, n: Counters, i: usize)
     requires i_lt_owners { i < n.owners }
     ensures { Writes writer.old writer.new (owner_text (listed n.owners 1 (held l s.now)) i) }
 {
-    let o = marked::at(s, l, state::OWNERS, n.owners, i);
+    let number = marked::at(s, l, MarkedList::Owners, n.owners, i);
     writer.put(b'o');
-    line_fields::field_owner(writer, o, 1024);
+    line_fields::field_owner(writer, owners::owner_by_number(number));
     writer.line_feed();
 }
 
@@ -69,7 +70,7 @@ fn name_line(writer: &mut Writer, s: &[u8], l: Limits, n: Counters, i: usize)
     requires i_lt_names { i < n.names }
     ensures { Writes writer.old writer.new (name_text (listed n.names 3 (held l s.now)) i) }
 {
-    let name = marked::at(s, l, state::NAMES, n.names, i);
+    let name = marked::at(s, l, MarkedList::Names, n.names, i);
     writer.put(b'p');
     writer.field_number(name as usize);
     writer.line_feed();
@@ -102,8 +103,8 @@ fn conflict_line(writer: &mut Writer, clauses: &[u8], n: Counters, i: usize)
     ensures { Writes writer.old writer.new (conflict_text (rows n.clauses clauses.now) i) }
 {
     let row = solver::row_at(clauses, n.clauses, i);
-    if row.conflict != 0 {
-        pair_line(writer, b'x', row.conflict as usize, i);
+    if let Some(run) = row.conflict() {
+        pair_line(writer, b'x', run as usize, i);
     }
 }
 
@@ -123,9 +124,9 @@ fn decision_line(writer: &mut Writer, s: &[u8], l: Limits, n: Counters, i: usize
     requires decisions_le_variables { (n.decisions ≤ l.variables) × (i < n.decisions) }
     ensures { Writes writer.old writer.new (decision_text (decisions n.decisions (held l s.now)) i) }
 {
-    let d = decision_tracker::decision_at(s, l, n.decisions, i);
+    let decision = decision_tracker::decision_at(s, l, n.decisions, i);
     writer.put(b'd');
-    line_fields::decision_fields(writer, d);
+    line_fields::decision_fields(writer, decision);
     writer.line_feed();
 }
 

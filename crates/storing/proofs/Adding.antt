@@ -8,7 +8,7 @@ use lib.ListN.{length}
 use borrow.Author.Tests.{ne_eqb}
 use Rattle.rules.specs.Lists.{snoc, when}
 use Rattle.rules.specs.Literal.{Literal}
-use Rattle.rules.specs.Clause.{Clause}
+use Rattle.rules.specs.Clause as rules
 use Rattle.rules.specs.Catalogue.{Catalogue}
 use Rattle.rules.specs.Decisions.{Decision}
 use Rattle.rules.specs.Variables.{Origin}
@@ -19,16 +19,16 @@ use Rattle.clause.specs.Literals.{literal_of}
 use Rattle.state.specs.declared.Limits.{Limits}
 use Rattle.variable_map.specs.Mapping.{variables}
 use Rattle.decision_tracker.specs.Tracking.{decisions}
-use Rattle.solver.specs.declared.Stored.{Stored}
-use Rattle.solver.specs.Rows.{row_of}
+use Rattle.solver.specs.declared.Clause.{Clause}
 use Rattle.encoder.specs.declared.Counters.{Counters}
 use Rattle.encoder.specs.declared.Run as encoder
-use Rattle.encoder.specs.Held.{run_of, Reading, conflict_if, clause_in, state_of, Good, LongEnough}
+use Rattle.encoder.specs.Held.{run_of, Reading, conflict_if, state_of, Good, LongEnough}
+use Rattle.encoder.specs.Clauses.{clause_is}
 use Rattle.encoder.specs.Did.{room_of, Widens, Did, is_full}
 use Rattle.encoder.proofs.Frames.{clauses_counted}
 use Rattle.encoder.proofs.Did.{widens_then, stays_beyond, did_as, did_then}
 use Rattle.encoder.proofs.Widening.{add_clause_widens}
-use Rattle.storing.specs.Adding.{with_clause, CanAdd, Fitting, Stores, CanForce, Forces, Sets}
+use Rattle.storing.specs.Adding.{with_clause, CanAdd, Fitting, Stores, Forces, Sets}
 use Rattle.storing.proofs.Storing.{with_clause_widens}
 use Rattle.storing.proofs.Setting.{force_widens}
 
@@ -62,33 +62,28 @@ count_before : (c : Catalogue) (l : Limits) (v : Reading) (n : Counters) (st : �
 unfolding state_of
 count_before c l v n st cl wt = clauses_counted c (variables n.variables st) (st 19) n.clauses cl
 
-module _ {l : Limits} {r : encoder.Run} {row : Stored} {x : code.Literal} {n m : Counters} {st : ℕ → List ℕ} {cl cl' : List ℕ} where
-  pub setting_full : Stores l row n cl m cl' → is_full m ≡ true → Sets l r row x n st cl m st cl'
+module _ {l : Limits} {r : encoder.Run} {k : Clause} {x : code.Literal} {n m : Counters} {st : ℕ → List ℕ} {cl cl' : List ℕ} where
+  pub setting_full : Stores l k 0 n cl m cl' → is_full m ≡ true → Sets l r k x n st cl m st cl'
   setting_full g f = record { is = λ c wt p. did_part (g.is c st wt p) f (λ v s. force_widens _ _ _ _) }
 
-  pub setting_more : {m' : Counters} {st' : ℕ → List ℕ} → Stores l row n cl m cl' → is_full m ≡ false → Forces l r x m st m' st' → Sets l r row x n st cl m' st' cl'
+  pub setting_more : {m' : Counters} {st' : ℕ → List ℕ} → Stores l k 0 n cl m cl' → is_full m ≡ false → Forces l r x m st m' st' → Sets l r k x n st cl m' st' cl'
   setting_more g f h =
       record {
         is = λ c wt p. did_as (did_then (g.is c st wt p) (h.is c cl' wt)) (λ v s. widens_then (with_clause_widens _ _ s) (force_widens _ _ _ _))
             (λ _ _ v. let e : m.clauses - 1 ≡ length (state_of c l v n st cl wt).clauses = omega (arith, g.count f, count_before c l v n st cl wt) in rw e);
       }
 
-pub setting_can : {l : Limits} {row : Stored} {x : code.Literal} {n m : Counters} {st : ℕ → List ℕ} {cl cl' : List ℕ} {k : ℕ}
-    → CanAdd l n st k → Stores l row n cl m cl' → is_full m ≡ false → (literal_of x).variable < l.variables → CanForce l m st x
-setting_can h g f v =
-    record { kept = rw g.decisions h.kept; some = omega (arith, g.count f); few = omega (arith, g.room, h.most); exists = v }
-
 -- ---- clauses by what they do when they are made
 
 -- with these decisions clause k does f
-abbrev pub Does : Run → Clause → List Decision → (ℕ → State → State) → Type 0
+abbrev pub Does : Run → rules.Clause → List Decision → (ℕ → State → State) → Type 0
 Does r k ds f = (i : ℕ) (u : State) → u.decisions ≡ ds → effect r i k u ≡ f i u
 
 -- it reports, if b
-abbrev pub Reports : Run → Clause → List Decision → Bool → Type 0
+abbrev pub Reports : Run → rules.Clause → List Decision → Bool → Type 0
 Reports r k ds b = Does r k ds (λ i u. when b (report r i) u)
 
-module _ (r : Run) (k : Clause) (s : State) where
+module _ (r : Run) (k : rules.Clause) (s : State) where
   plainly : with_clause k 0 s ≡ set_clauses (snoc s.clauses k) s
   unfolding with_clause conflict_if
   plainly = rw (append-nil s.conflicts)
@@ -111,19 +106,19 @@ module _ (r : Run) (k : Clause) (s : State) where
   unfolding add_clause
   stored_sets x e = ap (force r (length s.clauses) x) plainly ∙ sym (e (length s.clauses) (set_clauses (snoc s.clauses k) s) refl)
 
--- a row that is clause K of the variables
-module _ {c : Catalogue} {l : Limits} (r : encoder.Run) {row : Stored} (K : List Origin → Clause) {n m : Counters} {st : ℕ → List ℕ} {cl cl' wt : List ℕ}
-    (p : Fitting c l n st row) (is : (vs : List Origin) → clause_in c vs (st 19) (row_of row) ≡ K vs) where
-  pub row_reports : (b : Bool) → (b ≡ true → 0 < r.number) → row.conflict ≡ cond b r.number 0
-      → Reports (run_of r) (K (variables n.variables st)) (decisions n.decisions st) b → Stores l row n cl m cl'
+-- a clause that is K of the variables
+module _ {c : Catalogue} {l : Limits} (r : encoder.Run) {k : Clause} (K : List Origin → rules.Clause) {n m : Counters} {st : ℕ → List ℕ} {cl cl' wt : List ℕ}
+    (p : Fitting c l n st k) (is : (vs : List Origin) → clause_is c vs (st 19) k ≡ K vs) where
+  pub row_reports : {run : ℕ} (b : Bool) → (b ≡ true → 0 < r.number) → run ≡ cond b r.number 0
+      → Reports (run_of r) (K (variables n.variables st)) (decisions n.decisions st) b → Stores l k run n cl m cl'
       → Did c l (λ v s. add_clause (run_of r) (K s.variables) s) n st cl wt m st cl' wt
   row_reports b h e d g =
       did_as (g.is c st wt p) (λ v s. add_clause_widens _ _ s)
       (λ _ _ v. rw (is, e) (unfold run_of state_of in stored_reports (run_of r) (K (variables n.variables st)) (state_of c l v n st cl wt) b h d))
 
-  pub row_sets : (x : code.Literal) {st' : ℕ → List ℕ} → row.conflict ≡ 0
-      → Does (run_of r) (K (variables n.variables st)) (decisions n.decisions st) (λ i. force (run_of r) i (literal_of x)) → Sets l r row x n st cl m st' cl'
+  pub row_sets : (x : code.Literal) {st' : ℕ → List ℕ}
+      → Does (run_of r) (K (variables n.variables st)) (decisions n.decisions st) (λ i. force (run_of r) i (literal_of x)) → Sets l r k x n st cl m st' cl'
       → Did c l (λ v s. add_clause (run_of r) (K s.variables) s) n st cl wt m st' cl' wt
-  row_sets x e d g =
+  row_sets x d g =
       did_as (g.is c wt p) (λ v s. add_clause_widens _ _ s)
-      (λ _ _ v. rw (is, e) (unfold state_of in stored_sets (run_of r) (K (variables n.variables st)) (state_of c l v n st cl wt) (literal_of x) d))
+      (λ _ _ v. rw is (unfold state_of in stored_sets (run_of r) (K (variables n.variables st)) (state_of c l v n st cl wt) (literal_of x) d))

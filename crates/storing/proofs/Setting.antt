@@ -1,9 +1,8 @@
 -- The last clause sets a literal.
-use mathlib.Core.Path.{◌≡◌, refl, ◌∙◌, ap}
+use mathlib.Core.Path.{◌≡◌, refl, ap}
 use mathlib.Core.Bool.{Bool, false}
 use mathlib.Core.List.{List}
-use mathlib.Core.Option.{some}
-use Prim.Native.Nat.{ℕ, ◌+◌, ◌-◌, ◌<◌}
+use Prim.Native.Nat.{ℕ, ◌-◌, ◌<◌}
 use native.Mathlib.Omega.{arith}
 use Rattle.rules.specs.Lists.{any, snoc, when}
 use Rattle.rules.specs.Literal.{Literal}
@@ -13,14 +12,12 @@ use Rattle.rules.specs.State.{State, Run, force}
 use Rattle.rules.proofs.Effects.{forced}
 use Rattle.rules.proofs.Grows.{whole}
 use Rattle.clause.specs.declared.Literal as code
-use Rattle.clause.specs.declared.Value.{Value}
-use Rattle.clause.specs.declared.Value.TheVariants as values
+use Rattle.std.specs.Prelude.{Option, None, Some}
 use Rattle.clause.specs.Literals.{literal_of}
 use Rattle.state.specs.declared.Limits.{Limits}
 use Rattle.variable_map.proofs.Laws.{variables_kept}
 use Rattle.decision_tracker.specs.declared.Decision as tracker
-use Rattle.decision_tracker.specs.Tracking.{clause_by, decision_by, decision_of, decisions, seen, says_undecided, Told}
-use Rattle.decision_tracker.proofs.Laws.{clause_some}
+use Rattle.decision_tracker.specs.Tracking.{clause_of, decision_of, decisions, seen, says_undecided, Told}
 use Rattle.decision_tracker.proofs.Values.{undecided_seen, reads_undecided}
 use Rattle.encoder.specs.declared.Counters.{Counters}
 use Rattle.encoder.specs.declared.Run as encoder
@@ -40,9 +37,9 @@ force_widens r i x s =
     widens_when _ _ (λ u. record { grows = record { variables = whole; clauses = whole; waiting = whole }; line = omega arith; several = omega arith }) s
 
 abbrev pub new_decision : (x : ℕ) (b : Bool) (level clause : ℕ) → tracker.Decision
-new_decision x b level clause = record { variable = x; value = b; level = level; clause = clause }
+new_decision x b level clause = record { variable = x; value = b; level = level; clause = Some clause }
 
-module _ (l : Limits) (r : encoder.Run) (n : Counters) (x : code.Literal) (st : ℕ → List ℕ) {v : Value}
+module _ (l : Limits) (r : encoder.Run) (n : Counters) (x : code.Literal) (st : ℕ → List ℕ) {v : Option Bool}
     (e : v ≡ seen (evaluate (decisions n.decisions st) (literal_of x))) where
   force_idle : says_undecided v ≡ false → Forces l r x n st n st
   force_idle q = record { is = λ c cl wt. did_idle (λ w s. force_widens _ _ _ s) (λ g _ w. idle c cl wt w) }
@@ -51,15 +48,12 @@ module _ (l : Limits) (r : encoder.Run) (n : Counters) (x : code.Literal) (st : 
           → force (run_of r) (n.clauses - 1) (literal_of x) (state_of c l w n st cl wt) ≡ state_of c l w n st cl wt
       idle c cl wt w = unfold force when state_of in rw (undecided_seen, ← e, q)
 
-  module _ (q : v ≡ values.Undecided) {y : ℕ} {b : Bool} (ey : y ≡ (literal_of x).variable) (eb : b ≡ (literal_of x).positive) (h : 0 < n.clauses) where
-    new_is : decision_of (new_decision y b r.level n.clauses) ≡ forced (run_of r) (n.clauses - 1) (literal_of x)
-    unfolding decision_of decision_by run_of
-    new_is =
-        let p : n.clauses ≡ n.clauses - 1 + 1 = omega arith in
-        let k : clause_by n.clauses ≡ some (n.clauses - 1) = ap clause_by p ∙ clause_some (n.clauses - 1) in
-        rw (ey, eb, k)
+  module _ (q : v ≡ None) {y : ℕ} {b : Bool} (ey : y ≡ (literal_of x).variable) (eb : b ≡ (literal_of x).positive) (h : 0 < n.clauses) where
+    new_is : decision_of (new_decision y b r.level (n.clauses - 1)) ≡ forced (run_of r) (n.clauses - 1) (literal_of x)
+    unfolding decision_of clause_of run_of
+    new_is = rw (ey, eb)
 
-    module _ (count : ℕ) (st' : ℕ → List ℕ) (t : Told l count (snoc (decisions n.decisions st) (decision_of (new_decision y b r.level n.clauses))) st st')
+    module _ (count : ℕ) (st' : ℕ → List ℕ) (t : Told l count (snoc (decisions n.decisions st) (decision_of (new_decision y b r.level (n.clauses - 1)))) st st')
         (c : Catalogue) (cl wt : List ℕ) where
       force_state : (w : Reading) → state_of c l w (with_decisions count n) st' cl wt ≡ force (run_of r) (n.clauses - 1) (literal_of x) (state_of c l w n st cl wt)
       unfolding state_of opening_of force when any
@@ -72,16 +66,13 @@ module _ (l : Limits) (r : encoder.Run) (n : Counters) (x : code.Literal) (st : 
       unfolding any
       force_good g = good_kept t.rest g (search) refl refl refl refl refl g.entries
 
-module _ {l : Limits} {r : encoder.Run} {n : Counters} {x : code.Literal} {st : ℕ → List ℕ} {v : Value}
+module _ {l : Limits} {r : encoder.Run} {n : Counters} {x : code.Literal} {st : ℕ → List ℕ} {v : Option Bool}
     (e : v ≡ seen (evaluate (decisions n.decisions st) (literal_of x))) where
-  pub force_false : v ≡ values.False → Forces l r x n st n st
-  force_false q = force_idle l r n x _ e (ap says_undecided q)
+  pub force_decided : {b : Bool} → v ≡ Some b → Forces l r x n st n st
+  force_decided q = force_idle l r n x _ e (ap says_undecided q)
 
-  pub force_true : v ≡ values.True → Forces l r x n st n st
-  force_true q = force_idle l r n x _ e (ap says_undecided q)
-
-  pub force_sets : v ≡ values.Undecided → {y : ℕ} {b : Bool} → y ≡ (literal_of x).variable → b ≡ (literal_of x).positive → 0 < n.clauses
-      → {count : ℕ} {st' : ℕ → List ℕ} → Told l count (snoc (decisions n.decisions st) (decision_of (new_decision y b r.level n.clauses))) st st'
+  pub force_sets : v ≡ None → {y : ℕ} {b : Bool} → y ≡ (literal_of x).variable → b ≡ (literal_of x).positive → 0 < n.clauses
+      → {count : ℕ} {st' : ℕ → List ℕ} → Told l count (snoc (decisions n.decisions st) (decision_of (new_decision y b r.level (n.clauses - 1)))) st st'
       → Forces l r x n st (with_decisions count n) st'
   force_sets q ey eb h t =
       record {

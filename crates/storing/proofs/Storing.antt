@@ -9,7 +9,8 @@ use lib.Dec.{ltb}
 use lib.ListN.{length, length-map}
 use borrow.Author.Tests.{lt-ltb}
 use Rattle.rules.specs.Lists.{any, snoc, sum}
-use Rattle.rules.specs.Clause.{Clause, condition_literals}
+use Rattle.rules.specs.Clause as rules
+use Rattle.rules.specs.Clause.{condition_literals}
 use Rattle.rules.specs.Catalogue.{Catalogue}
 use Rattle.rules.specs.Variables.{Origin}
 use Rattle.rules.specs.State.{State}
@@ -21,11 +22,16 @@ use Rattle.rules.proofs.ListLaws.{length_snoc, sum_append, map_snoc}
 use Rattle.state.specs.declared.Limits.{Limits}
 use Rattle.state.proofs.Changed.{changed_none}
 use Rattle.variable_map.specs.Mapping.{variables}
-use Rattle.solver.specs.declared.Stored.{Stored}
-use Rattle.solver.specs.Rows.{Row, rows, row_of}
+use Rattle.solver.specs.declared.Clause.{Clause}
+use Rattle.solver.specs.declared.Clause.TheVariants as clauses
+use Rattle.solver.specs.Rows.{Row, rows}
+use Rattle.solver.specs.Clauses.{clause_row, literal_count}
 use Rattle.encoder.specs.declared.Counters.{Counters}
 use Rattle.encoder.specs.Held.{Reading, conflict_if, conflicts_from, clause_in, clauses_in, opening_of, state_of, Sound, Good}
-use Rattle.encoder.specs.Did.{limits_of, room_of, beyond, Widens, filled, is_full}
+use Rattle.encoder.specs.Did.{room_of, beyond, Widens, filled, is_full}
+use Rattle.state.specs.Limits.{limits_of}
+use Rattle.encoder.specs.Clauses.{clause_is}
+use Rattle.encoder.proofs.Clauses.{clause_row_is}
 use Rattle.encoder.proofs.Frames.{state_kept, clauses_counted}
 use Rattle.encoder.proofs.Did.{did_full, did_filled, did_made, beside_same}
 use Rattle.storing.specs.Adding.{with_clause, Fitting, Stores}
@@ -37,7 +43,7 @@ conflicts_more i (x ∷ rs) r =
     let e : suc i + length rs ≡ i + suc (length rs) = omega arith in
     rw (conflicts_more (suc i) rs r, e) (sym (append_assoc (conflict_if x.conflict i) (conflicts_from (suc i) rs) (conflict_if r.conflict (i + suc (length rs)))))
 
-pub with_clause_widens : (k : Clause) (run : ℕ) (s : State) → Widens s (with_clause k run s)
+pub with_clause_widens : (k : rules.Clause) (run : ℕ) (s : State) → Widens s (with_clause k run s)
 unfolding with_clause snoc
 with_clause_widens k run s =
     record { grows = record { variables = whole; clauses = ending s.clauses (k ∷ []); waiting = whole }; line = omega arith; several = omega arith }
@@ -64,8 +70,23 @@ counting x y n =
       full = n.full;
     }
 
-abbrev pub storing : Stored → Catalogue → (ℕ → List ℕ) → State → State
-storing row c st s = with_clause (clause_in c s.variables (st 19) (row_of row)) row.conflict s
+abbrev pub storing : Clause → ℕ → Catalogue → (ℕ → List ℕ) → State → State
+storing k run c st s = with_clause (clause_is c s.variables (st 19) k) run s
+
+conflict_is : (k : Clause) (i : ℕ) → (clause_row k i).conflict ≡ i
+unfolding clause_row
+conflict_is clauses.Install i = refl
+conflict_is (clauses.Requires o s n g) i = refl
+conflict_is (clauses.Gated x g) i = refl
+conflict_is (clauses.Excluded x p) i = refl
+conflict_is (clauses.Unknown x p) i = refl
+conflict_is (clauses.Constrains o x) i = refl
+conflict_is (clauses.Forbid x h) i = refl
+conflict_is (clauses.AuxOut x v) i = refl
+conflict_is (clauses.AuxOwner o v) i = refl
+conflict_is (clauses.Lock x) i = refl
+conflict_is (clauses.AnyGate g o) i = refl
+conflict_is (clauses.AnyOne y x) i = refl
 
 more_sound : {c : Catalogue} {vs : List Origin} {k : ℕ} (k' : ℕ) {r : Row} → k ≤ k' → Sound c vs k r → Sound c vs k' r
 more_sound k' h s = record { stored = λ e. omega (arith, s.stored e); named = s.named; gated = s.gated }
@@ -76,31 +97,33 @@ unfolding clauses_in
 literals_more c vs w rs r =
     rw (map_snoc (clause_in c vs w) rs r) (unfold snoc sum in omega (arith, sum_append condition_literals (map (clause_in c vs w) rs) (clause_in c vs w r ∷ [])))
 
-module _ (l : Limits) (n : Counters) (row : Stored) (cl : List ℕ) where
+module _ (l : Limits) (n : Counters) (k : Clause) (run : ℕ) (cl : List ℕ) where
   clauses_over : (c : Catalogue) (st : ℕ → List ℕ) (wt : List ℕ) → l.clauses ≤ n.clauses → (v : Reading)
-      → beyond l (room_of l n) (storing row c st (state_of c l v n st cl wt)) ≡ true
+      → beyond l (room_of l n) (storing k run c st (state_of c l v n st cl wt)) ≡ true
   clauses_over c st wt h v =
-      let k = clauses_counted c (variables n.variables st) (st 19) n.clauses cl in
-      is_over _ (unfold state_of with_clause in rw (length_snoc) (omega (arith, k)))
+      let m = clauses_counted c (variables n.variables st) (st 19) n.clauses cl in
+      is_over _ (unfold state_of with_clause in rw (length_snoc) (omega (arith, m)))
     where
       is_over : (s : State) → l.clauses < length s.clauses → beyond l (room_of l n) s ≡ true
       is_over s p =
           unfold beyond above limits_of in rw (lt-ltb l.clauses (length s.clauses) p, or_true (ltb l.variables (length s.variables)))
 
-  module _ (cl' : List ℕ) (count : ℕ) (e : rows count cl' ≡ snoc (rows n.clauses cl) (row_of row)) (c : Catalogue) (st : ℕ → List ℕ) (wt : List ℕ) where
-    store_state : (v : Reading) → state_of c l v (counting count (n.literals + row.count) n) st cl' wt ≡ storing row c st (state_of c l v n st cl wt)
+  module _ (cl' : List ℕ) (count : ℕ) (e : rows count cl' ≡ snoc (rows n.clauses cl) (clause_row k run)) (c : Catalogue) (st : ℕ → List ℕ) (wt : List ℕ) where
+    store_state : (v : Reading) → state_of c l v (counting count (n.literals + literal_count k) n) st cl' wt ≡ storing k run c st (state_of c l v n st cl wt)
     unfolding state_of opening_of with_clause clauses_in
     store_state v =
         let vs = variables n.variables st in
         rw (
           e,
-          map_snoc (clause_in c vs (st 19)) (rows n.clauses cl) (row_of row),
-          conflicts_more 0 (rows n.clauses cl) (row_of row),
+          map_snoc (clause_in c vs (st 19)) (rows n.clauses cl) (clause_row k run),
+          conflicts_more 0 (rows n.clauses cl) (clause_row k run),
           zero-add,
           length-map (rows n.clauses cl) (clause_in c vs (st 19)),
-        ) (unfold row_of in refl)
+          clause_row_is c vs (st 19) k run,
+          conflict_is k run,
+        )
 
-    store_good : count ≤ l.clauses → Fitting c l n st row → Good c l n st cl wt → Good c l (counting count (n.literals + row.count) n) st cl' wt
+    store_good : count ≤ l.clauses → Fitting c l n st k → Good c l n st cl wt → Good c l (counting count (n.literals + literal_count k) n) st cl' wt
     unfolding any
     store_good h f g =
         let room = f.room in
@@ -108,14 +131,20 @@ module _ (l : Limits) (n : Counters) (row : Stored) (cl : List ℕ) where
           state = state_kept (changed_none [] st) (search) g.state;
           clauses = record {
             room = h;
-            literals = rw (e, literals_more c (variables n.variables st) (st 19) (rows n.clauses cl) (row_of row), ← g.clauses.literals, f.counted);
-            sound = rw e (each_snoc (each_imp (λ r p. more_sound (n.literals + row.count) (omega arith) p) g.clauses.sound) f.sound);
+            literals = rw (
+              e,
+              literals_more c (variables n.variables st) (st 19) (rows n.clauses cl) (clause_row k run),
+              clause_row_is c (variables n.variables st) (st 19) k run,
+              ← g.clauses.literals,
+              f.counted,
+            );
+            sound = rw e (each_snoc (each_imp (λ r p. more_sound (n.literals + literal_count k) (omega arith) p) g.clauses.sound) (f.sound run));
           };
           entries = g.entries;
         }
 
-module _ {l : Limits} {n : Counters} {row : Stored} {cl : List ℕ} where
-  pub store_full : n.clauses ≤ l.clauses → is_full n ≡ true → Stores l row n cl n cl
+module _ {l : Limits} {n : Counters} {k : Clause} {run : ℕ} {cl : List ℕ} where
+  pub store_full : n.clauses ≤ l.clauses → is_full n ≡ true → Stores l k run n cl n cl
   store_full h f =
       record {
         decisions = refl;
@@ -124,22 +153,24 @@ module _ {l : Limits} {n : Counters} {row : Stored} {cl : List ℕ} where
         is = λ c st wt p. did_full f (λ v s. with_clause_widens _ _ s);
       }
 
-  pub store_over : {m : Counters} → n.clauses ≤ l.clauses → l.clauses ≤ n.clauses → m ≡ filled n → Stores l row n cl m cl
-  store_over h k e =
+  pub store_over : {m : Counters} → n.clauses ≤ l.clauses → l.clauses ≤ n.clauses → m ≡ filled n → Stores l k run n cl m cl
+  store_over h o e =
       rw e
       (record {
         decisions = unfold filled in refl;
         room = unfold filled in h;
         count = λ f. absurd (true≢false (unfold filled in f));
-        is = λ c st wt p. did_filled (λ v s. with_clause_widens _ _ s) (λ g v. clauses_over l n row cl c st wt k v);
+        is = λ c st wt p. did_filled (λ v s. with_clause_widens _ _ s) (λ g v. clauses_over l n k run cl c st wt o v);
       })
 
-  pub store_more : {cl' : List ℕ} {count : ℕ} → n.clauses < l.clauses → count ≡ n.clauses + 1 → rows count cl' ≡ snoc (rows n.clauses cl) (row_of row)
-      → Stores l row n cl (counting count (n.literals + row.count) n) cl'
-  store_more h k e =
-      record {
+  pub store_more : {cl' : List ℕ} {count literals : ℕ} {row : Row} → n.clauses < l.clauses → count ≡ n.clauses + 1 → rows count cl' ≡ snoc (rows n.clauses cl) row
+      → row ≡ clause_row k run → literals ≡ literal_count k → Stores l k run n cl (counting count (n.literals + literals) n) cl'
+  store_more h z e q d =
+      let a = rw q at e in
+      rw d
+      (record {
         decisions = refl;
         room = omega arith;
-        count = λ f. k;
-        is = λ c st wt p. did_made (λ v s. with_clause_widens _ _ s) refl (λ g. beside_same) refl refl (λ i. refl) (store_good l n row cl _ _ e c st wt (omega arith) p) (λ g. store_state l n row cl _ _ e c st wt);
-      }
+        count = λ f. z;
+        is = λ c st wt p. did_made (λ v s. with_clause_widens _ _ s) refl (λ g. beside_same) refl refl (λ i. refl) (store_good l n k run cl _ _ a c st wt (omega arith) p) (λ g. store_state l n k run cl _ _ a c st wt);
+      })

@@ -1,11 +1,11 @@
 -- A clause is stored and heeded; a literal is set.
-use Rattle.std.specs.Prelude.{◌≡◌, Bool, true, false, List, [], ◌++◌, map, ℕ, ◌+◌, ◌-◌, ◌*◌, ◌<◌, ◌≤◌, length}
+use Rattle.std.specs.Prelude.{◌≡◌, Bool, true, false, Option, None, Some, List, [], ◌++◌, map, ℕ, ◌+◌, ◌-◌, ◌*◌, ◌<◌, ◌≤◌, length}
 use Rattle.rules.specs.Lists.{snoc}
 use Rattle.rules.specs.Literal.{Literal, pos}
-use Rattle.rules.specs.Clause.{Clause, requires, gated, Reason, exclusion, unknown_dependencies, condition_literals}
-use Rattle.rules.specs.Catalogue.{Catalogue}
+use Rattle.rules.specs.Clause as rules
+use Rattle.rules.specs.Clause.{requires, gated, Reason, exclusion, unknown_dependencies, condition_literals}
+use Rattle.rules.specs.Catalogue.{Catalogue, Goal}
 use Rattle.rules.specs.Candidates.{candidates}
-use Rattle.rules.specs.Items.{goal_of}
 use Rattle.rules.specs.Variables.{Origin, known, part_origin}
 use Rattle.rules.specs.Decisions.{Decision, evaluate, all_false}
 use Rattle.rules.specs.State.{State, set_clauses, set_conflicts, force, propagate, effect}
@@ -13,16 +13,15 @@ use Rattle.rules.proofs.Each.{Each}
 use Rattle.rules.proofs.ClauseByClause.{add_clause}
 use Rattle.clause.specs.Literals.{literal_of}
 use Rattle.clause.specs.declared.Literal as code
-use Rattle.clause.specs.declared.Value.{Value}
-use Rattle.clause.specs.declared.Value.TheVariants as values
 use Rattle.state.specs.declared.Limits.{Limits}
 use Rattle.variable_map.specs.Mapping.{variables}
 use Rattle.decision_tracker.specs.Tracking.{decisions, seen, Kept}
-use Rattle.solver.specs.declared.Stored.{Stored}
-use Rattle.solver.specs.Rows.{row_of}
+use Rattle.solver.specs.declared.Clause.{Clause}
+use Rattle.solver.specs.Clauses.{clause_row, literal_count}
 use Rattle.encoder.specs.declared.Counters.{Counters}
 use Rattle.encoder.specs.declared.Run.{Run}
-use Rattle.encoder.specs.Held.{run_of, clause_in, literals_in, goal_variables, conflict_if, Sound}
+use Rattle.encoder.specs.Held.{run_of, literals_in, conflict_if, Sound}
+use Rattle.encoder.specs.Clauses.{candidate_variables, clause_is}
 use Rattle.encoder.specs.Did.{Did, is_full}
 use Rattle.storing.specs.declared.Outcome.{Outcome}
 use Rattle.storing.specs.declared.Outcome.TheVariants as outcomes
@@ -40,22 +39,22 @@ reason_for true = unknown_dependencies
 reason_for false = exclusion
 
 -- a clause is stored behind the others; `run`: the run in which it is a conflict, or 0
-unfoldable pub with_clause : Clause → ℕ → State → State
+unfoldable pub with_clause : rules.Clause → ℕ → State → State
 with_clause k run s = set_conflicts (s.conflicts ++ conflict_if run (length s.clauses)) (set_clauses (snoc s.clauses k) s)
 
--- the row's literals and candidates are as `Good` asks
-pub record Fitting (c : Catalogue) (l : Limits) (n : Counters) (st : ℕ → List ℕ) (row : Stored) : Type 0 where
-  pub room : n.literals + row.count ≤ l.literals
-  pub sound : Sound c (variables n.variables st) (n.literals + row.count) (row_of row)
-  pub counted : condition_literals (clause_in c (variables n.variables st) (st 19) (row_of row)) ≡ row.count
+-- the clause's literals and candidates are as `Good` asks
+pub record Fitting (c : Catalogue) (l : Limits) (n : Counters) (st : ℕ → List ℕ) (k : Clause) : Type 0 where
+  pub room : n.literals + literal_count k ≤ l.literals
+  pub sound : (i : ℕ) → Sound c (variables n.variables st) (n.literals + literal_count k) (clause_row k i)
+  pub counted : condition_literals (clause_is c (variables n.variables st) (st 19) k) ≡ literal_count k
 
--- the row stands behind the others, or it is full
-pub record Stores (l : Limits) (row : Stored) (n : Counters) (cl : List ℕ) (n' : Counters) (cl' : List ℕ) : Type 0 where
+-- The clause stands behind the others, or it is full. `run`: the run in which it is a conflict, or 0.
+pub record Stores (l : Limits) (k : Clause) (run : ℕ) (n : Counters) (cl : List ℕ) (n' : Counters) (cl' : List ℕ) : Type 0 where
   pub decisions : n'.decisions ≡ n.decisions
   pub room : n'.clauses ≤ l.clauses
   pub count : is_full n' ≡ false → n'.clauses ≡ n.clauses + 1
-  pub is : (c : Catalogue) (st : ℕ → List ℕ) (wt : List ℕ) → Fitting c l n st row
-      → Did c l (λ v s. with_clause (clause_in c s.variables (st 19) (row_of row)) row.conflict s) n st cl wt n' st cl' wt
+  pub is : (c : Catalogue) (st : ℕ → List ℕ) (wt : List ℕ) → Fitting c l n st k
+      → Did c l (λ v s. with_clause (clause_is c s.variables (st 19) k) run s) n st cl wt n' st cl' wt
 
 -- what is used when the last clause sets a literal
 pub record CanForce (l : Limits) (n : Counters) (st : ℕ → List ℕ) (x : code.Literal) : Type 0 where
@@ -69,29 +68,25 @@ pub record Forces (l : Limits) (r : Run) (x : code.Literal) (n : Counters) (st :
   pub is : (c : Catalogue) (cl wt : List ℕ) → Did c l (λ v. force (run_of r) (n.clauses - 1) (literal_of x)) n st cl wt n' st' cl wt
 
 -- a clause is stored, and sets a literal
-pub record Sets (l : Limits) (r : Run) (row : Stored) (x : code.Literal)
+pub record Sets (l : Limits) (r : Run) (k : Clause) (x : code.Literal)
     (n : Counters) (st : ℕ → List ℕ) (cl : List ℕ) (n' : Counters) (st' : ℕ → List ℕ) (cl' : List ℕ) : Type 0 where
-  pub is : (c : Catalogue) (wt : List ℕ) → Fitting c l n st row
-      → Did c l (λ v s. force (run_of r) (length s.clauses) (literal_of x) (with_clause (clause_in c s.variables (st 19) (row_of row)) row.conflict s))
+  pub is : (c : Catalogue) (wt : List ℕ) → Fitting c l n st k
+      → Did c l (λ v s. force (run_of r) (length s.clauses) (literal_of x) (with_clause (clause_is c s.variables (st 19) k) 0 s))
       n st cl wt n' st' cl' wt
 
 -- clause k is added in run r
-pub record Adds (l : Limits) (r : Run) (k : Clause) (n : Counters) (st : ℕ → List ℕ) (cl : List ℕ) (n' : Counters) (st' : ℕ → List ℕ) (cl' : List ℕ) : Type 0 where
+pub record Adds (l : Limits) (r : Run) (k : rules.Clause) (n : Counters) (st : ℕ → List ℕ) (cl : List ℕ) (n' : Counters) (st' : ℕ → List ℕ) (cl' : List ℕ) : Type 0 where
   pub is : (c : Catalogue) (wt : List ℕ) → Did c l (λ v. add_clause (run_of r) k) n st cl wt n' st' cl' wt
 
--- a row of two variables
-unfoldable pub pair_of : (kind first second conflict : ℕ) → Stored
-pair_of k x y i = record { kind = k; first = x; second = y; start = 0; count = 0; form = 0; number = 0; conflict = i }
-
 -- what a clause of two literals does, by what the decisions say of them
-unfoldable pub outcome_of : (first second : Value) → Outcome
-outcome_of values.True v = outcomes.Nothing
-outcome_of values.False values.True = outcomes.Nothing
-outcome_of values.False values.False = outcomes.Conflict
-outcome_of values.False values.Undecided = outcomes.SetsSecond
-outcome_of values.Undecided values.True = outcomes.Nothing
-outcome_of values.Undecided values.False = outcomes.SetsFirst
-outcome_of values.Undecided values.Undecided = outcomes.Nothing
+unfoldable pub outcome_of : (first second : Option Bool) → Outcome
+outcome_of (Some true) v = outcomes.Nothing
+outcome_of (Some false) (Some true) = outcomes.Nothing
+outcome_of (Some false) (Some false) = outcomes.Conflict
+outcome_of (Some false) None = outcomes.SetsSecond
+outcome_of None (Some true) = outcomes.Nothing
+outcome_of None (Some false) = outcomes.SetsFirst
+outcome_of None None = outcomes.Nothing
 
 unfoldable pub outcome_in : List Decision → Literal → Literal → Outcome
 outcome_in ds a b = outcome_of (seen (evaluate ds a)) (seen (evaluate ds b))
@@ -102,51 +97,37 @@ pub record CanPair (l : Limits) (r : Run) (a b : code.Literal) : Type 0 where
   pub first : (literal_of a).variable < l.variables
   pub second : (literal_of b).variable < l.variables
 
--- such a row is clause k, which has no goal
-pub record IsPair (kind first second : ℕ) (k : Clause) : Type 0 where
-  pub not_requires : kind ≡ 1 → ⊥
-  pub not_gated : kind ≡ 2 → ⊥
-  pub clause : (c : Catalogue) (vs : List Origin) (w : List ℕ) (i : ℕ) → clause_in c vs w (row_of (pair_of kind first second i)) ≡ k
+-- such a clause is k, which has no goal
+pub record IsPair (pair : Clause) (k : rules.Clause) : Type 0 where
+  pub not_requires : (i : ℕ) → (clause_row pair i).kind ≡ 1 → ⊥
+  pub not_gated : (i : ℕ) → (clause_row pair i).kind ≡ 2 → ⊥
+  pub clause : (c : Catalogue) (vs : List Origin) (w : List ℕ) → clause_is c vs w pair ≡ k
+  pub none : literal_count pair ≡ 0
   pub literals : condition_literals k ≡ 0
 
--- the row as a conflict of this run
-unfoldable pub as_conflict : ℕ → Stored → Stored
-as_conflict run r =
-    record {
-      kind = r.kind;
-      first = r.first;
-      second = r.second;
-      start = r.start;
-      count = r.count;
-      form = r.form;
-      number = r.number;
-      conflict = run;
-    }
-
--- if the row is a clause whose two literals are a and b, that clause is added
-pub record AddsPair (l : Limits) (r : Run) (row : Stored) (a b : code.Literal)
+-- if the clause's two literals are a and b, it is added
+pub record AddsPair (l : Limits) (r : Run) (pair : Clause) (a b : code.Literal)
     (n : Counters) (st : ℕ → List ℕ) (cl : List ℕ) (n' : Counters) (st' : ℕ → List ℕ) (cl' : List ℕ) : Type 0 where
-  pub is : (kind first second : ℕ) (k : Clause) → row ≡ pair_of kind first second 0 → IsPair kind first second k
-      → ((i : ℕ) (s : State) → effect (run_of r) i k s ≡ propagate (run_of r) i (literal_of a) (literal_of b) s)
+  pub is : (k : rules.Clause) → IsPair pair k → ((i : ℕ) (s : State) → effect (run_of r) i k s ≡ propagate (run_of r) i (literal_of a) (literal_of b) s)
       → Adds l r k n st cl n' st' cl'
 
--- ---- of a goal, by form and number, whose candidates have variables
+-- ---- of a goal whose candidates have variables
 
-abbrev pub AllNamed : Catalogue → Counters → (ℕ → List ℕ) → (form number : ℕ) → Type 0
-AllNamed c n st form number = Each (λ p. known (variables n.variables st) (part_origin p) ≡ true) (candidates c (goal_of form number))
+abbrev pub AllNamed : Catalogue → Counters → (ℕ → List ℕ) → Goal → Type 0
+AllNamed c n st g = Each (λ p. known (variables n.variables st) (part_origin p) ≡ true) (candidates c g)
 
-abbrev pub false_now : Catalogue → Counters → (ℕ → List ℕ) → List Literal → (form number : ℕ) → Bool
-false_now c n st ks form number = all_false (decisions n.decisions st) (ks ++ map pos (goal_variables c (variables n.variables st) form number))
+abbrev pub false_now : Catalogue → Counters → (ℕ → List ℕ) → List Literal → Goal → Bool
+false_now c n st ks g = all_false (decisions n.decisions st) (ks ++ map pos (candidate_variables c (variables n.variables st) g))
 
 -- The condition literals ks are the `count` numbers behind those of the stored clauses, if there is room for them. `all`: all literals but the owner's are false.
-pub record AddsRequires (l : Limits) (r : Run) (owner count form number : ℕ) (all : Bool)
+pub record AddsRequires (l : Limits) (r : Run) (owner count : ℕ) (g : Goal) (all : Bool)
     (n : Counters) (st : ℕ → List ℕ) (cl : List ℕ) (n' : Counters) (cl' : List ℕ) : Type 0 where
-  pub is : (c : Catalogue) (wt : List ℕ) (ks : List Literal) → length ks ≡ count → AllNamed c n st form number
+  pub is : (c : Catalogue) (wt : List ℕ) (ks : List Literal) → length ks ≡ count → AllNamed c n st g
       → (n.literals + count ≤ l.literals → literals_in (st 19) n.literals count ≡ ks)
-      → (n.literals + count ≤ l.literals → all ≡ false_now c n st ks form number)
-      → Did c l (λ v s. add_clause (run_of r) (requires owner ks (goal_variables c s.variables form number)) s) n st cl wt n' st cl' wt
+      → (n.literals + count ≤ l.literals → all ≡ false_now c n st ks g)
+      → Did c l (λ v s. add_clause (run_of r) (requires owner ks (candidate_variables c s.variables g)) s) n st cl wt n' st cl' wt
 
-pub record AddsGated (l : Limits) (r : Run) (gate form number : ℕ) (all : Bool)
+pub record AddsGated (l : Limits) (r : Run) (gate : ℕ) (g : Goal) (all : Bool)
     (n : Counters) (st : ℕ → List ℕ) (cl : List ℕ) (n' : Counters) (st' : ℕ → List ℕ) (cl' : List ℕ) : Type 0 where
-  pub is : (c : Catalogue) (wt : List ℕ) → AllNamed c n st form number → all ≡ false_now c n st [] form number
-      → Did c l (λ v s. add_clause (run_of r) (gated gate (goal_variables c s.variables form number)) s) n st cl wt n' st' cl' wt
+  pub is : (c : Catalogue) (wt : List ℕ) → AllNamed c n st g → all ≡ false_now c n st [] g
+      → Did c l (λ v s. add_clause (run_of r) (gated gate (candidate_variables c s.variables g)) s) n st cl wt n' st' cl' wt

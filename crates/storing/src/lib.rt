@@ -2,80 +2,51 @@
 // A row that would pass a limit is not stored; then it is full.
 #![tactic(auto)]
 
-ghost use Rattle.std.specs.Prelude.{◌≡◌, cond, not, ◌&&◌, ◌*◌, ◌<◌, ◌≤◌, leb, length};
+ghost use Rattle.std.specs.Prelude.{◌≡◌, not, ◌&&◌, ◌*◌, ◌<◌, ◌≤◌, leb, length};
+ghost use Rattle.std.specs.Bool.{then_some};
 ghost use Rattle.rules.specs.Decisions.{is_true};
 ghost use Rattle.clause.specs.Literals.{literal_of};
 ghost use Rattle.state.specs.Layout.{held, Fits};
 ghost use Rattle.decision_tracker.specs.Tracking.{decisions, Kept};
-ghost use Rattle.storing.specs.Adding.{pair_of, CanAdd, Stores, CanForce, Forces, Sets, outcome_in, as_conflict};
+ghost use Rattle.solver.specs.Clauses.{run_number};
+ghost use Rattle.storing.specs.Adding.{CanAdd, Stores, CanForce, Forces, Sets, outcome_in};
 
-use clause::{Literal, Value};
+use clause::Literal;
 use decision_tracker::Decision;
 use encoder::{Counters, Run};
-use solver::Stored;
+use solver::Clause;
 use state::Limits;
 
 // ---- rows
 
-// A row of two variables.
-pub fn pair(kind: u16, first: u16, second: u16, conflict: u16) -> Stored
-    ensures { result ≡ pair_of kind first second conflict }
+// The run's number of a conflict, unless the owner is out.
+pub fn run_unless(conflict: bool, out: bool, r: Run) -> Option<u16>
+    ensures { result ≡ then_some (conflict && not out) r.number }
 {
-    Stored {
-        kind,
-        first,
-        second,
-        start: 0,
-        count: 0,
-        form: 0,
-        number: 0,
-        conflict,
-    }
+    (conflict && !out).then_some(r.number)
 }
 
-// The run's number if the clause is a conflict, and else 0.
-pub fn run_if(conflict: bool, r: Run) -> u16
-    ensures { result ≡ cond conflict r.number 0 }
-{
-    if conflict { r.number } else { 0 }
-}
-
-// The same of a conflict unless the owner is out.
-pub fn run_unless(conflict: bool, out: bool, r: Run) -> u16
-    ensures { result ≡ cond (conflict && not out) r.number 0 }
-{
-    if conflict {
-        if out {
-            return 0;
-        }
-        return r.number;
-    }
-    0
-}
-
-// The row as a conflict of this run.
-pub fn as_conflict(row: Stored, r: Run) -> Stored
-    ensures { result ≡ as_conflict r.number row }
-{
-    let mut c = row;
-    c.conflict = r.number;
-    c
-}
-
-// A row behind the others.
-pub fn store(clauses: &mut [u8], l: Limits, n: Counters, row: Stored) -> Counters
+// A clause behind the others, with the run in which it is a conflict.
+pub fn store(
+    clauses: &mut [u8],
+    l: Limits,
+    n: Counters,
+    clause: Clause,
+    conflict: Option<u16>,
+) -> Counters
     requires { (n.clauses ≤ l.clauses) × (l.clauses ≤ 16384) × (l.clauses * 20 ≤ length clauses.old) × (n.literals ≤ 8192) }
-    ensures { Stores l row n clauses.old result clauses.new }
+    ensures { Stores l clause (run_number conflict) n clauses.old result clauses.new }
 {
     if n.full != 0 {
         return n;
     }
     if n.clauses < l.clauses {
-        let count = solver::append(clauses, n.clauses, row);
-        let mut m = n;
-        m.clauses = count;
-        m.literals = n.literals + row.count as usize;
-        return m;
+        let count = solver::append(clauses, n.clauses, clause.row(conflict));
+        return Counters {
+            clauses: count,
+            literals: n.literals + clause.condition_literals() as usize,
+            ..n
+        };
     }
     encoder::filled(n)
 }
@@ -89,41 +60,36 @@ fn force(s: &mut [u8], l: Limits, n: Counters, r: Run, literal: Literal) -> Coun
     ensures { Forces l r literal n (held l s.old) result (held l s.new) }
 {
     match decision_tracker::eval(s, l, n.decisions, literal) {
-        Value::Undecided => {
-            let variable = literal.variable();
-            let value = literal.positive();
+        None => {
             let new = Decision {
-                variable,
-                value,
+                variable: literal.variable(),
+                value: literal.positive(),
                 level: r.level,
-                clause: n.clauses as u16,
+                clause: Some(n.clauses as u16 - 1),
             };
-            let count = decision_tracker::decide(s, l, n.decisions, new);
-            let mut m = n;
-            m.decisions = count;
-            m
+            let decisions = decision_tracker::decide(s, l, n.decisions, new);
+            Counters { decisions, ..n }
         }
-        Value::False => n,
-        Value::True => n,
+        Some(_) => n,
     }
 }
 
-// A row behind the others, which sets a literal true that is undecided.
+// A clause behind the others, which sets a literal true that is undecided.
 pub fn store_setting(
     s: &mut [u8],
     clauses: &mut [u8],
     l: Limits,
     n: Counters,
     r: Run,
-    row: Stored,
+    clause: Clause,
     literal: Literal,
 ) -> Counters
     requires fits { Fits l (length s.old) }
     requires can_add { CanAdd l n (held l s.old) (length clauses.old) }
     requires literal_bound { (literal_of literal).variable < l.variables }
-    ensures { Sets l r row literal n (held l s.old) clauses.old result (held l s.new) clauses.new }
+    ensures { Sets l r clause literal n (held l s.old) clauses.old result (held l s.new) clauses.new }
 {
-    let m = store(clauses, l, n, row);
+    let m = store(clauses, l, n, clause, None);
     if m.full != 0 {
         return m;
     }
@@ -138,10 +104,7 @@ pub fn is_one(s: &[u8], l: Limits, n: Counters, r: Run, y: u16, x: u16) -> bool
     requires kept { Kept l n.decisions (held l s.now) }
     ensures { result ≡ (is_true (decisions n.decisions (held l s.now)) x && leb r.before y) }
 {
-    if decision_tracker::is_true(s, l, n.decisions, x) {
-        return r.before <= y as usize;
-    }
-    false
+    decision_tracker::is_true(s, l, n.decisions, x) && r.before <= y as usize
 }
 
 // What a clause of two literals does when it is made: it sets the one that is undecided where the other is false, and is a conflict where both are.
@@ -153,6 +116,7 @@ pub enum Outcome {
     SetsSecond,
 }
 
+#[tactic(auto, unfolding(crate::specs::Adding::outcome_in, crate::specs::Adding::outcome_of))]
 pub fn outcome_of(s: &[u8], l: Limits, n: Counters, a: Literal, b: Literal) -> Outcome
     requires fits { Fits l (length s.now) }
     requires kept { Kept l n.decisions (held l s.now) }
@@ -160,17 +124,10 @@ pub fn outcome_of(s: &[u8], l: Limits, n: Counters, a: Literal, b: Literal) -> O
 {
     let first = decision_tracker::eval(s, l, n.decisions, a);
     let second = decision_tracker::eval(s, l, n.decisions, b);
-    match first {
-        Value::True => Outcome::Nothing,
-        Value::False => match second {
-            Value::True => Outcome::Nothing,
-            Value::False => Outcome::Conflict,
-            Value::Undecided => Outcome::SetsSecond,
-        },
-        Value::Undecided => match second {
-            Value::True => Outcome::Nothing,
-            Value::False => Outcome::SetsFirst,
-            Value::Undecided => Outcome::Nothing,
-        },
+    match (first, second) {
+        (Some(false), Some(false)) => Outcome::Conflict,
+        (Some(false), None) => Outcome::SetsSecond,
+        (None, Some(false)) => Outcome::SetsFirst,
+        _ => Outcome::Nothing,
     }
 }

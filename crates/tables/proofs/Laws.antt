@@ -6,24 +6,35 @@ use Prim.Native.Nat.{ℕ, zero, suc, ◌+◌, ◌*◌, ◌/◌, ◌%◌, ◌^◌
 use native.Mathlib.Omega.{arith}
 use native.Mathlib.Nat.{add-zero, div-one, div-div-eq-div-mul}
 use borrow.Author.Rules.{rules}
+use borrow.Author.Tests.{ne_eqb}
+use Rattle.std.specs.Prelude as code
+use Rattle.std.specs.Prelude.{None}
 use lib.Dec.{eqb}
 use lib.ListN.{length, get_or, set}
 use Rattle.rules.specs.AtMostOne.{bit}
-use Rattle.rules.specs.Catalogue.{Condition, no_part, no_condition, no_requirement, no_constraint}
-use Rattle.rules.specs.Items.{part_of, owner_of, condition_of, goal_of}
+use Rattle.rules.specs.Catalogue.{no_part, no_condition, no_requirement, no_constraint}
+use Rattle.rules.specs.Catalogue.{Condition}
+use Rattle.rules.specs.Items.{part_of, operator_of, goal_of}
 use Rattle.words.specs.Words.{words, length_words}
+use Rattle.requirement.specs.declared.Owner.{Owner}
+use Rattle.requirement.specs.declared.Owner.TheVariants.{Root}
 use Rattle.requirement.specs.declared.Requirement.{Requirement}
 use Rattle.requirement.specs.declared.Requirement.TheVariants.{Single}
 use Rattle.requirement.specs.declared.ConditionalRequirement.{ConditionalRequirement}
-use Rattle.requirement.specs.Requirements.{form_of, number_of, requirement_is}
+use Rattle.requirement.specs.Requirements.{form_of, number_of, owner_number, condition_number, requirement_is, OwnerOf, ConditionOf}
 use Rattle.requirement.specs.Requirements as goals
 use Rattle.requirement.proofs.Laws.{goal_from_parts}
 use Rattle.tables.specs.declared.Counts.{Counts}
 use Rattle.tables.specs.declared.Condition as C
+use Rattle.tables.specs.declared.Condition.TheVariants.{Range, And, Or}
 use Rattle.tables.specs.declared.Constraint as K
+use Rattle.tables.specs.declared.Flag.{Flag}
+use Rattle.tables.specs.declared.Flag.TheVariants.{Ready, Unknown, Locked, Favoured, Excluded}
+use Rattle.tables.specs.declared.Reason.{Reason}
+use Rattle.tables.specs.declared.Reason.TheVariants as why
 use Rattle.tables.specs.declared.Size as S
 use Rattle.tables.specs.Tables.{Tables, Size, no_size, field, name_row, part_row, range_row, condition_row, size_row, requirement_row, constraint_row}
-use Rattle.tables.specs.Tables.{condition_by, condition_from, size_from, requirement_from, constraint_from, condition_is, size_is, constraint_is}
+use Rattle.tables.specs.Tables.{condition_by, condition_from, size_from, requirement_from, constraint_from, condition_is, size_is, constraint_is, stored_requirement, stored_constraint, flag_of, reason_of, power_of}
 use Rattle.tables.specs.Tables.{tables_in, tables, Laid, Added}
 use Rattle.tables.specs.Tables.{with_name, with_part, with_range, with_union, with_condition, with_requirement, with_constraint}
 use Rattle.tables.proofs.Listed.{listed_at, listed_past, listed_length}
@@ -83,6 +94,31 @@ module _ (k : Counts) (t : List ℕ) (i : ℕ) where
   unfolding tables tables_in
   part_past h = listed_past k.parts (part_row (words t)) i no_part h
 
+  pub flag_in : (f : Flag) (r : Bool) (x y : ℕ) → i < k.parts → x ≡ number (384 + 5 * i + 1) → y ≡ power_of f → r ≡ eqb (x / y % 2) 1
+      → r ≡ flag_of f (get_or (tables k t).parts i no_part)
+  flag_in Ready r x y h e d q = rw (part_in h, ← e) (rw d at q)
+  flag_in Unknown r x y h e d q = rw (part_in h, ← e) (rw d at q)
+  flag_in Locked r x y h e d q = rw (part_in h, ← e) (rw d at q)
+  flag_in Favoured r x y h e d q = rw (part_in h, ← e) (rw d at q)
+  flag_in Excluded r x y h e d q = rw (part_in h, ← e) (rw d at q)
+
+  pub flag_past : (f : Flag) → k.parts ≤ i → false ≡ flag_of f (get_or (tables k t).parts i no_part)
+  flag_past Ready h = rw (part_past h)
+  flag_past Unknown h = rw (part_past h)
+  flag_past Locked h = rw (part_past h)
+  flag_past Favoured h = rw (part_past h)
+  flag_past Excluded h = rw (part_past h)
+
+  pub unknown_reason_in : (w : Reason) (x : ℕ) → i < k.parts → w ≡ why.Unknown → x ≡ number (384 + 5 * i + 2) → x ≡ reason_of w (get_or (tables k t).parts i no_part)
+  unknown_reason_in w x h d e = rw (d, part_in h) e
+
+  pub exclusion_reason_in : (w : Reason) (x : ℕ) → i < k.parts → w ≡ why.Exclusion → x ≡ number (384 + 5 * i + 3) → x ≡ reason_of w (get_or (tables k t).parts i no_part)
+  exclusion_reason_in w x h d e = rw (d, part_in h) e
+
+  pub reason_past : (w : Reason) → k.parts ≤ i → 0 ≡ reason_of w (get_or (tables k t).parts i no_part)
+  reason_past why.Unknown h = rw (part_past h)
+  reason_past why.Exclusion h = rw (part_past h)
+
   pub range_in : i < k.ranges → get_or (tables k t).ranges i 0 ≡ number (9604 + 4 * i)
   unfolding tables tables_in range_row field
   range_in h = listed_at k.ranges (range_row (words t)) i 0 h ∙ rw (add-zero (9604 + 4 * i))
@@ -91,15 +127,15 @@ module _ (k : Counts) (t : List ℕ) (i : ℕ) where
   unfolding tables tables_in
   range_past h = listed_past k.ranges (range_row (words t)) i 0 h
 
-  pub condition_in : (o l r : ℕ) → i < k.conditions
+  pub condition_in : (x : C.Condition) (o l r : ℕ) → i < k.conditions
       → o ≡ number (12036 + 6 * i) → l ≡ number (12036 + 6 * i + 1) → r ≡ number (12036 + 6 * i + 2)
-      → condition_is (record { operator = o; left = l; right = r }) ≡ get_or (tables k t).conditions i no_condition
-  unfolding tables tables_in condition_is condition_row field
-  condition_in o l r h e₀ e₁ e₂ =
-      rw (listed_at k.conditions (condition_row (words t)) i no_condition h, add-zero (12036 + 6 * i), e₀, e₁, e₂)
+      → condition_is x ≡ condition_from o l r → condition_is x ≡ get_or (tables k t).conditions i no_condition
+  unfolding tables tables_in condition_row field
+  condition_in x o l r h e₀ e₁ e₂ e =
+      e ∙ rw (listed_at k.conditions (condition_row (words t)) i no_condition h, add-zero (12036 + 6 * i), e₀, e₁, e₂)
 
-  pub condition_past : k.conditions ≤ i → condition_is (record { operator = 2; left = 0; right = 0 }) ≡ get_or (tables k t).conditions i no_condition
-  unfolding tables tables_in condition_is condition_from condition_by
+  pub condition_past : k.conditions ≤ i → condition_is (Range 0) ≡ get_or (tables k t).conditions i no_condition
+  unfolding tables tables_in
   condition_past h = sym (listed_past k.conditions (condition_row (words t)) i no_condition h)
 
   pub size_in : (n l : ℕ) → i < k.conditions → n ≡ number (12036 + 6 * i + 3) → l ≡ number (12036 + 6 * i + 4)
@@ -111,29 +147,44 @@ module _ (k : Counts) (t : List ℕ) (i : ℕ) where
   unfolding tables tables_in size_is size_from
   size_past h = sym (listed_past k.conditions (size_row (words t)) i no_size h)
 
-  pub requirement_in : (o f n c : ℕ) (g : Requirement) → i < k.requirements
-      → o ≡ number (13572 + 6 * i) → f ≡ number (13572 + 6 * i + 1) → n ≡ number (13572 + 6 * i + 2) → c ≡ number (13572 + 6 * i + 3)
-      → goals.goal_of g ≡ goal_of f n
+  pub requirement_in : (o : Owner) (a : ℕ) (f n : ℕ) (g : Requirement) (c : code.Option ℕ) (d : ℕ) → i < k.requirements
+      → OwnerOf a o → a ≡ number (13572 + 6 * i) → f ≡ number (13572 + 6 * i + 1) → n ≡ number (13572 + 6 * i + 2)
+      → ConditionOf d c → d ≡ number (13572 + 6 * i + 3) → goals.goal_of g ≡ goal_of f n
       → requirement_is (record { owner = o; requirement = g; condition = c }) ≡ get_or (tables k t).requirements i no_requirement
   unfolding tables tables_in requirement_is requirement_row requirement_from field
-  requirement_in o f n c g h e₀ e₁ e₂ e₃ e =
-      rw (listed_at k.requirements (requirement_row (words t)) i no_requirement h, add-zero (13572 + 6 * i), e, e₀, e₁, e₂, e₃)
+  requirement_in o a f n g c d h p e₀ e₁ e₂ q e₃ e =
+      rw (listed_at k.requirements (requirement_row (words t)) i no_requirement h, add-zero (13572 + 6 * i), e, p.is, q.is, e₀, e₁, e₂, e₃)
 
   pub requirement_past : k.requirements ≤ i
-      → requirement_is (record { owner = 65535; requirement = Single 0; condition = 65535 }) ≡ get_or (tables k t).requirements i no_requirement
-  unfolding tables tables_in requirement_is owner_of goals.goal_of condition_of
+      → requirement_is (record { owner = Root; requirement = Single 0; condition = None }) ≡ get_or (tables k t).requirements i no_requirement
+  unfolding tables tables_in requirement_is goals.goal_of
   requirement_past h = sym (listed_past k.requirements (requirement_row (words t)) i no_requirement h)
 
-  pub constraint_in : (o r : ℕ) → i < k.constraints
-      → o ≡ number (19716 + 3 * i) → r ≡ number (19716 + 3 * i + 1)
+  pub constraint_in : (o : Owner) (a r : ℕ) → i < k.constraints
+      → OwnerOf a o → a ≡ number (19716 + 3 * i) → r ≡ number (19716 + 3 * i + 1)
       → constraint_is (record { owner = o; range = r }) ≡ get_or (tables k t).constraints i no_constraint
-  unfolding tables tables_in constraint_is constraint_row field
-  constraint_in o r h e₀ e₁ =
-      rw (listed_at k.constraints (constraint_row (words t)) i no_constraint h, add-zero (19716 + 3 * i), e₀, e₁)
+  unfolding tables tables_in constraint_is constraint_row constraint_from field
+  constraint_in o a r h p e₀ e₁ =
+      rw (listed_at k.constraints (constraint_row (words t)) i no_constraint h, add-zero (19716 + 3 * i), p.is, e₀, e₁)
 
-  pub constraint_past : k.constraints ≤ i → constraint_is (record { owner = 65535; range = 0 }) ≡ get_or (tables k t).constraints i no_constraint
-  unfolding tables tables_in constraint_is constraint_from owner_of
+  pub constraint_past : k.constraints ≤ i → constraint_is (record { owner = Root; range = 0 }) ≡ get_or (tables k t).constraints i no_constraint
+  unfolding tables tables_in constraint_is
   constraint_past h = sym (listed_past k.constraints (constraint_row (words t)) i no_constraint h)
+
+-- ---- a condition by its numbers
+
+module _ (o l r : ℕ) where
+  pub range_by : o ≡ 2 → condition_is (Range l) ≡ condition_from o l r
+  unfolding condition_from condition_by
+  range_by e = rw e
+
+  pub and_by : o ≡ 0 → condition_is (And l r) ≡ condition_from o l r
+  unfolding condition_from condition_by operator_of
+  and_by e = rw e
+
+  pub or_by : (o ≡ 0 → ⊥) → (o ≡ 2 → ⊥) → condition_is (Or l r) ≡ condition_from o l r
+  unfolding condition_from condition_by operator_of
+  or_by z w = rw (ne_eqb o 2 w, condition_by, ne_eqb o 0 z)
 
 -- ---- one thing more
 
@@ -182,54 +233,57 @@ pub union_added : (k : Counts) (t : List ℕ) → Laid k (length t) → k.unions
 unfolding tables
 union_added k t l h = record { laid = search rules; members = refl; is = one_union k (words t) }
 
-pub size_stored : (t t₁ t₂ : List ℕ) (c : ℕ) (z : S.Size)
-    → words t₁ ≡ set (words t) (12036 + 6 * c + 3) z.count → words t₂ ≡ set (words t₁) (12036 + 6 * c + 4) z.longest
-    → words t₂ ≡ set (set (words t) (12036 + 6 * c + 3) z.count) (12036 + 6 * c + 4) z.longest
-size_stored t t₁ t₂ c z e₁ e₂ = e₂ ∙ rw e₁
-
 abbrev with_both : Tables → Condition × Size → Tables
 with_both t x = with_condition t x.0 x.1
 
-pub condition_added : (k : Counts) (t t₁ t₂ t₃ t₄ : List ℕ) (c : C.Condition) (z : S.Size) → Laid k (length t) → k.conditions < 256
-    → words t₁ ≡ set (words t) (12036 + 6 * k.conditions) c.operator
-    → words t₂ ≡ set (words t₁) (12036 + 6 * k.conditions + 1) c.left
-    → words t₃ ≡ set (words t₂) (12036 + 6 * k.conditions + 2) c.right
-    → words t₄ ≡ set (set (words t₃) (12036 + 6 * k.conditions + 3) z.count) (12036 + 6 * k.conditions + 4) z.longest
-    → Added k (more_conditions k) t₄ (with_condition (tables k t) (condition_is c) (size_is z))
-unfolding condition_is size_is
-condition_added k t t₁ t₂ t₃ t₄ c z l h e₁ e₂ e₃ e₄ =
-    let s : Stored (words t) (12036 + 6 * k.conditions) (c.operator ∷ c.left ∷ c.right ∷ z.count ∷ z.longest ∷ []) (words t₄) =
-    then (then (then (then (first _ e₁) _ e₂) _ e₃) _ refl) _ e₄ in
+pub condition_added : (k : Counts) (t t₁ t₂ t₃ t₄ t₅ : List ℕ) (c : C.Condition) (o l r : ℕ) (z : S.Size) → Laid k (length t) → k.conditions < 256
+    → condition_from o l r ≡ condition_is c
+    → words t₁ ≡ set (words t) (12036 + 6 * k.conditions) o
+    → words t₂ ≡ set (words t₁) (12036 + 6 * k.conditions + 1) l
+    → words t₃ ≡ set (words t₂) (12036 + 6 * k.conditions + 2) r
+    → words t₄ ≡ set (words t₃) (12036 + 6 * k.conditions + 3) z.count
+    → words t₅ ≡ set (words t₄) (12036 + 6 * k.conditions + 4) z.longest
+    → Added k (more_conditions k) t₅ (with_condition (tables k t) (condition_is c) (size_is z))
+unfolding size_is
+condition_added k t t₁ t₂ t₃ t₄ t₅ c o l r z h g e e₁ e₂ e₃ e₄ e₅ =
+    let s : Stored (words t) (12036 + 6 * k.conditions) (o ∷ l ∷ r ∷ z.count ∷ z.longest ∷ []) (words t₅) =
+    then (then (then (then (first _ e₁) _ e₂) _ e₃) _ e₄) _ e₅ in
     let b = stored_begins 12036 6 k.conditions s refl (omega (arith, length_words t)) in
-    added with_both k (more_conditions k) t t₄ s (search rules) (search rules) refl (one_condition k (words t₄)) (rw (condition_from_law b, size_from_law b))
+    added with_both k (more_conditions k) t t₅ s (search rules) (search rules) refl (one_condition k (words t₅)) (rw (condition_from_law b, size_from_law b, e))
 
-requirement_numbers : (q : ConditionalRequirement)
-    → requirement_from q.owner (form_of (goals.goal_of q.requirement)) (number_of (goals.goal_of q.requirement)) q.condition ≡ requirement_is q
-unfolding requirement_from requirement_is
-requirement_numbers q = rw (goal_from_parts (goals.goal_of q.requirement))
-
-pub requirement_added : (k : Counts) (t t₁ t₂ t₃ t₄ : List ℕ) (q : ConditionalRequirement) (f n : ℕ) → Laid k (length t) → k.requirements < 1024
-    → f ≡ form_of (goals.goal_of q.requirement) → n ≡ number_of (goals.goal_of q.requirement)
-    → words t₁ ≡ set (words t) (13572 + 6 * k.requirements) q.owner
+pub requirement_added : (k : Counts) (t t₁ t₂ t₃ t₄ : List ℕ) (q : ConditionalRequirement) (o f n c : ℕ) → Laid k (length t) → k.requirements < 1024
+    → o ≡ owner_number q.owner → f ≡ form_of (goals.goal_of q.requirement) → n ≡ number_of (goals.goal_of q.requirement) → c ≡ condition_number q.condition
+    → words t₁ ≡ set (words t) (13572 + 6 * k.requirements) o
     → words t₂ ≡ set (words t₁) (13572 + 6 * k.requirements + 1) f
     → words t₃ ≡ set (words t₂) (13572 + 6 * k.requirements + 2) n
-    → words t₄ ≡ set (words t₃) (13572 + 6 * k.requirements + 3) q.condition
-    → Added k (more_requirements k) t₄ (with_requirement (tables k t) (requirement_is q))
-requirement_added k t t₁ t₂ t₃ t₄ q f n l h e e' e₁ e₂ e₃ e₄ =
-    let s : Stored (words t) (13572 + 6 * k.requirements) (q.owner ∷ f ∷ n ∷ q.condition ∷ []) (words t₄) =
+    → words t₄ ≡ set (words t₃) (13572 + 6 * k.requirements + 3) c
+    → Added k (more_requirements k) t₄ (with_requirement (tables k t) (stored_requirement q))
+unfolding stored_requirement
+requirement_added k t t₁ t₂ t₃ t₄ q o f n c l h d e e' d' e₁ e₂ e₃ e₄ =
+    let s : Stored (words t) (13572 + 6 * k.requirements) (o ∷ f ∷ n ∷ c ∷ []) (words t₄) =
     then (then (then (first _ e₁) _ e₂) _ e₃) _ e₄ in
     added with_requirement k (more_requirements k) t t₄ s (search rules) (search rules) refl (one_requirement k (words t₄))
-    (requirement_from_law (stored_begins 13572 6 k.requirements s refl (omega (arith, length_words t))) ∙ rw (e, e', requirement_numbers q))
+    (requirement_from_law (stored_begins 13572 6 k.requirements s refl (omega (arith, length_words t))) ∙ rw (d, e, e', d'))
 
-pub constraint_added : (k : Counts) (t t₁ t₂ : List ℕ) (c : K.Constraint) → Laid k (length t) → k.constraints < 512
-    → words t₁ ≡ set (words t) (19716 + 3 * k.constraints) c.owner
+pub constraint_added : (k : Counts) (t t₁ t₂ : List ℕ) (c : K.Constraint) (o : ℕ) → Laid k (length t) → k.constraints < 512
+    → o ≡ owner_number c.owner
+    → words t₁ ≡ set (words t) (19716 + 3 * k.constraints) o
     → words t₂ ≡ set (words t₁) (19716 + 3 * k.constraints + 1) c.range
-    → Added k (more_constraints k) t₂ (with_constraint (tables k t) (constraint_is c))
-unfolding constraint_is
-constraint_added k t t₁ t₂ c l h e₁ e₂ =
-    let s : Stored (words t) (19716 + 3 * k.constraints) (c.owner ∷ c.range ∷ []) (words t₂) = then (first _ e₁) _ e₂ in
+    → Added k (more_constraints k) t₂ (with_constraint (tables k t) (stored_constraint c))
+unfolding stored_constraint
+constraint_added k t t₁ t₂ c o l h e e₁ e₂ =
+    let s : Stored (words t) (19716 + 3 * k.constraints) (o ∷ c.range ∷ []) (words t₂) = then (first _ e₁) _ e₂ in
     added with_constraint k (more_constraints k) t t₂ s (search rules) (search rules) refl (one_constraint k (words t₂))
-    (constraint_from_law (stored_begins 19716 3 k.constraints s refl (omega (arith, length_words t))))
+    (constraint_from_law (stored_begins 19716 3 k.constraints s refl (omega (arith, length_words t))) ∙ rw e)
+
+-- a requirement and a constraint whose numbers are their owner's and condition's are stored as they are
+pub requirement_stored : (q : ConditionalRequirement) (n c : ℕ) → OwnerOf n q.owner → ConditionOf c q.condition → stored_requirement q ≡ requirement_is q
+unfolding stored_requirement requirement_from requirement_is
+requirement_stored q n c p r = rw (p.number, r.number, goal_from_parts (goals.goal_of q.requirement), p.is, r.is)
+
+pub constraint_stored : (c : K.Constraint) (n : ℕ) → OwnerOf n c.owner → stored_constraint c ≡ constraint_is c
+unfolding stored_constraint constraint_from constraint_is
+constraint_stored c n p = rw (p.number, p.is)
 
 -- ---- for callers: a test on a count is one on a table, and a number that no row in use has may be stored
 

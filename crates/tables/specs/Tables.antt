@@ -2,12 +2,20 @@
 use Rattle.std.specs.Prelude.{◌≡◌, Bool, true, false, List, map, ℕ, suc, ◌+◌, ◌*◌, ◌≤◌, eqb, length, get_or}
 use Rattle.rules.specs.Lists.{snoc, up_to}
 use Rattle.rules.specs.AtMostOne.{bit}
-use Rattle.rules.specs.Catalogue.{Part, Condition, leaf, joined, Requirement, Constraint}
+use Rattle.rules.specs.Catalogue.{Part, and, or, Condition, leaf, joined, Requirement, Constraint}
 use Rattle.rules.specs.Items.{owner_of, condition_of, goal_of, operator_of, part_of}
 use Rattle.words.specs.Words.{words}
+use Rattle.requirement.specs.declared.ConditionalRequirement.{ConditionalRequirement}
+use Rattle.requirement.specs.Requirements.{owner_is, owner_number, condition_number, form_of, number_of}
+use Rattle.requirement.specs.Requirements as goals
 use Rattle.tables.specs.declared.Counts.{Counts}
 use Rattle.tables.specs.declared.Condition as C
+use Rattle.tables.specs.declared.Condition.TheVariants.{Range, And, Or}
 use Rattle.tables.specs.declared.Constraint as K
+use Rattle.tables.specs.declared.Flag.{Flag}
+use Rattle.tables.specs.declared.Flag.TheVariants.{Ready, Unknown, Locked, Favoured, Excluded}
+use Rattle.tables.specs.declared.Reason.{Reason}
+use Rattle.tables.specs.declared.Reason.TheVariants as why
 use Rattle.tables.specs.declared.Size as S
 
 -- how many disjuncts a condition has, and how many ranges the longest of them
@@ -106,14 +114,43 @@ pub record Laid (k : Counts) (bytes : ℕ) : Type 0 where
 
 -- ---- what the structs stand for
 
-unfoldable pub condition_is : C.Condition → Condition
-condition_is c = condition_from c.operator c.left c.right
+abbrev pub condition_is : C.Condition → Condition
+condition_is (Range r) = leaf r
+condition_is (And l r) = joined and l r
+condition_is (Or l r) = joined or l r
 
 unfoldable pub size_is : S.Size → Size
 size_is z = size_from z.count z.longest
 
 unfoldable pub constraint_is : K.Constraint → Constraint
-constraint_is c = constraint_from c.owner c.range
+constraint_is c = record { owner = owner_is c.owner; range = c.range }
+
+-- a requirement and a constraint as they are stored: by numbers, of which the last is the root's, and no condition's
+unfoldable pub stored_requirement : ConditionalRequirement → Requirement
+stored_requirement q = requirement_from (owner_number q.owner) (form_of (goals.goal_of q.requirement)) (number_of (goals.goal_of q.requirement)) (condition_number q.condition)
+
+unfoldable pub stored_constraint : K.Constraint → Constraint
+stored_constraint c = constraint_from (owner_number c.owner) c.range
+
+-- a part's flag, and why it is unknown or excluded
+abbrev pub flag_of : Flag → Part → Bool
+flag_of Ready p = p.ready
+flag_of Unknown p = p.unknown
+flag_of Locked p = p.locked
+flag_of Favoured p = p.favoured
+flag_of Excluded p = p.excluded
+
+abbrev pub reason_of : Reason → Part → ℕ
+reason_of why.Unknown p = p.unknown_reason
+reason_of why.Exclusion p = p.exclusion_reason
+
+-- the bit of a flag in the number that holds them, by its power
+abbrev pub power_of : Flag → ℕ
+power_of Ready = 1
+power_of Unknown = 2
+power_of Locked = 4
+power_of Favoured = 8
+power_of Excluded = 16
 
 -- ---- one thing more
 

@@ -11,9 +11,15 @@ ghost use Rattle.requirement.specs.Requirements.{requirement_is};
 ghost use Rattle.tables.specs.Tables.{
   tables,
   condition_is,
+  condition_from,
   size_is,
   no_size,
   constraint_is,
+  stored_requirement,
+  stored_constraint,
+  flag_of,
+  reason_of,
+  power_of,
   with_name,
   with_part,
   with_range,
@@ -25,7 +31,30 @@ ghost use Rattle.tables.specs.Tables.{
   Added,
 };
 
-use requirement::{ConditionalRequirement, Requirement};
+use requirement::{ConditionalRequirement, Owner, Requirement, condition_number, condition_of};
+
+// Where each table begins in the area, and how many numbers a row of it has.
+const NAME_ROW: usize = 6;
+
+const PARTS: usize = 384;
+
+const PART_ROW: usize = 5;
+
+const RANGES: usize = 9604;
+
+const RANGE_ROW: usize = 4;
+
+const CONDITIONS: usize = 12036;
+
+const CONDITION_ROW: usize = 6;
+
+const REQUIREMENTS: usize = 13572;
+
+const REQUIREMENT_ROW: usize = 6;
+
+const CONSTRAINTS: usize = 19716;
+
+const CONSTRAINT_ROW: usize = 3;
 
 // How many of each thing a catalogue has given; `members` counts union members.
 #[derive(Clone, Copy)]
@@ -40,12 +69,67 @@ pub struct Counts {
     pub constraints: usize,
 }
 
-// A condition: its operator (0 and, 1 or) and halves, or 2 and a range.
+// What a part may be.
 #[derive(Clone, Copy)]
-pub struct Condition {
-    pub operator: u16,
-    pub left: u16,
-    pub right: u16,
+pub enum Flag {
+    Ready,
+    Unknown,
+    Locked,
+    Favoured,
+    Excluded,
+}
+
+impl Flag {
+    // The bit of the flag in the number that holds all of a part's.
+    pub fn power(self) -> u16
+        ensures { result ≡ power_of self }
+    {
+        match self {
+            Flag::Ready => 1,
+            Flag::Unknown => 2,
+            Flag::Locked => 4,
+            Flag::Favoured => 8,
+            Flag::Excluded => 16,
+        }
+    }
+}
+
+// Why a part is unknown, or excluded.
+#[derive(Clone, Copy)]
+pub enum Reason {
+    Unknown,
+    Exclusion,
+}
+
+// A range, or two conditions of which both must hold, or one.
+#[derive(Clone, Copy)]
+pub enum Condition {
+    Range(u16),
+    And { left: u16, right: u16 },
+    Or { left: u16, right: u16 },
+}
+
+impl Condition {
+    // Its numbers in the table: an operator and two halves, or 2 and a range.
+    fn from_numbers(operator: u16, left: u16, right: u16) -> Condition
+        ensures { condition_is result ≡ condition_from operator left right }
+    {
+        match operator {
+            0 => Condition::And { left, right },
+            2 => Condition::Range(left),
+            _ => Condition::Or { left, right },
+        }
+    }
+
+    fn numbers(self) -> [u16; 3]
+        ensures { condition_from (get_or result 0 0) (get_or result 1 0) (get_or result 2 0) ≡ condition_is self }
+    {
+        match self {
+            Condition::Range(range) => [2, range, 0],
+            Condition::And { left, right } => [0, left, right],
+            Condition::Or { left, right } => [1, left, right],
+        }
+    }
 }
 
 // Of a condition: how many disjuncts it has, and how many ranges the longest of them.
@@ -57,11 +141,9 @@ pub struct Size {
 
 #[derive(Clone, Copy)]
 pub struct Constraint {
-    pub owner: u16,
+    pub owner: Owner,
     pub range: u16,
 }
-
-// ---- reading
 
 // The bit that stands for `power`, one of 1, 2, 4, 8 and so on.
 pub fn has_bit(x: u16, power: u16) -> bool
@@ -71,304 +153,241 @@ pub fn has_bit(x: u16, power: u16) -> bool
     x / power % 2 == 1
 }
 
-pub fn several_allowed(t: &[u8], k: Counts, n: usize) -> bool
-    requires { Laid k (length t.now) }
-    ensures { result ≡ get_or (tables k t.now).names n false }
-{
-    if n < k.names {
-        has_bit(words::get(t, 6 * n), 1)
-    } else {
-        false
-    }
+// ---- reading
+
+// The tables in a lent area that is long enough for them.
+#[derive(Clone, Copy)]
+pub struct Tables<'a> {
+    pub area: &'a [u8],
+    pub counts: Counts,
+    pub ghost laid: { Laid counts (length area.now) },
 }
 
-pub fn part_name(t: &[u8], k: Counts, p: usize) -> u16
-    requires { Laid k (length t.now) }
-    ensures { result ≡ (get_or (tables k t.now).parts p no_part).name }
-{
-    if p < k.parts {
-        words::get(t, 384 + 5 * p)
-    } else {
-        0
-    }
-}
+impl Tables<'_> {
+    ghost use Rattle.tables.specs.Views.{tables_of};
 
-pub fn ready(t: &[u8], k: Counts, p: usize) -> bool
-    requires { Laid k (length t.now) }
-    ensures { result ≡ (get_or (tables k t.now).parts p no_part).ready }
-{
-    if p < k.parts {
-        has_bit(words::get(t, 384 + 5 * p + 1), 1)
-    } else {
-        false
+    pub fn several_allowed(&self, name: usize) -> bool
+        ensures { result ≡ get_or (tables_of self.now).names name false }
+    {
+        name < self.counts.names && has_bit(words::get(self.area, NAME_ROW * name), 1)
     }
-}
 
-pub fn unknown(t: &[u8], k: Counts, p: usize) -> bool
-    requires { Laid k (length t.now) }
-    ensures { result ≡ (get_or (tables k t.now).parts p no_part).unknown }
-{
-    if p < k.parts {
-        has_bit(words::get(t, 384 + 5 * p + 1), 2)
-    } else {
-        false
-    }
-}
-
-pub fn locked(t: &[u8], k: Counts, p: usize) -> bool
-    requires { Laid k (length t.now) }
-    ensures { result ≡ (get_or (tables k t.now).parts p no_part).locked }
-{
-    if p < k.parts {
-        has_bit(words::get(t, 384 + 5 * p + 1), 4)
-    } else {
-        false
-    }
-}
-
-pub fn favoured(t: &[u8], k: Counts, p: usize) -> bool
-    requires { Laid k (length t.now) }
-    ensures { result ≡ (get_or (tables k t.now).parts p no_part).favoured }
-{
-    if p < k.parts {
-        has_bit(words::get(t, 384 + 5 * p + 1), 8)
-    } else {
-        false
-    }
-}
-
-pub fn excluded(t: &[u8], k: Counts, p: usize) -> bool
-    requires { Laid k (length t.now) }
-    ensures { result ≡ (get_or (tables k t.now).parts p no_part).excluded }
-{
-    if p < k.parts {
-        has_bit(words::get(t, 384 + 5 * p + 1), 16)
-    } else {
-        false
-    }
-}
-
-pub fn unknown_reason(t: &[u8], k: Counts, p: usize) -> u16
-    requires { Laid k (length t.now) }
-    ensures { result ≡ (get_or (tables k t.now).parts p no_part).unknown_reason }
-{
-    if p < k.parts {
-        words::get(t, 384 + 5 * p + 2)
-    } else {
-        0
-    }
-}
-
-pub fn exclusion_reason(t: &[u8], k: Counts, p: usize) -> u16
-    requires { Laid k (length t.now) }
-    ensures { result ≡ (get_or (tables k t.now).parts p no_part).exclusion_reason }
-{
-    if p < k.parts {
-        words::get(t, 384 + 5 * p + 3)
-    } else {
-        0
-    }
-}
-
-pub fn range_name(t: &[u8], k: Counts, r: usize) -> u16
-    requires { Laid k (length t.now) }
-    ensures { result ≡ get_or (tables k t.now).ranges r 0 }
-{
-    if r < k.ranges {
-        words::get(t, 9604 + 4 * r)
-    } else {
-        0
-    }
-}
-
-pub fn condition_at(t: &[u8], k: Counts, c: usize) -> Condition
-    requires { Laid k (length t.now) }
-    ensures { condition_is result ≡ get_or (tables k t.now).conditions c no_condition }
-{
-    if c < k.conditions {
-        let at = 12036 + 6 * c;
-        let operator = words::get(t, at);
-        let left = words::get(t, at + 1);
-        let right = words::get(t, at + 2);
-        Condition {
-            operator,
-            left,
-            right,
-        }
-    } else {
-        Condition {
-            operator: 2,
-            left: 0,
-            right: 0,
+    pub fn part_name(&self, part: usize) -> u16
+        ensures { result ≡ (get_or (tables_of self.now).parts part no_part).name }
+    {
+        if part < self.counts.parts {
+            words::get(self.area, PARTS + PART_ROW * part)
+        } else {
+            0
         }
     }
-}
 
-pub fn condition_size(t: &[u8], k: Counts, c: usize) -> Size
-    requires { Laid k (length t.now) }
-    ensures { size_is result ≡ get_or (tables k t.now).sizes c no_size }
-{
-    if c < k.conditions {
-        let at = 12036 + 6 * c;
-        let count = words::get(t, at + 3);
-        let longest = words::get(t, at + 4);
-        Size { count, longest }
-    } else {
-        Size {
-            count: 0,
-            longest: 0,
+    pub fn has(&self, flag: Flag, part: usize) -> bool
+        ensures { result ≡ flag_of flag (get_or (tables_of self.now).parts part no_part) }
+    {
+        if part < self.counts.parts {
+            has_bit(
+                words::get(self.area, PARTS + PART_ROW * part + 1),
+                flag.power(),
+            )
+        } else {
+            false
         }
     }
-}
 
-pub fn requirement_at(t: &[u8], k: Counts, q: usize) -> ConditionalRequirement
-    requires { Laid k (length t.now) }
-    ensures { requirement_is result ≡ get_or (tables k t.now).requirements q no_requirement }
-{
-    if q < k.requirements {
-        let at = 13572 + 6 * q;
-        let owner = words::get(t, at);
-        let form = words::get(t, at + 1);
-        let number = words::get(t, at + 2);
-        let condition = words::get(t, at + 3);
-        let requirement = Requirement::from_parts(form, number);
-        ConditionalRequirement {
-            owner,
-            requirement,
-            condition,
-        }
-    } else {
-        ConditionalRequirement {
-            owner: 65535,
-            requirement: Requirement::Single(0),
-            condition: 65535,
+    pub fn reason(&self, why: Reason, part: usize) -> u16
+        ensures { result ≡ reason_of why (get_or (tables_of self.now).parts part no_part) }
+    {
+        if part < self.counts.parts {
+            let at = PARTS + PART_ROW * part;
+            match why {
+                Reason::Unknown => words::get(self.area, at + 2),
+                Reason::Exclusion => words::get(self.area, at + 3),
+            }
+        } else {
+            0
         }
     }
-}
 
-pub fn constraint_at(t: &[u8], k: Counts, c: usize) -> Constraint
-    requires { Laid k (length t.now) }
-    ensures { constraint_is result ≡ get_or (tables k t.now).constraints c no_constraint }
-{
-    if c < k.constraints {
-        let at = 19716 + 3 * c;
-        let owner = words::get(t, at);
-        let range = words::get(t, at + 1);
-        Constraint { owner, range }
-    } else {
-        Constraint {
-            owner: 65535,
-            range: 0,
+    pub fn range_name(&self, range: usize) -> u16
+        ensures { result ≡ get_or (tables_of self.now).ranges range 0 }
+    {
+        if range < self.counts.ranges {
+            words::get(self.area, RANGES + RANGE_ROW * range)
+        } else {
+            0
+        }
+    }
+
+    pub fn condition_at(&self, condition: usize) -> Condition
+        ensures { condition_is result ≡ get_or (tables_of self.now).conditions condition no_condition }
+    {
+        if condition < self.counts.conditions {
+            let at = CONDITIONS + CONDITION_ROW * condition;
+            let left = words::get(self.area, at + 1);
+            let right = words::get(self.area, at + 2);
+            Condition::from_numbers(words::get(self.area, at), left, right)
+        } else {
+            Condition::Range(0)
+        }
+    }
+
+    pub fn condition_size(&self, condition: usize) -> Size
+        ensures { size_is result ≡ get_or (tables_of self.now).sizes condition no_size }
+    {
+        if condition < self.counts.conditions {
+            let at = CONDITIONS + CONDITION_ROW * condition;
+            let count = words::get(self.area, at + 3);
+            let longest = words::get(self.area, at + 4);
+            Size { count, longest }
+        } else {
+            Size {
+                count: 0,
+                longest: 0,
+            }
+        }
+    }
+
+    pub fn requirement_at(&self, requirement: usize) -> ConditionalRequirement
+        ensures { requirement_is result ≡ get_or (tables_of self.now).requirements requirement no_requirement }
+    {
+        if requirement < self.counts.requirements {
+            let at = REQUIREMENTS + REQUIREMENT_ROW * requirement;
+            let owner = Owner::from(words::get(self.area, at));
+            let form = words::get(self.area, at + 1);
+            let number = words::get(self.area, at + 2);
+            let condition = condition_of(words::get(self.area, at + 3));
+            ConditionalRequirement {
+                owner,
+                requirement: Requirement::from_parts(form, number),
+                condition,
+            }
+        } else {
+            ConditionalRequirement {
+                owner: Owner::Root,
+                requirement: Requirement::Single(0),
+                condition: None,
+            }
+        }
+    }
+
+    pub fn constraint_at(&self, constraint: usize) -> Constraint
+        ensures { constraint_is result ≡ get_or (tables_of self.now).constraints constraint no_constraint }
+    {
+        if constraint < self.counts.constraints {
+            let at = CONSTRAINTS + CONSTRAINT_ROW * constraint;
+            let owner = Owner::from(words::get(self.area, at));
+            let range = words::get(self.area, at + 1);
+            Constraint { owner, range }
+        } else {
+            Constraint {
+                owner: Owner::Root,
+                range: 0,
+            }
         }
     }
 }
 
 // ---- one thing more
 
-pub fn put_name(t: &mut [u8], k: Counts, flags: u8) -> Counts
-    requires laid { Laid k (length t.old) }
-    requires names_bound { k.names < 64 }
-    ensures { Added k result t.new (with_name (tables k t.old) (bit 0 flags)) }
-{
-    words::put(t, 6 * k.names, flags as u16);
-    let mut more = k;
-    more.names = k.names + 1;
-    more
+// The tables in a lent area, to be written.
+#[derive(Drop)]
+pub struct TablesMut<'a> {
+    pub area: &'a mut [u8],
+    pub counts: Counts,
+    pub ghost laid: { Laid counts (length area.now) },
 }
 
-pub fn put_part(
-    t: &mut [u8],
-    k: Counts,
-    name: u16,
-    flags: u8,
-    unknown: u16,
-    exclusion: u16,
-) -> Counts
-    requires laid { Laid k (length t.old) }
-    requires parts_bound { k.parts < 1024 }
-    ensures { Added k result t.new (with_part (tables k t.old) (part_of name flags unknown exclusion)) }
-{
-    let at = 384 + 5 * k.parts;
-    words::put(t, at, name);
-    words::put(t, at + 1, flags as u16);
-    words::put(t, at + 2, unknown);
-    words::put(t, at + 3, exclusion);
-    let mut more = k;
-    more.parts = k.parts + 1;
-    more
-}
+impl TablesMut<'_> {
+    ghost use Rattle.tables.specs.Views.{tables_mut_of, AddedTo};
 
-pub fn put_range(t: &mut [u8], k: Counts, name: u16) -> Counts
-    requires laid { Laid k (length t.old) }
-    requires ranges_bound { k.ranges < 512 }
-    ensures { Added k result t.new (with_range (tables k t.old) name) }
-{
-    words::put(t, 9604 + 4 * k.ranges, name);
-    let mut more = k;
-    more.ranges = k.ranges + 1;
-    more
-}
+    // The same tables, to be read.
+    pub fn as_tables(&self) -> Tables<'_>
+        ensures counts { result.counts ≡ self.now.counts }
+        ensures area { result.area.now ≡ self.now.area.now }
+    {
+        Tables {
+            area: self.area,
+            counts: self.counts,
+        }
+    }
 
-pub fn put_union(t: &[u8], k: Counts) -> Counts
-    requires laid { Laid k (length t.now) }
-    requires unions_bound { k.unions < 128 }
-    ensures { Added k result t.now (with_union (tables k t.now)) }
-{
-    let mut more = k;
-    more.unions = k.unions + 1;
-    more
-}
+    pub fn push_name(&mut self, flags: u8)
+        requires names_bound { self.old.counts.names < 64 }
+        ensures added { AddedTo self.old self.new (with_name (tables_mut_of self.old) (bit 0 flags)) }
+        ensures same_area { self.new.area.ghost_name ≡ self.old.area.ghost_name }
+    {
+        words::put(self.area, NAME_ROW * self.counts.names, flags as u16);
+        self.counts.names += 1;
+    }
 
-// The size in row c of the conditions.
-fn put_size(t: &mut [u8], c: usize, size: Size)
-    requires { (c < 256) × (50696 ≤ length t.old) }
-    ensures { words t.new ≡ set (set (words t.old) (12036 + 6 * c + 3) size.count) (12036 + 6 * c + 4) size.longest }
-{
-    let at = 12036 + 6 * c;
-    words::put(t, at + 3, size.count);
-    words::put(t, at + 4, size.longest);
-}
+    pub fn push_part(&mut self, name: u16, flags: u8, unknown: u16, exclusion: u16)
+        requires parts_bound { self.old.counts.parts < 1024 }
+        ensures added { AddedTo self.old self.new (with_part (tables_mut_of self.old) (part_of name flags unknown exclusion)) }
+        ensures same_area { self.new.area.ghost_name ≡ self.old.area.ghost_name }
+    {
+        let at = PARTS + PART_ROW * self.counts.parts;
+        words::put(self.area, at, name);
+        words::put(self.area, at + 1, flags as u16);
+        words::put(self.area, at + 2, unknown);
+        words::put(self.area, at + 3, exclusion);
+        self.counts.parts += 1;
+    }
 
-pub fn put_condition(t: &mut [u8], k: Counts, c: Condition, size: Size) -> Counts
-    requires laid { Laid k (length t.old) }
-    requires conditions_bound { k.conditions < 256 }
-    ensures { Added k result t.new (with_condition (tables k t.old) (condition_is c) (size_is size)) }
-{
-    let at = 12036 + 6 * k.conditions;
-    words::put(t, at, c.operator);
-    words::put(t, at + 1, c.left);
-    words::put(t, at + 2, c.right);
-    put_size(t, k.conditions, size);
-    let mut more = k;
-    more.conditions = k.conditions + 1;
-    more
-}
+    pub fn push_range(&mut self, name: u16)
+        requires ranges_bound { self.old.counts.ranges < 512 }
+        ensures added { AddedTo self.old self.new (with_range (tables_mut_of self.old) name) }
+        ensures same_area { self.new.area.ghost_name ≡ self.old.area.ghost_name }
+    {
+        words::put(self.area, RANGES + RANGE_ROW * self.counts.ranges, name);
+        self.counts.ranges += 1;
+    }
 
-pub fn put_requirement(t: &mut [u8], k: Counts, q: ConditionalRequirement) -> Counts
-    requires laid { Laid k (length t.old) }
-    requires requirements_bound { k.requirements < 1024 }
-    ensures { Added k result t.new (with_requirement (tables k t.old) (requirement_is q)) }
-{
-    let at = 13572 + 6 * k.requirements;
-    let goal = q.requirement;
-    words::put(t, at, q.owner);
-    words::put(t, at + 1, goal.form());
-    words::put(t, at + 2, goal.number());
-    words::put(t, at + 3, q.condition);
-    let mut more = k;
-    more.requirements = k.requirements + 1;
-    more
-}
+    pub fn push_union(&mut self)
+        requires unions_bound { self.old.counts.unions < 128 }
+        ensures added { AddedTo self.old self.new (with_union (tables_mut_of self.old)) }
+        ensures same_area { self.new.area.ghost_name ≡ self.old.area.ghost_name }
+    {
+        self.counts.unions += 1;
+    }
 
-pub fn put_constraint(t: &mut [u8], k: Counts, c: Constraint) -> Counts
-    requires laid { Laid k (length t.old) }
-    requires constraints_bound { k.constraints < 512 }
-    ensures { Added k result t.new (with_constraint (tables k t.old) (constraint_is c)) }
-{
-    let at = 19716 + 3 * k.constraints;
-    words::put(t, at, c.owner);
-    words::put(t, at + 1, c.range);
-    let mut more = k;
-    more.constraints = k.constraints + 1;
-    more
+    pub fn push_condition(&mut self, condition: Condition, size: Size)
+        requires conditions_bound { self.old.counts.conditions < 256 }
+        ensures added { AddedTo self.old self.new (with_condition (tables_mut_of self.old) (condition_is condition) (size_is size)) }
+        ensures same_area { self.new.area.ghost_name ≡ self.old.area.ghost_name }
+    {
+        let at = CONDITIONS + CONDITION_ROW * self.counts.conditions;
+        let [operator, left, right] = condition.numbers();
+        words::put(self.area, at, operator);
+        words::put(self.area, at + 1, left);
+        words::put(self.area, at + 2, right);
+        words::put(self.area, at + 3, size.count);
+        words::put(self.area, at + 4, size.longest);
+        self.counts.conditions += 1;
+    }
+
+    pub fn push_requirement(&mut self, requirement: ConditionalRequirement)
+        requires requirements_bound { self.old.counts.requirements < 1024 }
+        ensures added { AddedTo self.old self.new (with_requirement (tables_mut_of self.old) (stored_requirement requirement)) }
+        ensures same_area { self.new.area.ghost_name ≡ self.old.area.ghost_name }
+    {
+        let at = REQUIREMENTS + REQUIREMENT_ROW * self.counts.requirements;
+        let goal = requirement.requirement;
+        words::put(self.area, at, requirement.owner.into());
+        words::put(self.area, at + 1, goal.form());
+        words::put(self.area, at + 2, goal.number());
+        words::put(self.area, at + 3, condition_number(requirement.condition));
+        self.counts.requirements += 1;
+    }
+
+    pub fn push_constraint(&mut self, constraint: Constraint)
+        requires constraints_bound { self.old.counts.constraints < 512 }
+        ensures added { AddedTo self.old self.new (with_constraint (tables_mut_of self.old) (stored_constraint constraint)) }
+        ensures same_area { self.new.area.ghost_name ≡ self.old.area.ghost_name }
+    {
+        let at = CONSTRAINTS + CONSTRAINT_ROW * self.counts.constraints;
+        words::put(self.area, at, constraint.owner.into());
+        words::put(self.area, at + 1, constraint.range);
+        self.counts.constraints += 1;
+    }
 }

@@ -1,2 +1,2 @@
-pub mod Terms
+pub mod Fits
 pub mod Answers

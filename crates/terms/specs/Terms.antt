@@ -1,11 +1,8 @@
 -- The terms of a call: its limits and the lengths of its areas, as the definitions have them.
 use Rattle.std.specs.Prelude.{List, [], ◌∷◌, ℕ, ◌≤◌}
 use Rattle.rules.specs.Limits as rules
-use Rattle.terms.specs.declared.Limits.{Limits}
+use Rattle.state.specs.declared.Limits.{Limits}
 use Rattle.terms.specs.declared.Lent.{Lent}
-
-unfoldable pub limits_of : Limits → rules.Limits
-limits_of l = record { variables = l.variables; clauses = l.clauses; condition_literals = l.literals; waiting = l.waiting }
 
 -- limits that are allowed are at most these
 pub record Ceilings (l : Limits) : Type 0 where

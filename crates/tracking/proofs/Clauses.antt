@@ -3,17 +3,18 @@ use mathlib.Core.Path.{◌≡◌, refl, sym, ◌∙◌, ap}
 use mathlib.Core.Logic.{◌⊎◌, inl, inr, ⊎_elim}
 use mathlib.Core.Bool.{Bool, true, false, cond}
 use mathlib.Core.List.{List, [], ◌∷◌, map, append-nil}
-use Prim.Native.Nat.{ℕ, zero, suc, ◌+◌, ◌-◌, ◌^◌, ◌<◌, ◌≤◌}
+use Prim.Native.Nat.{ℕ, suc, ◌+◌, ◌^◌, ◌<◌, ◌≤◌}
 use native.Mathlib.Numerals.{add-one}
 use native.Mathlib.Omega.{arith}
 use lib.Dec.{ltb}
-use lib.ListN.{length, get_or, drop, length-map, drop_of_length-le}
-use lib.Seq.{drop-cons, get_or-take}
+use lib.ListN.{length, get_or, take, drop, length-map, drop_of_length-le}
+use lib.Seq.{drop-cons}
 use borrow.Author.Tests.{lt-ltb, le-ltb}
+use Rattle.std.specs.Prelude.{Option, None, Some}
 use Rattle.rules.specs.Lists.{list_if, up_to}
 use Rattle.rules.specs.Clause.{any_one}
 use Rattle.rules.specs.AtMostOne.{bit, agrees, helpers_for, helpers_after, helper_clauses, helpers_clauses, part_clauses}
-use Rattle.rules.specs.Variables.{Origin, forbid, one, known, variable_of, part_origin, part_variable}
+use Rattle.rules.specs.Variables.{Origin, forbid, one, variable_of, part_origin, part_variable}
 use Rattle.rules.proofs.Each.{each_at, each_imp, each_map}
 use Rattle.rules.proofs.ListLaws.{length_up_to}
 use Rattle.rules.proofs.AtMostOne.{at_most_ten}
@@ -22,31 +23,26 @@ use Rattle.rules.proofs.Places.{stands, unknown_beyond}
 use Rattle.tables.specs.declared.Counts.{Counts}
 use Rattle.state.specs.declared.Limits.{Limits}
 use Rattle.state.specs.Layout.{held, Fits}
-use Rattle.variable_map.specs.Mapping.{in_tables, variables, place}
+use Rattle.variable_map.specs.Mapping.{in_tables, variables, found}
 use Rattle.variable_map.proofs.Laws as variables
-use Rattle.variable_map.proofs.Places.{place_known, placed, unplaced}
+use Rattle.variable_map.proofs.Places.{found_known, found_none}
 use Rattle.encoder.specs.declared.Counters.{Counters}
 use Rattle.encoder.specs.declared.Run.{Run}
 use Rattle.marked.specs.Marked.{listed}
 use Rattle.encoder.specs.Held.{LongEnough}
 use Rattle.encoder.specs.Did.{Looked, is_full}
 use Rattle.storing.specs.Adding.{Adds}
-use Rattle.tracking.specs.declared.Tracker.{Tracker}
-use Rattle.tracking.specs.Joining.{AddsAll, GoodSome, helpers_in, Holds, first_helpers, helper_variables, HelpersBelow, of_name, variables_of, new_helper_clauses, one_clauses, tracked_clauses, joined_clauses, CanAddPart}
+use Rattle.tracking.specs.Joining.{AddsAll, GoodSome, first_helpers, helper_variables, HelpersBelow, of_name, variables_of, new_helper_clauses, one_clauses, tracked_clauses, joined_clauses, CanAddPart}
 use Rattle.tracking.proofs.Steps.{Adding, adding_start, adding_step, adding_end, adds_none, adds_one, adds_then, adds_stop, adds_as, some_good, some_mapped, some_after, some_all, same_then, same_count, clauses_same, Areas, areas_start, areas_then}
 
--- ---- the tracker's helpers
+-- ---- the helpers
 
-pub helper_is : (x : Tracker) (j : ℕ) → j < x.count → get_or x.helpers j 0 ≡ get_or (helpers_in x) j 0
-unfolding helpers_in
-helper_is x j h = sym (get_or-take x.count x.helpers j 0 h)
+module _ {ys : List ℕ} {i m : ℕ} (b : HelpersBelow ys i m) (j : ℕ) (h : j < length ys) where
+  pub helper_below : get_or ys j 0 < m
+  helper_below = each_at b.below j 0 h
 
-module _ {x : Tracker} {i m : ℕ} (b : HelpersBelow x i m) (j : ℕ) (h : j < x.count) where
-  pub helper_below : {y : ℕ} → y ≡ get_or (helpers_in x) j 0 → y < m
-  helper_below e = rw e (each_at b.below j 0 (omega (arith, b.length)))
-
-  helpers_left : drop j (helpers_in x) ≡ get_or (helpers_in x) j 0 ∷ drop (j + 1) (helpers_in x)
-  helpers_left = drop-cons (helpers_in x) j 0 (omega (arith, b.length)) ∙ rw (add-one j)
+  helpers_left : drop j ys ≡ get_or ys j 0 ∷ drop (j + 1) ys
+  helpers_left = drop-cons ys j 0 h ∙ rw (add-one j)
 
 -- ---- a part's clauses
 
@@ -55,30 +51,30 @@ unfolding part_clauses
 next_agrees x i j y ys = rw add-one
 
 -- the loop at helper j
-pub record Agreeing (l : Limits) (r : Run) (x i : ℕ) (tracker : Tracker) (n₀ : Counters) (b₀ cl₀ b cl : List ℕ) (n : Counters) (j : ℕ) : Type 0 where
+pub record Agreeing (l : Limits) (r : Run) (x i : ℕ) (ys : List ℕ) (n₀ : Counters) (b₀ cl₀ b cl : List ℕ) (n : Counters) (j : ℕ) : Type 0 where
   pub areas : Areas l b₀ cl₀ b cl
   pub good : GoodSome l n (held l b) cl
-  pub did : Adding l r (part_clauses x i 0 (helpers_in tracker)) (part_clauses x i j (drop j (helpers_in tracker))) n₀ (held l b₀) cl₀ n (held l b) cl
+  pub did : Adding l r (part_clauses x i 0 ys) (part_clauses x i j (drop j ys)) n₀ (held l b₀) cl₀ n (held l b) cl
 
-pub agreeing_start : (l : Limits) (r : Run) (x i : ℕ) (tracker : Tracker) (n : Counters) (b cl : List ℕ) → Fits l (length b) → LongEnough l (length cl) 16384
-    → GoodSome l n (held l b) cl → Agreeing l r x i tracker n b cl b cl n 0
-agreeing_start l r x i tracker n b cl f h g = record { areas = areas_start f h; good = g; did = adding_start }
+pub agreeing_start : (l : Limits) (r : Run) (x i : ℕ) (ys : List ℕ) (n : Counters) (b cl : List ℕ) → Fits l (length b) → LongEnough l (length cl) 16384
+    → GoodSome l n (held l b) cl → Agreeing l r x i ys n b cl b cl n 0
+agreeing_start l r x i ys n b cl f h g = record { areas = areas_start f h; good = g; did = adding_start }
 
-module _ {l : Limits} {r : Run} {x i : ℕ} {tracker : Tracker} {n₀ : Counters} {b₀ cl₀ b cl : List ℕ} {n : Counters} {j : ℕ}
-    (a : Agreeing l r x i tracker n₀ b₀ cl₀ b cl n j) (k : HelpersBelow tracker i l.variables) where
-  pub agreeing_step : {n' : Counters} (b' : List ℕ) {cl' : List ℕ} {y : ℕ} {q : Bool} → j < tracker.count → y ≡ get_or (helpers_in tracker) j 0
-      → q ≡ bit j i → Adds l r (agrees x y q) n (held l b) cl n' (held l b') cl'
-      → length b' ≡ length b → length cl' ≡ length cl → Agreeing l r x i tracker n₀ b₀ cl₀ b' cl' n' (j + 1)
-  agreeing_step b' {y = y} h u f d s s' =
-      let left : part_clauses x i j (drop j (helpers_in tracker)) ≡ agrees x y (bit j i) ∷ part_clauses x i (j + 1) (drop (j + 1) (helpers_in tracker))
-      = rw (helpers_left k j h, ← u) (next_agrees x i j y (drop (j + 1) (helpers_in tracker))) in
+module _ {l : Limits} {r : Run} {x i : ℕ} {ys : List ℕ} {n₀ : Counters} {b₀ cl₀ b cl : List ℕ} {n : Counters} {j : ℕ}
+    (a : Agreeing l r x i ys n₀ b₀ cl₀ b cl n j) (k : HelpersBelow ys i l.variables) where
+  pub agreeing_step : {n' : Counters} (b' : List ℕ) {cl' : List ℕ} {q : Bool} → j < length ys
+      → q ≡ bit j i → Adds l r (agrees x (get_or ys j 0) q) n (held l b) cl n' (held l b') cl'
+      → length b' ≡ length b → length cl' ≡ length cl → Agreeing l r x i ys n₀ b₀ cl₀ b' cl' n' (j + 1)
+  agreeing_step b' h f d s s' =
+      let left : part_clauses x i j (drop j ys) ≡ agrees x (get_or ys j 0) (bit j i) ∷ part_clauses x i (j + 1) (drop (j + 1) ys)
+      = rw (helpers_left k j h) (next_agrees x i j (get_or ys j 0) (drop (j + 1) ys)) in
       let d' = rw f at d in
       record { areas = areas_then a.areas s s'; good = some_after a.good d; did = adding_step (rw left at a.did) d' }
 
-  pub agreeing_end : tracker.count ≤ j → AddsAll l r (part_clauses x i 0 (helpers_in tracker)) n₀ (held l b₀) cl₀ n (held l b) cl
+  pub agreeing_end : length ys ≤ j → AddsAll l r (part_clauses x i 0 ys) n₀ (held l b₀) cl₀ n (held l b) cl
   agreeing_end h =
-      let none : drop j (helpers_in tracker) ≡ [] = drop_of_length-le (helpers_in tracker) {i = j} (omega (arith, k.length)) in
-      let last : part_clauses x i j (drop j (helpers_in tracker)) ≡ [] = rw none (unfold part_clauses in refl) in
+      let none : drop j ys ≡ [] = drop_of_length-le ys {i = j} h in
+      let last : part_clauses x i j (drop j ys) ≡ [] = rw none (unfold part_clauses in refl) in
       adding_end (rw last at a.did)
 
 -- ---- a new helper's clauses
@@ -91,65 +87,50 @@ one_more i = rw add-one (go (ltb (2 ^ helpers_for i) (suc i)))
     go true = inr (sym (add-one (helpers_for i)))
     go false = inl refl
 
-module _ {l : Limits} {r : Run} {n : Counters} {st : ℕ → List ℕ} {cl : List ℕ} {tracker : Tracker} {i h : ℕ} (b : HelpersBelow tracker i l.variables) (e : h ≡ helpers_for i) (xs : List ℕ) where
-  pub new_helper_none : tracker.count ≤ h → AddsAll l r (new_helper_clauses i (helpers_in tracker) xs) n st cl n st cl
+module _ {l : Limits} {r : Run} {n : Counters} {st : ℕ → List ℕ} {cl : List ℕ} {ys : List ℕ} {i h : ℕ} (b : HelpersBelow ys i l.variables) (e : h ≡ helpers_for i) (xs : List ℕ) where
+  pub new_helper_none : length ys ≤ h → AddsAll l r (new_helper_clauses i ys xs) n st cl n st cl
   unfolding new_helper_clauses
   new_helper_none g =
-      let none : drop (helpers_for i) (helpers_in tracker) ≡ [] = drop_of_length-le (helpers_in tracker) {i = helpers_for i} (omega (arith, b.length)) in
+      let none : drop (helpers_for i) ys ≡ [] = drop_of_length-le ys {i = helpers_for i} (omega arith) in
       adds_as adds_none (rw none (unfold helpers_clauses in refl))
 
-  pub new_helper_one : {n' : Counters} {st' : ℕ → List ℕ} {cl' : List ℕ} {y : ℕ} → h < tracker.count → y ≡ get_or (helpers_in tracker) h 0
-      → AddsAll l r (helper_clauses y h 0 xs) n st cl n' st' cl' → AddsAll l r (new_helper_clauses i (helpers_in tracker) xs) n st cl n' st' cl'
+  pub new_helper_one : {n' : Counters} {st' : ℕ → List ℕ} {cl' : List ℕ} {y : ℕ} → h < length ys → y ≡ get_or ys h 0
+      → AddsAll l r (helper_clauses y h 0 xs) n st cl n' st' cl' → AddsAll l r (new_helper_clauses i ys xs) n st cl n' st' cl'
   unfolding new_helper_clauses
   new_helper_one {y = y} g u a =
-      let count : tracker.count ≡ h + 1 = ⊎_elim (λ q. let no : ⊥ = omega (arith, b.count) in absurd no) (λ q. omega (arith, b.count)) (one_more i) in
-      let last : drop (h + 1) (helpers_in tracker) ≡ [] = drop_of_length-le (helpers_in tracker) {i = h + 1} (omega (arith, b.length)) in
-      let left : drop (helpers_for i) (helpers_in tracker) ≡ y ∷ [] = rw (← e, helpers_left b h g, ← u, last) in
+      let count : length ys ≡ h + 1 = ⊎_elim (λ q. let no : ⊥ = omega (arith, b.count) in absurd no) (λ q. omega (arith, b.count)) (one_more i) in
+      let last : drop (h + 1) ys ≡ [] = drop_of_length-le ys {i = h + 1} (omega arith) in
+      let left : drop (helpers_for i) ys ≡ y ∷ [] = rw (← e, helpers_left b h g, ← u, last) in
       adds_as a (rw (left, ← e) (unfold helpers_clauses in sym (append-nil (helper_clauses y h 0 xs))))
 
 -- ---- the clause of the one-of-name variable
 
-pub one_in_tables : (o : Origin) (name : ℕ) → o ≡ one name → name < 64 → in_tables o ≡ true
+pub one_in_tables : (name : ℕ) → name < 64 → in_tables (one name) ≡ true
 unfolding in_tables
-one_in_tables o name e h = rw (e, lt-ltb name 64 h)
-
-positive : (p : ℕ) → (p ≡ 0 → ⊥) → 0 < p
-positive zero z = absurd (z refl)
-positive (suc p) z = omega arith
-
-module _ (vs : List Origin) {o : Origin} {p name : ℕ} (e : o ≡ one name) (f : p ≡ place vs o) (z : p ≡ 0 → ⊥) where
-  known_one : known vs (one name) ≡ true
-  known_one = placed vs (one name) p (rw e at f) (positive p z)
-
-  is_one : p - 1 ≡ variable_of vs (one name)
-  is_one = let q = rw e at f in omega (arith, q ∙ place_known vs (one name) known_one)
-
-pub one_below : {l : Limits} {n : Counters} {st : ℕ → List ℕ} {cl : List ℕ} {o : Origin} {p name : ℕ} → GoodSome l n st cl → o ≡ one name
-    → p ≡ place (variables n.variables st) o → (p ≡ 0 → ⊥) → p - 1 < l.variables
-one_below {n = n} {st = st} {name = name} g e f z =
-    let vs = variables n.variables st in
-    omega (arith, is_one vs e f z, (stands vs (one name) (one name) (known_one vs e f z)).0, variables.count n.variables st, (some_mapped g).room)
+one_in_tables name h = lt-ltb name 64 h
 
 module _ (l : Limits) (r : Run) (n : Counters) (st : ℕ → List ℕ) (cl : List ℕ) (name x : ℕ) where
   no_one : r.before ≤ variable_of (variables n.variables st) (one name) → AddsAll l r (one_clauses r.before (variables n.variables st) name x) n st cl n st cl
   unfolding one_clauses list_if
   no_one h = adds_as adds_none (rw (le-ltb (variable_of (variables n.variables st) (one name)) r.before h))
 
-  module _ {o : Origin} {p : ℕ} (e : o ≡ one name) (f : p ≡ place (variables n.variables st) o) where
-    pub one_none : p ≡ 0 → r.before ≤ n.variables → AddsAll l r (one_clauses r.before (variables n.variables st) name x) n st cl n st cl
+  module _ {o : Option ℕ} (e : o ≡ found (variables n.variables st) (one name)) where
+    pub one_none : o ≡ None → r.before ≤ n.variables → AddsAll l r (one_clauses r.before (variables n.variables st) name x) n st cl n st cl
     one_none z h =
-        let k = unplaced (variables n.variables st) (one name) p (rw e at f) (omega arith) in
+        let k = found_none (variables n.variables st) (one name) o e z in
         no_one (omega (arith, unknown_beyond whole (one name) k, variables.count n.variables st))
 
-    pub one_newer : (p ≡ 0 → ⊥) → r.before ≤ p - 1 → AddsAll l r (one_clauses r.before (variables n.variables st) name x) n st cl n st cl
-    one_newer z h = no_one (omega (arith, is_one (variables n.variables st) e f z))
+    module _ {y : ℕ} (z : o ≡ Some y) where
+      is_one : y ≡ variable_of (variables n.variables st) (one name)
+      is_one = (found_known (variables n.variables st) (one name) o e y z).1
 
-    pub one_older : {n' : Counters} {st' : ℕ → List ℕ} {cl' : List ℕ} → (p ≡ 0 → ⊥) → p - 1 < r.before → Adds l r (any_one (p - 1) x) n st cl n' st' cl'
-        → AddsAll l r (one_clauses r.before (variables n.variables st) name x) n st cl n' st' cl'
-    unfolding one_clauses list_if
-    one_older z h a =
-        let is = is_one (variables n.variables st) e f z in
-        adds_as (adds_one (rw is at a)) (rw (lt-ltb (variable_of (variables n.variables st) (one name)) r.before (omega arith)))
+      pub one_newer : r.before ≤ y → AddsAll l r (one_clauses r.before (variables n.variables st) name x) n st cl n st cl
+      one_newer h = no_one (omega (arith, is_one))
+
+      pub one_older : {n' : Counters} {st' : ℕ → List ℕ} {cl' : List ℕ} → y < r.before → Adds l r (any_one y x) n st cl n' st' cl'
+          → AddsAll l r (one_clauses r.before (variables n.variables st) name x) n st cl n' st' cl'
+      unfolding one_clauses list_if
+      one_older h a = adds_as (adds_one (rw is_one at a)) (rw (lt-ltb (variable_of (variables n.variables st) (one name)) r.before (omega (arith, is_one))))
 
 -- ---- all of them
 
@@ -183,30 +164,33 @@ length_variables : (vs : List Origin) (name h : ℕ) → length (helper_variable
 unfolding helper_variables first_helpers
 length_variables vs name h = simp (length-map, length_up_to)
 
-module _ {k : Counts} {t : List ℕ} {l : Limits} {n : Counters} {st : ℕ → List ℕ} {cl : List ℕ} {name p i h : ℕ} (g : GoodSome l n st cl) (q : CanAddPart k t n st name p i h) where
-  pub part_below : {o : Origin} {x : ℕ} → o ≡ part_origin p → Looked (variables n.variables st) o x → x < l.variables
-  part_below e y = omega (arith, y.below (rw e q.known), variables.count n.variables st, (some_mapped g).room)
-
-  pub helpers_below : {x : Tracker} → Holds x (helper_variables (variables n.variables st) name h) → HelpersBelow x i l.variables
-  helpers_below {x} d =
-      let vs = variables n.variables st in
-      record {
-        room = d.room;
-        count = d.count ∙ (length_variables vs name h ∙ q.helpers);
-        length = ap length d.is ∙ sym d.count;
-        below = rw d.is (unfold helper_variables first_helpers in each_map (variable_of vs) (map (forbid name) (up_to 0 h)) (each_map (forbid name) (up_to 0 h)
-            (each_imp (λ j e. let z = (stands vs (forbid name j) (forbid name j) e).0 in let y = variables.count n.variables st in let w = (some_mapped g).room in omega arith) q.helpers_known.known)));
-      }
-
-  pub joined_all : {r : Run} {n' : Counters} {st' : ℕ → List ℕ} {cl' : List ℕ} {o : Origin} {x : ℕ} {tracker : Tracker} → o ≡ part_origin p → Looked (variables n.variables st) o x
-      → Holds tracker (helper_variables (variables n.variables st) name h)
-      → AddsAll l r (tracked_clauses r.before (variables n.variables st) name x i (helpers_in tracker) (variables_of k t n st name)) n st cl n' st' cl'
-      → AddsAll l r (joined_clauses r.before (variables n.variables st) name p (of_name k t name (listed n.tracked 10 st))) n st cl n' st' cl'
-  unfolding joined_clauses variables_of
-  joined_all {x = x} {tracker = tracker} e y d a =
-      let is : x ≡ part_variable (variables n.variables st) p = rw e at (y.is (rw e q.known)) in
-      let hs : helpers_in tracker ≡ helper_variables (variables n.variables st) name (helpers_for (suc i)) = d.is ∙ rw (q.helpers, add-one i) in
-      adds_as a (rw (is, hs, ← q.count))
+pub helpers_count : (vs : List Origin) (name h : ℕ) (ys : List ℕ) → take h ys ≡ helper_variables vs name h → h ≡ length (take h ys)
+helpers_count vs name h ys d = sym (ap length d ∙ length_variables vs name h)
 
 pub few_helpers : {k : Counts} {t : List ℕ} {n : Counters} {st : ℕ → List ℕ} {name p i h : ℕ} → CanAddPart k t n st name p i h → h ≤ 10
 few_helpers {i = i} q = rw q.helpers (at_most_ten (i + 1) (omega (arith, q.few)))
+
+module _ {k : Counts} {t : List ℕ} {l : Limits} {n : Counters} {st : ℕ → List ℕ} {cl : List ℕ} {name p i h : ℕ} (g : GoodSome l n st cl) (q : CanAddPart k t n st name p i h) where
+  pub part_below : {x : ℕ} → Looked (variables n.variables st) (part_origin p) x → x < l.variables
+  part_below y = omega (arith, y.below q.known, variables.count n.variables st, (some_mapped g).room)
+
+  pub helpers_below : (ys : List ℕ) → take h ys ≡ helper_variables (variables n.variables st) name h → HelpersBelow (take h ys) i l.variables
+  helpers_below ys d =
+      let vs = variables n.variables st in
+      let count : length (take h ys) ≡ h = sym (helpers_count vs name h ys d) in
+      record {
+        room = omega (arith, few_helpers q);
+        count = count ∙ q.helpers;
+        below = rw d (unfold helper_variables first_helpers in each_map (variable_of vs) (map (forbid name) (up_to 0 h)) (each_map (forbid name) (up_to 0 h)
+            (each_imp (λ j e. let z = (stands vs (forbid name j) (forbid name j) e).0 in let y = variables.count n.variables st in let w = (some_mapped g).room in omega arith) q.helpers_known.known)));
+      }
+
+  pub joined_all : {r : Run} {n' : Counters} {st' : ℕ → List ℕ} {cl' : List ℕ} {x : ℕ} (ys : List ℕ) → Looked (variables n.variables st) (part_origin p) x
+      → take h ys ≡ helper_variables (variables n.variables st) name h
+      → AddsAll l r (tracked_clauses r.before (variables n.variables st) name x i (take h ys) (variables_of k t n st name)) n st cl n' st' cl'
+      → AddsAll l r (joined_clauses r.before (variables n.variables st) name p (of_name k t name (listed n.tracked 10 st))) n st cl n' st' cl'
+  unfolding joined_clauses variables_of
+  joined_all {x = x} ys y d a =
+      let is : x ≡ part_variable (variables n.variables st) p = y.is q.known in
+      let hs : take h ys ≡ helper_variables (variables n.variables st) name (helpers_for (suc i)) = d ∙ rw (q.helpers, add-one i) in
+      adds_as a (rw (is, hs, ← q.count))

@@ -29,8 +29,7 @@ use Rattle.encoder.specs.Did.{Widens, PlainDid, is_full}
 use Rattle.encoder.proofs.Did.{widens_same, widens_fold, did_nothing, did_as, did_then, did_stop}
 use Rattle.encoder.proofs.Widening.{add_variable_widens, add_clause_widens, add_clause_variables, add_clause_opening}
 use Rattle.encoder.proofs.Steps.{good_waiting}
-use Rattle.storing.specs.Adding.{CanAdd, Adds}
-use Rattle.storing.proofs.Adding.{good_can_add}
+use Rattle.storing.specs.Adding.{Adds}
 use Rattle.tracking.specs.Joining.{Makes, AddsAll, NamesAll, GoodOf, GoodSome, GoodAny}
 
 -- nothing is read
@@ -62,9 +61,6 @@ module _ {l : Limits} {n : Counters} {st : ℕ → List ℕ} {cl : List ℕ} whe
 
   pub some_tracked : GoodSome l n st cl → Marked 10 11 n.tracked st
   some_tracked g = (some_good g).state.tracked
-
-  pub some_can_add : GoodSome l n st cl → LongEnough l (length cl) 16384 → CanAdd l n st (length cl)
-  some_can_add g h = good_can_add (some_good g) h
 
 pub any_mapped : {l : Limits} {n : Counters} {st : ℕ → List ℕ} → GoodAny l n st → Mapped l n.variables st
 any_mapped (GoodAny.any c cl g) = g.state.mapped

@@ -1,5 +1,5 @@
 -- Parts that join their names and one-of-name variables that are linked, one after another.
-use Rattle.std.specs.Prelude.{◌≡◌, true, false, not, ◌&&◌, List, [], ◌∷◌, ◌++◌, map, ℕ, suc, ◌+◌, ◌<◌, ◌≤◌, eqb, ltb, length, get_or, take, drop}
+use Rattle.std.specs.Prelude.{◌≡◌, true, false, not, ◌&&◌, List, [], ◌∷◌, ◌++◌, map, ℕ, suc, ◌+◌, ◌<◌, ◌≤◌, eqb, ltb, length, get_or, drop}
 use Rattle.rules.specs.Lists.{filter, elem, snoc, concat_map, fold, when, list_if, up_to}
 use Rattle.rules.specs.Clause.{Clause, any_one}
 use Rattle.rules.specs.AtMostOne.{helpers_for, helpers_clauses, part_clauses}
@@ -23,7 +23,6 @@ use Rattle.encoder.specs.declared.Counters.{Counters}
 use Rattle.encoder.specs.declared.Run as code
 use Rattle.encoder.specs.Held.{run_of, Good}
 use Rattle.encoder.specs.Did.{on_opening, StateDid, ClausesDid, is_full}
-use Rattle.tracking.specs.declared.Tracker.{Tracker}
 
 -- ---- steps by what they do
 
@@ -52,15 +51,7 @@ pub data GoodSome (l : Limits) (n : Counters) (st : ℕ → List ℕ) (cl : List
 pub data GoodAny (l : Limits) (n : Counters) (st : ℕ → List ℕ) : Type 0 where
   any : (c : Catalogue) (cl : List ℕ) → Good c l n st cl [] → GoodAny l n st
 
--- ---- the tracker
-
-unfoldable pub helpers_in : Tracker → List ℕ
-helpers_in x = take x.count x.helpers
-
-pub record Holds (x : Tracker) (ys : List ℕ) : Type 0 where
-  pub count : x.count ≡ length ys
-  pub room : x.count ≤ 10
-  pub is : helpers_in x ≡ ys
+-- ---- helpers
 
 -- the first h helpers of a name
 unfoldable pub first_helpers : (name h : ℕ) → List Origin
@@ -77,11 +68,10 @@ pub record HelpersKnown (vs : List Origin) (name h : ℕ) : Type 0 where
   pub known : Each (λ j. known vs (forbid name j) ≡ true) (up_to 0 h)
 
 -- the helpers of a name that has i + 1 parts, which are variables
-pub record HelpersBelow (x : Tracker) (i m : ℕ) : Type 0 where
-  pub room : x.count ≤ 10
-  pub count : x.count ≡ helpers_for (i + 1)
-  pub length : length (helpers_in x) ≡ x.count
-  pub below : Each (λ y. y < m) (helpers_in x)
+pub record HelpersBelow (ys : List ℕ) (i m : ℕ) : Type 0 where
+  pub room : length ys ≤ 10
+  pub count : length ys ≡ helpers_for (i + 1)
+  pub below : Each (λ y. y < m) ys
 
 -- ---- the tracked parts of a name
 
@@ -109,12 +99,6 @@ variable_at n st at = part_variable (variables n.variables st) (get_or (listed n
 pub record IsAt (l : Limits) (n : Counters) (st : ℕ → List ℕ) (at x : ℕ) : Type 0 where
   pub is : x ≡ variable_at n st at
   pub below : x < l.variables
-
--- r is the place of the first part of this name from place i on
-pub record NextOf (k : Counts) (t : List ℕ) (name : ℕ) (ps : List ℕ) (i r : ℕ) : Type 0 where
-  pub from : i ≤ r
-  pub left : of_name k t name (drop r ps) ≡ of_name k t name (drop i ps)
-  pub here : r < length ps → part_name k t (get_or ps r 0) ≡ name
 
 -- ---- clauses
 

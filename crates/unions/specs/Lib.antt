@@ -1,1 +1,2 @@
 pub mod Unions
+pub mod Views

@@ -6,11 +6,11 @@ use Prim.Native.Nat.{ℕ, suc, ◌+◌, ◌*◌, ◌-◌, ◌<◌, ◌≤◌}
 use native.Mathlib.Omega.{arith}
 use lib.ListN.{length, get_or, set, length-set, get_or-eq_default}
 use lib.Seq.{get_or-set_same, get_or-set_other}
+use Rattle.std.specs.Prelude.{Option, None, Some, SomeIff}
 use Rattle.rules.specs.Lists.{any, all, elem, snoc, up_to}
 use Rattle.rules.specs.Catalogue.{root}
 use Rattle.rules.specs.Variables.{Origin, chosen, same_origin, known, variable_of}
 use Rattle.rules.proofs.Bools.{by_cases}
-use Rattle.rules.proofs.Member.{not_one}
 use Rattle.rules.proofs.ListLaws.{length_snoc}
 use Rattle.rules.proofs.Places.{origin_same, origin_self, stands}
 use Rattle.regions.specs.Regions.{stored}
@@ -21,10 +21,9 @@ use Rattle.state.proofs.Changed.{stored_here, changed_stored, changed_none, chan
 use Rattle.state.proofs.Rows.{length_rows, row_at_law, rows_more, rows_same}
 use Rattle.variable_map.specs.declared.Origin as code
 use Rattle.variable_map.specs.declared.Named.{Named}
-use Rattle.variable_map.specs.declared.Named.TheVariants.{Variable, Full}
-use Rattle.variable_map.specs.Mapping.{origin_by, origin_of, in_tables, slot_of, origin_in, variables, place, Mapped, Free, Rowed, Grown, Made, Lacking, Naming}
+use Rattle.variable_map.specs.Mapping.{origin_by, origin_of, in_tables, slot_of, found, origin_in, variables, place, Mapped, Free, Rowed, Grown, Made, Naming}
 use Rattle.variable_map.proofs.Slots.{slot_apart, slot_below}
-use Rattle.variable_map.proofs.Places.{variable_new, place_new, place_other, place_known, placed, unplaced, with_known, with_new}
+use Rattle.variable_map.proofs.Places.{variable_new, place_new, place_other, read_place, found_known, found_none, with_known, with_new}
 
 -- ---- for callers
 
@@ -45,25 +44,24 @@ pub grown_count : {l : Limits} {n : ℕ} {vs : List Origin} {st st' : ℕ → Li
 grown_count {n = n} {st' = st'} g = sym (count n st') ∙ ap length g.is
 
 -- what `name` gives, by its answer
-pub named_made : {l : Limits} {n c x : ℕ} {o : Origin} {st st' : ℕ → List ℕ} {r : Named} → Naming l n o st st' r → r ≡ Variable c x → Made l n o c x st st'
-named_made g e = g.made _ _ e
+pub named_made : {l : Limits} {n : ℕ} {m : Named} {o : Origin} {st st' : ℕ → List ℕ} {r : Option Named} → Naming l n o st st' r → r ≡ Some m → Made l n o m.count m.variable st st'
+named_made g e = g.made _ e
 
-pub named_mapped : {l : Limits} {n c x : ℕ} {o : Origin} {st st' : ℕ → List ℕ} {r : Named} → Naming l n o st st' r → r ≡ Variable c x → Mapped l c st'
-named_mapped g e = (g.made _ _ e).grown.mapped
+pub named_mapped : {l : Limits} {n : ℕ} {m : Named} {o : Origin} {st st' : ℕ → List ℕ} {r : Option Named} → Naming l n o st st' r → r ≡ Some m → Mapped l m.count st'
+named_mapped g e = (g.made _ e).grown.mapped
 
 -- ---- reading
 
-pub variable_is : (l : Limits) (n k r : ℕ) (o : Origin) (st : ℕ → List ℕ) → Mapped l n st → in_tables o ≡ true → k ≡ slot_of o → r ≡ get_or (st 0) k 0
-    → r ≡ place (variables n st) o
-variable_is l n k r o st m h e d = d ∙ (ap (λ (i : ℕ). get_or (st 0) i 0) e ∙ m.slots o h)
+pub variable_is : (l : Limits) (n k p : ℕ) (r : Option ℕ) (o : Origin) (st : ℕ → List ℕ) → Mapped l n st → in_tables o ≡ true → k ≡ slot_of o → p ≡ get_or (st 0) k 0
+    → SomeIff r (1 ≤ p) (p - 1) → r ≡ found (variables n st) o
+variable_is l n k p r o st m h e d x = read_place (variables n st) o p r (d ∙ (ap (λ (i : ℕ). get_or (st 0) i 0) e ∙ m.slots o h)) x
 
-pub origin_in_law : (st : ℕ → List ℕ) (n v x y z : ℕ) → v < n → x ≡ get_or (st 16) (3 * v) 0 → y ≡ get_or (st 16) (3 * v + 1) 0 → z ≡ get_or (st 16) (3 * v + 2) 0
-    → origin_of (record { kind = x; number = y; bit = z }) ≡ get_or (variables n st) v (chosen root)
-unfolding origin_of variables
-origin_in_law st n v x y z h e f g = rw (row_at_law (origin_in (st 16)) (chosen root) n v h, e, f, g) (unfold origin_in in refl)
+pub origin_in_law : (st : ℕ → List ℕ) (n v x y z : ℕ) (o : code.Origin) → v < n → x ≡ get_or (st 16) (3 * v) 0 → y ≡ get_or (st 16) (3 * v + 1) 0 → z ≡ get_or (st 16) (3 * v + 2) 0
+    → origin_of o ≡ origin_by x y z → origin_of o ≡ get_or (variables n st) v (chosen root)
+unfolding variables
+origin_in_law st n v x y z o h e f g q = rw (row_at_law (origin_in (st 16)) (chosen root) n v h, q, e, f, g) (unfold origin_in in refl)
 
-pub origin_past : (st : ℕ → List ℕ) (n v : ℕ) → n ≤ v → origin_of (record { kind = 0; number = 0; bit = 0 }) ≡ get_or (variables n st) v (chosen root)
-unfolding origin_of origin_by
+pub origin_past : (st : ℕ → List ℕ) (n v : ℕ) → n ≤ v → chosen root ≡ get_or (variables n st) v (chosen root)
 origin_past st n v h = sym (get_or-eq_default (variables n st) (chosen root) (rw count h))
 
 -- ---- one row more
@@ -91,7 +89,7 @@ module _ (w : List ℕ) (k x y z : ℕ) where
   three_2 : k + 2 < length w → get_or three (k + 2) 0 ≡ z
   three_2 h = get_or-set_same (set (set w k x) (k + 1) y) (k + 2) z 0 (simp length-set h)
 
-module _ (w w' : List ℕ) (n : ℕ) (o : code.Origin) (e : w' ≡ three w (3 * n) o.kind o.number o.bit) (h : 3 * n + 2 < length w) where
+module _ (w w' : List ℕ) (n x y z : ℕ) (e : w' ≡ three w (3 * n) x y z) (h : 3 * n + 2 < length w) where
   row_before : (i : ℕ) → i < n → origin_in w' i ≡ origin_in w i
   unfolding origin_in
   row_before i g =
@@ -102,43 +100,44 @@ module _ (w w' : List ℕ) (n : ℕ) (o : code.Origin) (e : w' ≡ three w (3 * 
         three_before w (3 * n) _ _ _ (3 * i + 2) (omega arith),
       )
 
-  row_new : origin_in w' n ≡ origin_of o
-  unfolding origin_in origin_of
+  row_new : origin_in w' n ≡ origin_by x y z
+  unfolding origin_in
   row_new = rw (e, three_0 w (3 * n) _ _ _ h, three_1 w (3 * n) _ _ _ h, three_2 w (3 * n) _ _ _ h)
 
-module _ (l : Limits) (n : ℕ) (o : code.Origin) (b b₁ b₂ b₃ : List ℕ) (fits : Fits l (length b)) (room : n < l.variables)
-    (e₁ : held l b₁ ≡ stored (held l b) 16 (3 * n) o.kind) (e₂ : held l b₂ ≡ stored (held l b₁) 16 (3 * n + 1) o.number)
-    (e₃ : held l b₃ ≡ stored (held l b₂) 16 (3 * n + 2) o.bit) where
-  at_16 : held l b₃ 16 ≡ three (held l b 16) (3 * n) o.kind o.number o.bit
+module _ (l : Limits) (n x y z : ℕ) (o : Origin) (row : origin_by x y z ≡ o) (b b₁ b₂ b₃ : List ℕ) (fits : Fits l (length b)) (room : n < l.variables)
+    (e₁ : held l b₁ ≡ stored (held l b) 16 (3 * n) x) (e₂ : held l b₂ ≡ stored (held l b₁) 16 (3 * n + 1) y)
+    (e₃ : held l b₃ ≡ stored (held l b₂) 16 (3 * n + 2) z) where
+  at_16 : held l b₃ 16 ≡ three (held l b 16) (3 * n) x y z
   at_16 =
       rw (
         e₃,
-        stored_here (held l b₂) 16 (3 * n + 2) o.bit,
+        stored_here (held l b₂) 16 (3 * n + 2) z,
         e₂,
-        stored_here (held l b₁) 16 (3 * n + 1) o.number,
+        stored_here (held l b₁) 16 (3 * n + 1) y,
         e₁,
-        stored_here (held l b) 16 (3 * n) o.kind,
+        stored_here (held l b) 16 (3 * n) x,
       )
 
   in_region : 3 * n + 2 < length (held l b 16)
   in_region = rw (length_variables l b fits) (omega arith)
 
-  one_more : variables (n + 1) (held l b₃) ≡ snoc (variables n (held l b)) (origin_of o)
+  one_more : variables (n + 1) (held l b₃) ≡ snoc (variables n (held l b)) o
   unfolding variables
   one_more =
       rows_more (origin_in (held l b₃ 16)) n
       ∙ rw (
-        rows_same (origin_in (held l b₃ 16)) (origin_in (held l b 16)) n (row_before (held l b 16) (held l b₃ 16) n o at_16 in_region),
-        row_new (held l b 16) (held l b₃ 16) n o at_16 in_region,
+        rows_same (origin_in (held l b₃ 16)) (origin_in (held l b 16)) n (row_before (held l b 16) (held l b₃ 16) n x y z at_16 in_region),
+        row_new (held l b 16) (held l b₃ 16) n x y z at_16 in_region,
+        row,
       )
 
-  pub row_pushed : Rowed n (origin_of o) (held l b) (held l b₃)
+  pub row_pushed : Rowed n o (held l b) (held l b₃)
   row_pushed =
       record {
         is = one_more;
         rest =
-            changed_then (changed_stored 16 (3 * n) o.kind e₁ (unfold any in refl))
-            (changed_then (changed_stored 16 (3 * n + 1) o.number e₂ (unfold any in refl)) (changed_stored 16 (3 * n + 2) o.bit e₃ (unfold any in refl)));
+            changed_then (changed_stored 16 (3 * n) x e₁ (unfold any in refl))
+            (changed_then (changed_stored 16 (3 * n + 1) y e₂ (unfold any in refl)) (changed_stored 16 (3 * n + 2) z e₃ (unfold any in refl)));
       }
 
 -- ---- and its slot
@@ -179,79 +178,66 @@ module _ (l : Limits) (n k : ℕ) (o : Origin) (b b₁ b₂ : List ℕ) (fits : 
 
 -- ---- an origin named
 
-module _ (l : Limits) (n p : ℕ) (o : Origin) (st : ℕ → List ℕ) (m : Mapped l n st) (e : p ≡ place (variables n st) o) where
-  pub name_known : 0 < p → Naming l n o st st (Variable n (p - 1))
-  name_known h = record { made = made; lacking = λ q. absurd (not_full q) }
+module _ {A : Type 0} {x : A} where
+  some_is : {y : A} → Some x ≡ Some y → x ≡ y
+  some_is q = cc
+
+  some_none : Some x ≡ None → ⊥
+  some_none q = cc
+
+  none_some : None ≡ Some x → ⊥
+  none_some q = cc
+
+module _ (l : Limits) (n : ℕ) (r : Option ℕ) (o : Origin) (st : ℕ → List ℕ) (m : Mapped l n st) (e : r ≡ found (variables n st) o) where
+  pub name_known : (x : ℕ) → r ≡ Some x → Naming l n o st st (Some (record { count = n; variable = x }))
+  name_known x h = record { made = λ w q. rw (← some_is q) made; lacking = λ q. absurd (some_none q) }
     where
-      k : known (variables n st) o ≡ true
-      k = placed (variables n st) o p e h
+      k : (known (variables n st) o ≡ true) × (x ≡ variable_of (variables n st) o)
+      k = found_known (variables n st) o r e x h
 
-      is : p - 1 ≡ variable_of (variables n st) o
-      is = omega (arith, e ∙ place_known (variables n st) o k)
+      made : Made l n o n x st st
+      made =
+          let below = (stands (variables n st) o o k.0).0 in
+          record {
+            grown = record { mapped = m; is = sym (with_known (variables n st) o k.0); rest = changed_none (0 ∷ 16 ∷ []) st };
+            variable = rw (with_known (variables n st) o k.0) k.1;
+            below = omega (arith, k.1, below, count n st);
+          }
 
-      made : (c x : ℕ) → Variable n (p - 1) ≡ Variable c x → Made l n o c x st st
-      made c x q =
-          let a : n ≡ c = cc in
-          let b : p - 1 ≡ x = cc in
-          let below = (stands (variables n st) o o k).0 in
-          rw (← a, ← b)
-          (record {
-            grown = record { mapped = m; is = sym (with_known (variables n st) o k); rest = changed_none (0 ∷ 16 ∷ []) st };
-            variable = rw (with_known (variables n st) o k) is;
-            below = omega (arith, is, below, count n st);
-          })
+  pub name_full : r ≡ None → l.variables ≤ n → Naming l n o st st None
+  name_full h g =
+      record { made = λ w q. absurd (none_some q); lacking = λ q. record { unknown = found_none (variables n st) o r e h; full = omega (arith, m.room); same = refl } }
 
-      not_full : Variable n (p - 1) ≡ Full → ⊥
-      not_full q = let z : ◌≡◌ {A = ℕ} 0 1 = cc in not_one z
-
-  pub name_full : p ≤ 0 → l.variables ≤ n → Naming l n o st st Full
-  name_full h g = record { made = λ c x q. absurd (not_made c x q); lacking = λ q. lacking }
-    where
-      not_made : (c x : ℕ) → Full ≡ Variable c x → ⊥
-      not_made c x q = let z : ◌≡◌ {A = ℕ} 0 1 = cc in not_one z
-
-      lacking : Lacking l n o st st
-      lacking = record { unknown = unplaced (variables n st) o p e h; full = omega (arith, m.room); same = refl }
-
-pub free : (l : Limits) (n p : ℕ) (o : Origin) (st : ℕ → List ℕ) → Mapped l n st → in_tables o ≡ true → p ≡ place (variables n st) o → p ≤ 0 → n < l.variables
+pub free : (l : Limits) (n : ℕ) (r : Option ℕ) (o : Origin) (st : ℕ → List ℕ) → Mapped l n st → in_tables o ≡ true → r ≡ found (variables n st) o → r ≡ None → n < l.variables
     → Free l n o st
-free l n p o st m t e h r = record { mapped = m; room = r; fits = t; unknown = unplaced (variables n st) o p e h }
+free l n r o st m t e h q = record { mapped = m; room = q; fits = t; unknown = found_none (variables n st) o r e h }
 
-pub name_new : (l : Limits) (n p r : ℕ) (o : Origin) (st st' : ℕ → List ℕ) → p ≡ place (variables n st) o → p ≤ 0
-    → Grown l r (snoc (variables n st) o) st st' → Naming l n o st st' (Variable r n)
-name_new l n p r o st st' e h g = record { made = made; lacking = λ q. absurd (not_full q) }
+pub name_new : (l : Limits) (n c : ℕ) (r : Option ℕ) (o : Origin) (st st' : ℕ → List ℕ) → r ≡ found (variables n st) o → r ≡ None
+    → Grown l c (snoc (variables n st) o) st st' → Naming l n o st st' (Some (record { count = c; variable = n }))
+name_new l n c r o st st' e h g = record { made = λ w q. rw (← some_is q) made; lacking = λ q. absurd (some_none q) }
   where
-    d : r ≡ suc n
+    d : c ≡ suc n
     d = grown_count g ∙ (length_snoc (variables n st) o ∙ ap suc (count n st))
 
     u : known (variables n st) o ≡ false
-    u = unplaced (variables n st) o p e h
+    u = found_none (variables n st) o r e h
 
-    made : (c x : ℕ) → Variable r n ≡ Variable c x → Made l n o c x st st'
-    made c x q =
-        let a : r ≡ c = cc in
-        let b : n ≡ x = cc in
-        rw (← a, ← b)
-        (record {
+    made : Made l n o c n st st'
+    made =
+        record {
           grown = rw (with_new (variables n st) o u) g;
           variable = rw (with_new (variables n st) o u, variable_new (variables n st) o u) (sym (count n st));
           below = omega (arith, d);
-        })
-
-    not_full : Variable r n ≡ Full → ⊥
-    not_full q = let z : ◌≡◌ {A = ℕ} 0 1 = cc in not_one z
+        }
 
 -- ---- the start
 
-abbrev root_row : code.Origin
-root_row = record { kind = 0; number = 0; bit = 0 }
-
-pub root_free : (l : Limits) (st : ℕ → List ℕ) → Blank 0 st → 0 < l.variables → Free l 0 (origin_of root_row) st
-unfolding variables up_to place known any origin_of origin_by in_tables
+pub root_free : (l : Limits) (st : ℕ → List ℕ) → Blank 0 st → 0 < l.variables → Free l 0 (chosen root) st
+unfolding variables up_to place known any in_tables
 root_free l st z h = record { mapped = record { room = omega arith; slots = λ o t. z.zeros (slot_of o) }; room = h; fits = refl; unknown = refl }
 
-pub started : (l : Limits) (r : ℕ) (st st' : ℕ → List ℕ) → Grown l r (snoc (variables 0 st) (origin_of root_row)) st st' → Grown l r (chosen root ∷ []) st st'
+pub started : (l : Limits) (r : ℕ) (st st' : ℕ → List ℕ) → Grown l r (snoc (variables 0 st) (chosen root)) st st' → Grown l r (chosen root ∷ []) st st'
 started l r st st' g = rw first at g
   where
-    first : snoc (variables 0 st) (origin_of root_row) ≡ chosen root ∷ []
-    first = unfold snoc variables up_to origin_of origin_by in refl
+    first : snoc (variables 0 st) (chosen root) ≡ chosen root ∷ []
+    first = unfold snoc variables up_to in refl

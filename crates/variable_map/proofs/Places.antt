@@ -1,20 +1,19 @@
 -- Places of origins: a new one's is the number of variables, and no other changes.
-use mathlib.Core.Path.{◌≡◌, ◌∙◌, ap}
+use mathlib.Core.Path.{◌≡◌, ◌∙◌, ap, sym}
 use mathlib.Core.Bool.{Bool, true, false, not, ◌||◌, true≢false}
 use mathlib.Core.List.{List, [], ◌∷◌, ◌++◌}
-use Prim.Native.Nat.{ℕ, suc, ◌+◌, ◌<◌, ◌≤◌}
+use Prim.Native.Nat.{ℕ, suc, ◌+◌, ◌-◌, ◌<◌, ◌≤◌}
 use native.Mathlib.Omega.{arith}
-use lib.Dec.{eqb}
 use lib.ListN.{length}
-use borrow.Author.Tests.{eq-eqb, ne_eqb}
 use Rattle.rules.specs.Lists.{any, index_of, snoc, unless}
 use Rattle.rules.specs.Variables.{Origin, same_origin, known, variable_of, with_variable}
 use Rattle.rules.proofs.Bools.{by_cases}
 use Rattle.rules.proofs.Grows.{ending}
 use Rattle.rules.proofs.ListLaws.{any_snoc}
 use Rattle.rules.proofs.Places.{origin_self, keeps_variable}
+use Rattle.std.specs.Prelude.{Option, None, Some, SomeIff, is_none}
 use Rattle.variable_map.specs.declared.Origin as code
-use Rattle.variable_map.specs.Mapping.{origin_of, place}
+use Rattle.variable_map.specs.Mapping.{origin_of, place, found}
 
 index_end : {A : Type 0} (f : A → Bool) (xs : List A) (x : A) → any f xs ≡ false → f x ≡ true → index_of f (xs ++ (x ∷ [])) ≡ length xs
 unfolding any index_of
@@ -64,10 +63,36 @@ module _ (vs : List Origin) (o : Origin) where
   unfolding with_variable unless
   with_new e = rw e
 
--- a place is 0 where there is none
-pub new_is : (vs : List Origin) (w : code.Origin) (o : Origin) (p : ℕ) → origin_of w ≡ o → p ≡ place vs (origin_of w) → eqb p 0 ≡ not (known vs o)
-new_is vs w o p i e =
-    let q : p ≡ place vs o = e ∙ ap (place vs) i in
-    by_cases (known vs o)
-    (λ h. let z : p ≡ variable_of vs o + 1 = q ∙ place_known vs o h in rw (h, ne_eqb p 0 (λ u. omega arith)))
-    (λ h. let z : p ≡ 0 = q ∙ place_unknown vs o h in rw (h, eq-eqb p 0 z))
+-- ---- what was found
+
+module _ (vs : List Origin) (o : Origin) where
+  found_there : known vs o ≡ true → found vs o ≡ Some (variable_of vs o)
+  unfolding found
+  found_there k = rw k
+
+  found_not : known vs o ≡ false → found vs o ≡ None
+  unfolding found
+  found_not k = rw k
+
+  -- by the place in a slot
+  pub read_place : (p : ℕ) (r : Option ℕ) → p ≡ place vs o → SomeIff r (1 ≤ p) (p - 1) → r ≡ found vs o
+  read_place p None e h = by_cases (known vs o) (λ k. absurd (h (omega (arith, e, place_known vs o k)))) (λ k. sym (found_not k))
+  read_place p (Some x) e h =
+      by_cases (known vs o)
+      (λ k. let z : x ≡ variable_of vs o = omega (arith, h.1, e, place_known vs o k) in sym (found_there k ∙ ap Some (sym z)))
+      (λ k. let z : p ≡ 0 = e ∙ place_unknown vs o k in let no : ⊥ = omega (arith, h.0) in absurd no)
+
+-- for callers
+module _ (vs : List Origin) (o : Origin) (r : Option ℕ) (e : r ≡ found vs o) where
+  pub found_known : (x : ℕ) → r ≡ Some x → (known vs o ≡ true) × (x ≡ variable_of vs o)
+  found_known x q =
+      by_cases (known vs o)
+      (λ k. let f = found_there vs o k in let z : x ≡ variable_of vs o = cc in (k, z))
+      (λ k. let f = found_not vs o k in let no : ⊥ = cc in absurd no)
+
+  pub found_none : r ≡ None → known vs o ≡ false
+  found_none q = by_cases (known vs o) (λ k. let f = found_there vs o k in let no : ⊥ = cc in absurd no) (λ k. k)
+
+-- nothing was found where there is none
+pub new_is : (vs : List Origin) (w : code.Origin) (o : Origin) (r : Option ℕ) → origin_of w ≡ o → r ≡ found vs (origin_of w) → is_none r ≡ not (known vs o)
+new_is vs w o r i e = by_cases (known vs o) (λ k. rw (e, i, found_there vs o k, k)) (λ k. rw (e, i, found_not vs o k, k))

@@ -4,47 +4,11 @@ use mathlib.Core.Bool.{true, cond}
 use Prim.Native.Nat.{ℕ, ◌+◌, ◌*◌, ◌-◌, ◌/◌, ◌%◌, ◌<◌}
 use native.Mathlib.Omega.{arith}
 use lib.Dec.{ltb}
-use borrow.Author.Tests.{ne_eqb, lt-ltb, le-ltb, ltb-true}
+use borrow.Author.Tests.{lt-ltb, le-ltb, ltb-true}
 use Rattle.rules.specs.Catalogue.{root, part, range, union}
 use Rattle.rules.specs.Variables.{Origin, chosen, forbid, one, violation, gate}
 use Rattle.rules.proofs.Bools.{and_left, and_right}
-use Rattle.variable_map.specs.declared.Origin as code
-use Rattle.variable_map.specs.Mapping.{origin_by, origin_of, in_tables, slot_of}
-
--- ---- by kind
-
-module _ (o : code.Origin) where
-  pub slot_root : o.kind ≡ 0 → 0 ≡ slot_of (origin_of o)
-  unfolding origin_of origin_by slot_of
-  slot_root e = rw e
-
-  pub slot_part : o.kind ≡ 1 → 1 + o.number ≡ slot_of (origin_of o)
-  unfolding origin_of origin_by slot_of
-  slot_part e = rw e
-
-  pub slot_forbid : o.kind ≡ 2 → 2241 + 10 * o.number + o.bit ≡ slot_of (origin_of o)
-  unfolding origin_of origin_by slot_of
-  slot_forbid e = rw e
-
-  pub slot_one : o.kind ≡ 3 → 1025 + o.number ≡ slot_of (origin_of o)
-  unfolding origin_of origin_by slot_of
-  slot_one e = rw e
-
-  pub slot_violation : o.kind ≡ 4 → 1089 + o.number ≡ slot_of (origin_of o)
-  unfolding origin_of origin_by slot_of
-  slot_violation e = rw e
-
-  pub slot_range : o.kind ≡ 5 → 1601 + o.number ≡ slot_of (origin_of o)
-  unfolding origin_of origin_by slot_of
-  slot_range e = rw e
-
-  pub slot_union : (o.kind ≡ 0 → ⊥) → (o.kind ≡ 1 → ⊥) → (o.kind ≡ 2 → ⊥) → (o.kind ≡ 3 → ⊥) → (o.kind ≡ 4 → ⊥) → (o.kind ≡ 5 → ⊥)
-      → 2113 + o.number ≡ slot_of (origin_of o)
-  unfolding origin_of origin_by slot_of
-  slot_union a b c d e f =
-      rw (ne_eqb o.kind 0 a, ne_eqb o.kind 1 b, ne_eqb o.kind 2 c, ne_eqb o.kind 3 d, ne_eqb o.kind 4 e, ne_eqb o.kind 5 f)
-
--- ---- and back
+use Rattle.variable_map.specs.Mapping.{in_tables, slot_of}
 
 unslot : ℕ → Origin
 unslot s =

@@ -1,17 +1,27 @@
 -- Variables in the state area: region 16 has a row of three numbers for each, region 0 a slot for each origin that a catalogue can give.
-use Rattle.std.specs.Prelude.{◌≡◌, Bool, true, false, ◌&&◌, cond, List, [], ◌∷◌, map, ℕ, ◌+◌, ◌*◌, ◌<◌, ◌≤◌, eqb, ltb, get_or}
+use Rattle.std.specs.Prelude.{◌≡◌, Bool, true, false, ◌&&◌, cond, Option, None, Some, List, [], ◌∷◌, map, ℕ, ◌+◌, ◌*◌, ◌<◌, ◌≤◌, eqb, ltb, get_or}
 use Rattle.rules.specs.Lists.{snoc, up_to}
 use Rattle.rules.specs.Catalogue.{root, part, range, union}
 use Rattle.rules.specs.Variables.{Origin, chosen, forbid, one, violation, gate, known, variable_of, with_variable, part_origin}
 use Rattle.rules.proofs.Each.{Each}
 use Rattle.state.specs.declared.Limits.{Limits}
 use Rattle.state.specs.Changed.{Changed}
+use Rattle.requirement.specs.Requirements.{goal_of}
 use Rattle.variable_map.specs.declared.Origin as code
+use Rattle.variable_map.specs.declared.Origin.TheVariants.{Root, Part, Forbid, One, Violation, Gate}
 use Rattle.variable_map.specs.declared.Named.{Named}
-use Rattle.variable_map.specs.declared.Named.TheVariants.{Variable, Full}
 
--- ---- origins by number
+-- ---- origins
 
+abbrev pub origin_of : code.Origin → Origin
+origin_of Root = chosen root
+origin_of (Part p) = chosen (part p)
+origin_of (Forbid n j) = forbid n j
+origin_of (One n) = one n
+origin_of (Violation r) = violation r
+origin_of (Gate q) = gate (goal_of q)
+
+-- as a row has it
 unfoldable pub origin_by : (kind number bit : ℕ) → Origin
 origin_by kind number bit =
     cond (eqb kind 0) (chosen root)
@@ -20,9 +30,6 @@ origin_by kind number bit =
     (cond (eqb kind 3) (one number)
     (cond (eqb kind 4) (violation number)
     (cond (eqb kind 5) (gate (range number)) (gate (union number)))))))
-
-unfoldable pub origin_of : code.Origin → Origin
-origin_of o = origin_by o.kind o.number o.bit
 
 -- its numbers are below the ceilings
 unfoldable pub in_tables : Origin → Bool
@@ -54,6 +61,10 @@ variables n st = map (origin_in (st 16)) (up_to 0 n)
 -- the variable of an origin and one more, or 0
 unfoldable pub place : List Origin → Origin → ℕ
 place vs o = cond (known vs o) (variable_of vs o + 1) 0
+
+-- the variable of an origin, if it has one
+unfoldable pub found : List Origin → Origin → Option ℕ
+found vs o = cond (known vs o) (Some (variable_of vs o)) None
 
 -- there are n variables, and each origin's slot has its place
 pub record Mapped (l : Limits) (n : ℕ) (st : ℕ → List ℕ) : Type 0 where
@@ -90,9 +101,9 @@ pub record Lacking (l : Limits) (n : ℕ) (o : Origin) (st st' : ℕ → List �
   pub full : n ≡ l.variables
   pub same : st' ≡ st
 
-pub record Naming (l : Limits) (n : ℕ) (o : Origin) (st st' : ℕ → List ℕ) (r : Named) : Type 0 where
-  pub made : (count x : ℕ) → r ≡ Variable count x → Made l n o count x st st'
-  pub lacking : r ≡ Full → Lacking l n o st st'
+pub record Naming (l : Limits) (n : ℕ) (o : Origin) (st st' : ℕ → List ℕ) (r : Option Named) : Type 0 where
+  pub made : (m : Named) → r ≡ Some m → Made l n o m.count m.variable st st'
+  pub lacking : r ≡ None → Lacking l n o st st'
 
 -- each of these parts has a variable
 pub record AllKnown (vs : List Origin) (ps : List ℕ) : Type 0 where

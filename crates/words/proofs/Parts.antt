@@ -10,7 +10,7 @@ use Rattle.words.specs.Words.{words, length_words}
 twice : (j : ℕ) → suc j * 2 ≡ suc (suc (j * 2))
 twice j = omega arith
 
-words_split : (j : ℕ) (l q : List ℕ) → j * 2 ≤ length l → words (take (j * 2) l ++ q) ≡ take j (words l) ++ words q
+pub words_split : (j : ℕ) (l q : List ℕ) → j * 2 ≤ length l → words (take (j * 2) l ++ q) ≡ take j (words l) ++ words q
 unfolding words
 words_split zero l q h = refl
 words_split (suc j) [] q h = absurd (none j h)
@@ -27,7 +27,7 @@ words_split (suc j) (x ∷ y ∷ l) q h =
     less : (k m : ℕ) → suc k * 2 ≤ suc (suc m) → k * 2 ≤ m
     less k m h = omega arith
 
-words_drop : (j : ℕ) (l : List ℕ) → j * 2 ≤ length l → words (drop (j * 2) l) ≡ drop j (words l)
+pub words_drop : (j : ℕ) (l : List ℕ) → j * 2 ≤ length l → words (drop (j * 2) l) ≡ drop j (words l)
 unfolding words
 words_drop zero l h = refl
 words_drop (suc j) [] h = absurd (none j h)

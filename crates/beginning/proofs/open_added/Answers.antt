@@ -1,7 +1,6 @@
 use borrow.Author.Rules.{rules}
-use native.Mathlib.Omega.{arith}
 use Rattle.encoder.proofs.Did.{told_full, told_going}
-use Rattle.beginning.proofs.Added.{opened_start, opened_owners, opened_few, opened_low, opened_step, opened_end, opened_full}
+use Rattle.beginning.proofs.Added.{opened_start, opened_owners, opened_low, opened_step, opened_end, opened_full}
 use Rattle.beginning.proofs.open_added.Goals as goal
 
 pub loop-i-init : goal.loop-i-init
@@ -13,17 +12,11 @@ returns-then-m-ne0 c = opened_full c.loop-i.invariant (told_full c.if-m-ne0.true
 pub returns : goal.returns
 returns c = opened_end c.loop-i.invariant c.loop-i-test.false
 
-pub open_owner-m-requires-clause-fits : goal.open_owner-m-requires-clause-fits
-open_owner-m-requires-clause-fits c = c.loop-i.invariant.fits
-
 pub open_owner-m-requires-clause-marked : goal.open_owner-m-requires-clause-marked
 open_owner-m-requires-clause-marked c = opened_owners c.loop-i.invariant
 
 pub open_owner-m-requires-clause-o_bound : goal.open_owner-m-requires-clause-o_bound
 open_owner-m-requires-clause-o_bound c = opened_low c.loop-i.invariant (told_going c.if-m-ne0.false) c.loop-i-test.true c.at-o.ensures
-
-pub overflow_add-i : goal.overflow_add-i
-overflow_add-i c = omega (arith, opened_few c.loop-i.invariant, c.loop-i-test.true)
 
 pub loop-i-preserved : goal.loop-i-preserved
 loop-i-preserved c = opened_step c.loop-i.invariant (told_going c.if-m-ne0.false) c.loop-i-test.true c.at-o.ensures (search rules) c.open_owner-m.ensures

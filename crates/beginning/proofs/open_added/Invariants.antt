@@ -1,10 +1,6 @@
 -- `beginning::open_added` opens the added owners. The invariant: those passed are open.
-use Prim.Native.Nat.{◌-◌}
 use Rattle.beginning.proofs.Added.{Opened}
 use Rattle.beginning.proofs.open_added.Given as goal
 
 abbrev pub invariant-loop-i : goal.invariant-loop-i
 invariant-loop-i l = Opened l.l l.n l.initial.s l.m l.s l.i
-
-abbrev pub decreases-loop-i : goal.decreases-loop-i
-decreases-loop-i l = l.n.added - l.i

@@ -5,9 +5,6 @@ use Rattle.binary_encoding.proofs.gather_names.Goals as goal
 pub loop-i-init : goal.loop-i-init
 loop-i-init c = search (rules, gather_start)
 
-pub note_name-m-requires-clause-fits : goal.note_name-m-requires-clause-fits
-note_name-m-requires-clause-fits c = search (rules, gather_low)
-
 pub note_name-m-requires-clause-marked : goal.note_name-m-requires-clause-marked
 note_name-m-requires-clause-marked c = search (rules, gather_low)
 

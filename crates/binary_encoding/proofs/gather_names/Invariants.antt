@@ -1,10 +1,6 @@
 -- `binary_encoding::gather_names` gathers the flagged names of the named parts. The invariant: what is left of the list's making is the whole of it.
-use Prim.Native.Nat.{◌-◌}
 use Rattle.binary_encoding.proofs.Track.{Gathering}
 use Rattle.binary_encoding.proofs.gather_names.Given as goal
 
 abbrev pub invariant-loop-i : goal.invariant-loop-i
-invariant-loop-i l = Gathering l.k l.t l.joiners l.l l.n l.initial.s l.s l.m l.i
-
-abbrev pub decreases-loop-i : goal.decreases-loop-i
-decreases-loop-i l = l.n.named - l.i
+invariant-loop-i l = Gathering l.tables.counts l.tables.area.now l.joiners l.l l.n l.initial.s l.s l.m l.i

@@ -1,6 +1,5 @@
 -- `binary_encoding::join` lets a part join its name.
 use native.Mathlib.Omega.{arith}
-use Rattle.state.proofs.Sizes.{fits_same}
 use Rattle.encoder.proofs.Did.{told_full, told_going}
 use Rattle.binary_encoding.proofs.Joins.{count_is, count_few, helpers_few, named_can, named_can_add, named_new, join_stop, join_done}
 use Rattle.tracking.proofs.Steps.{of_some, of_any, some_named}
@@ -24,14 +23,8 @@ returns-then-a-ne0 c = join_stop _ _ _ _ _ _ _ _ _ _ _ _ _ c.requires.p_bound.2 
 pub returns : goal.returns
 returns c = join_done _ _ _ _ _ _ _ _ _ _ _ _ _ c.requires.p_bound.2 (count_is _ c.requires.good_of c.requires.p_bound.1 c.get-i.ensures) c.helpers_for-h.ensures c.name_join-a.ensures (of_any c.requires.good_of) c.requires.can_join.going (told_going c.if-a-ne0.false) c.join_named.ensures
 
-pub join_named-requires-clause-fits : goal.join_named-requires-clause-fits
-join_named-requires-clause-fits c = fits_same c.name_join-a.auto.s c.requires.fits
-
 pub join_named-requires-clause-good_some : goal.join_named-requires-clause-good_some
 join_named-requires-clause-good_some c = some_named (of_some c.requires.good_of) c.name_join-a.ensures
-
-pub join_named-requires-clause-long_enough : goal.join_named-requires-clause-long_enough
-join_named-requires-clause-long_enough c = c.requires.long_enough
 
 pub join_named-requires-clause-can_join : goal.join_named-requires-clause-can_join
 join_named-requires-clause-can_join c = named_can _ _ _ (of_any c.requires.good_of) c.requires.can_join c.name_join-a.ensures (told_going c.if-a-ne0.false)

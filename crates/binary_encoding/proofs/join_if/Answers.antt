@@ -14,7 +14,7 @@ pub returns : goal.returns
 returns c = join_new_law _ _ _ _ _ _ _ _ _ c.part_name.ensures (some_tracked (of_some c.requires.good_of)) c.contains.ensures c.if-part_name-name.false c.if-contains.false c.join.ensures
 
 pub join-requires-clause-p_bound : goal.join-requires-clause-p_bound
-join-requires-clause-p_bound c = (search rules, name_below c.args.k c.args.t.now c.args.p _ _ c.requires.names_low c.part_name.ensures c.if-part_name-name.false, name_is c.args.k c.args.t.now c.args.p _ _ c.part_name.ensures c.if-part_name-name.false)
+join-requires-clause-p_bound c = (search rules, name_below c.args.tables.now.counts c.args.tables.now.area.now c.args.p _ _ c.requires.names_low c.part_name.ensures c.if-part_name-name.false, name_is c.args.tables.now.counts c.args.tables.now.area.now c.args.p _ _ c.part_name.ensures c.if-part_name-name.false)
 
 pub join-requires-clause-s_value : goal.join-requires-clause-s_value
 join-requires-clause-s_value c = not_tracked c.args.n _ _ _ (some_tracked (of_some c.requires.good_of)) c.contains.ensures c.if-contains.false

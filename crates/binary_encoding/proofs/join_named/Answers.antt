@@ -12,9 +12,6 @@ returns c = track_done _ c.join_clauses-m.ensures c.push_tracked.ensures
 pub push_tracked-requires-clause-marked : goal.push_tracked-requires-clause-marked
 push_tracked-requires-clause-marked c = track_marked c.requires.good_some c.join_clauses-m.ensures
 
-pub push_tracked-requires-clause-p_bound : goal.push_tracked-requires-clause-p_bound
-push_tracked-requires-clause-p_bound c = (c.requires.can_add_part.low, c.requires.can_add_part.few, c.requires.can_add_part.named)
-
 pub push_tracked-requires-clause-i_value : goal.push_tracked-requires-clause-i_value
 push_tracked-requires-clause-i_value c = track_count c.requires.good_some c.join_clauses-m.ensures (told_going c.if-m-ne0.false) _ _ _ _ c.requires.can_add_part.count
 

@@ -1,10 +1,7 @@
 -- `binary_encoding::note_joiner` flags the name of a part that is not tracked.
 use borrow.Author.Rules.{rules}
-use Rattle.binary_encoding.proofs.Joiners.{joiner_passed, joiner_low, joiner_flagged}
+use Rattle.binary_encoding.proofs.Joiners.{joiner_low, joiner_flagged}
 use Rattle.binary_encoding.proofs.note_joiner.Goals as goal
-
-pub returns-then-contains : goal.returns-then-contains
-returns-then-contains c = search (rules, joiner_passed)
 
 pub returns : goal.returns
 returns c = search (rules, joiner_flagged)

@@ -13,4 +13,4 @@ pub returns : goal.returns
 returns c = search (rules, watched_all)
 
 pub loop-p-preserved : goal.loop-p-preserved
-loop-p-preserved c = elim c.if-chosen.branch [ then-chosen w ↦ watch_flag _ _ _ _ _ c.loop-p.invariant _ c.loop-p-test.true c.chosen.ensures c.next_chosen-p.ensures c.requires.catalogued.kept.held.laid.parts w.if-chosen.true w.besides.ensures w.watched-is | else-chosen w ↦ search (rules, watch_past) ]
+loop-p-preserved c = elim c.if-chosen.branch [ then-chosen w ↦ watch_flag _ _ _ _ _ c.loop-p.invariant _ c.loop-p-test.true c.chosen.ensures c.next_chosen-p.ensures c.args.catalogue.now.indexed.held.laid.parts w.if-chosen.true w.besides.ensures w.watched-is | else-chosen w ↦ search (rules, watch_past) ]

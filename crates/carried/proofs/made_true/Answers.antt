@@ -6,8 +6,8 @@ use Rattle.carried.proofs.made_true.Goals as goal
 pub returns-then-value-ne1 : goal.returns-then-value-ne1
 returns-then-value-ne1 c = search (rules, makes_value)
 
-pub returns-then-origin-ne1 : goal.returns-then-origin-ne1
-returns-then-origin-ne1 c = search (rules, makes_other)
+pub returns-in_default : goal.returns-in_default
+returns-in_default c = search (rules, makes_other)
 
-pub returns : goal.returns
-returns c = search (rules, makes_part)
+pub returns-in-Part : goal.returns-in-Part
+returns-in-Part c = search (rules, makes_part)

@@ -1,21 +1,16 @@
-use borrow.Author.Rules.{rules}
-use Rattle.catalogue.proofs.Steps.{left_start, left_next, left_less, left_sheet, left_refused, left_end}
+use Rattle.std.proofs.Common.{rules}
+use Rattle.std.proofs.lemmas.Result.{err_from_is_err_and}
+use Rattle.catalogue.proofs.Steps.{empty_is, start_given, start_sized, start_vacant, read_refused, read_up}
 use Rattle.catalogue.proofs.read_catalogue.Goals as goal
 
-pub loop-at-init : goal.loop-at-init
-loop-at-init c = search (rules, left_start)
+pub invariant_of-draft : goal.invariant_of-draft
+invariant_of-draft c = record { given = search (rules, start_given); sized = search (rules, start_sized); vacant = search (rules, start_vacant) }
 
-pub loop-at-smaller : goal.loop-at-smaller
-loop-at-smaller c = search (rules, left_less)
-
-pub loop-at-preserved : goal.loop-at-preserved
-loop-at-preserved c = search (rules, left_next)
-
-pub returns-in-Sheet : goal.returns-in-Sheet
-returns-in-Sheet c = search (rules, left_sheet)
-
-pub returns-in-Refused : goal.returns-in-Refused
-returns-in-Refused c = search (rules, left_refused)
+pub returns-in_err-at : goal.returns-in_err-at
+returns-in_err-at c =
+    let p = err_from_is_err_and c.from_residual.result c.from_residual.ensures.1 in
+    rw (p.1, p.2) (read_refused _ _ (empty_is _ _ _) _ _ _ _ c.in_err-at.ensures.records)
 
 pub returns : goal.returns
-returns c = search (rules, left_end)
+returns c =
+    read_up _ _ (empty_is _ _ _) _ _ _ _ c.read_records.new.draft c.in_ok-at.ensures.records _ (search rules) (search rules) (search rules) (search rules)

@@ -1,16 +1,31 @@
--- `catalogue::read_record` takes one step of the walks, or stops before the first sheet record.
-use borrow.Author.Rules.{rules}
-use Rattle.catalogue.proofs.Steps.{step_sheet, item_at, step_unread, step_command}
+use Rattle.std.proofs.lemmas.Result.{err_from_is_err_and}
+use Rattle.catalogue.proofs.Steps.{step_unknown, step_sheet, step_short, item_room, step_refused, step_entered}
 use Rattle.catalogue.proofs.read_record.Goals as goal
 
-pub returns-then-starts_sheet : goal.returns-then-starts_sheet
-returns-then-starts_sheet c = search (rules, step_sheet)
+pub returns-in_err-kind-clause-record : goal.returns-in_err-kind-clause-record
+returns-in_err-kind-clause-record c =
+    let p = err_from_is_err_and c.from_residual.result c.from_residual.ensures.1 in
+    rw (p.1, p.2) (step_unknown _ _ _ c.args.reader.inside _ c.in_err-kind.ensures)
 
-pub returns-in-Refused : goal.returns-in-Refused
-returns-in-Refused c = search (rules, step_unread)
+pub returns-in-Command-clause-record : goal.returns-in-Command-clause-record
+returns-in-Command-clause-record c = step_sheet _ _ _ c.args.reader.inside _ (rw c.in-Command.is at c.in_ok-kind.ensures)
 
-pub returns-in-Sheet : goal.returns-in-Sheet
-returns-in-Sheet c = search (rules, step_command)
+pub returns-in_err-next-in-Item-clause-record : goal.returns-in_err-next-in-Item-clause-record
+returns-in_err-next-in-Item-clause-record c =
+    let p = err_from_is_err_and c.from_residual-in_err-next-in-Item.result c.from_residual-in_err-next-in-Item.ensures.1 in
+    let e = rw c.in-Item.is at c.in_ok-kind.ensures in
+    rw (p.1, p.2) (step_short _ _ _ c.args.reader.inside _ e _ c.body_length.ensures _ c.in_err-next-in-Item.ensures)
 
-pub enter_run-requires-clause-item_at : goal.enter_run-requires-clause-item_at
-enter_run-requires-clause-item_at c = search (rules, item_at)
+pub add_item-requires-clause-room : goal.add_item-requires-clause-room
+add_item-requires-clause-room c = item_room _ _ _ _ _ c.body_length.ensures _ _ c.requires c.in_ok-next-in-Item.ensures
+
+pub returns-in_err-add_item-in-Item-clause-record : goal.returns-in_err-add_item-in-Item-clause-record
+returns-in_err-add_item-in-Item-clause-record c =
+    let p = err_from_is_err_and c.from_residual-in_err-add_item-in-Item.result c.from_residual-in_err-add_item-in-Item.ensures.1 in
+    let e = rw c.in-Item.is at c.in_ok-kind.ensures in
+    rw (p.1, p.2) (step_refused _ _ _ c.args.reader.inside _ e _ c.body_length.ensures _ _ c.requires c.in_ok-next-in-Item.ensures _ _ _ c.in_err-add_item-in-Item.ensures.entered)
+
+pub returns-in_ok-add_item-in-Item-clause-record : goal.returns-in_ok-add_item-in-Item-clause-record
+returns-in_ok-add_item-in-Item-clause-record c =
+    let e = rw c.in-Item.is at c.in_ok-kind.ensures in
+    step_entered _ _ _ c.args.reader.inside _ e _ c.body_length.ensures _ _ c.requires c.in_ok-next-in-Item.ensures _ _ _ c.in_ok-add_item-in-Item.ensures.entered

@@ -1,10 +1,10 @@
 -- `clause_lines::chosen_literal` prints the literal of a part that is chosen, and nothing for another. A chosen part has a variable.
 use borrow.Author.Rules.{rules}
-use Rattle.clause_lines.proofs.Parts.{in_tables_law, chosen_yes, chosen_no}
+use Rattle.clause_lines.proofs.Parts.{part_in_tables, chosen_yes, chosen_no}
 use Rattle.clause_lines.proofs.chosen_literal.Goals as goal
 
 pub variable_of-x-requires-clause-o_value : goal.variable_of-x-requires-clause-o_value
-variable_of-x-requires-clause-o_value c = search (rules, in_tables_law)
+variable_of-x-requires-clause-o_value c = part_in_tables _ _ _ _ _ c.args.catalogue.now.indexed c.requires.p_lt_parts
 
 pub returns-then-chosen : goal.returns-then-chosen
 returns-then-chosen c = search (rules, chosen_yes)

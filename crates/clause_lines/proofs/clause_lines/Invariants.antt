@@ -1,13 +1,13 @@
 -- `clause_lines::clause_lines` prints a line for each clause; past the room it stops. At first no literals stand anywhere.
+use Rattle.index.specs.Views.{catalogue_of}
 use Rattle.text.specs.Writing.{Writes}
 use Rattle.state.specs.Layout.{held}
 use Rattle.variable_map.specs.Mapping.{variables}
-use Rattle.cache.specs.Areas.{catalogue}
 use Rattle.line_fields.specs.Listed.{texts, clause_text, clauses_of}
 use Rattle.clause_lines.specs.Spans.{Stand}
 use Rattle.clause_lines.proofs.clause_lines.Given as goal
 
 abbrev pub invariant-loop-i : goal.invariant-loop-i
 invariant-loop-i l =
-    Writes l.initial.writer l.writer (texts (clause_text (catalogue l.k l.marks l.unions l.t) (clauses_of (catalogue l.k l.marks l.unions l.t) l.n (held l.l l.s) l.clauses)) l.i)
-    × Stand (catalogue l.k l.marks l.unions l.t) (variables l.n.variables (held l.l l.s)) l.spans l.writer
+    Writes l.initial.writer l.writer (texts (clause_text (catalogue_of l.catalogue) (clauses_of (catalogue_of l.catalogue) l.n (held l.l l.s) l.clauses)) l.i)
+    × Stand (catalogue_of l.catalogue) (variables l.n.variables (held l.l l.s)) l.spans l.writer

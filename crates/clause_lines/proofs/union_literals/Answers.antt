@@ -1,5 +1,5 @@
 use borrow.Author.Rules.{rules}
-use native.Mathlib.Omega.{arith}
+use Rattle.goals.proofs.Hand.{member_is}
 use Rattle.clause_lines.proofs.Copying.{none_text}
 use Rattle.clause_lines.proofs.Walks.{walking_start, walking_known, walking_step, walking_end, walking_over}
 use Rattle.clause_lines.proofs.union_literals.Goals as goal
@@ -17,13 +17,7 @@ pub returns-clause-wrote : goal.returns-clause-wrote
 returns-clause-wrote c = search (rules, walking_end)
 
 pub shared_range-requires-clause-all_known : goal.shared_range-requires-clause-all_known
-shared_range-requires-clause-all_known c = search (rules, walking_known)
-
-pub overflow_add-i : goal.overflow_add-i
-overflow_add-i c = omega (arith, c.loop-i-test.true, c.loop-i.invariant.0.ready.kept.held.laid.members)
-
-pub next_of-i-requires : goal.next_of-i-requires
-next_of-i-requires c = let held = c.loop-i.invariant.0.ready.kept.held in (held.laid.members, held.unions_fit, omega (arith, c.loop-i-test.true))
+shared_range-requires-clause-all_known c = walking_known c.loop-i.invariant.0 _ c.loop-i-test.true (member_is _ _ c.as_members.ensures.area c.as_members.ensures.count c.at-member.ensures)
 
 pub loop-i-preserved : goal.loop-i-preserved
 loop-i-preserved c = (search (rules, walking_step), search rules)

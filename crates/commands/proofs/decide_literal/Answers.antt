@@ -10,11 +10,11 @@ decide-requires-clause-fits c = search (rules, literal_free)
 pub decide-requires-clause-free : goal.decide-requires-clause-free
 decide-requires-clause-free c = search (rules, literal_free)
 
-pub returns-in-True : goal.returns-in-True
-returns-in-True c = search (rules, decided_again)
+pub returns-in-Some-true : goal.returns-in-Some-true
+returns-in-Some-true c = search (rules, decided_again)
 
-pub returns-in-False : goal.returns-in-False
-returns-in-False c = search (rules, decided_against_law)
+pub returns-in-Some-false : goal.returns-in-Some-false
+returns-in-Some-false c = search (rules, decided_against_law)
 
-pub returns-in-Undecided : goal.returns-in-Undecided
-returns-in-Undecided c = search (rules, decided_new)
+pub returns-in-None : goal.returns-in-None
+returns-in-None c = search (rules, decided_new)

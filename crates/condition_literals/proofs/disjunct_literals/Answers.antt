@@ -1,16 +1,27 @@
 use borrow.Author.Rules.{rules}
-use Rattle.firing.proofs.Required.{condition_given}
-use Rattle.condition_literals.proofs.Literals.{disjunct_there, collect_start, collect_given, collect_known, collect_step, collect_end}
+use Rattle.index.proofs.Given.{catalogued}
+use Rattle.goals.proofs.Decided.{carried}
+use Rattle.firing.proofs.Required.{has_condition, condition_given, there_in}
+use Rattle.condition_literals.proofs.Literals.{disjunct_there, ranges_are, few_carried, collect_start, collect_given, collect_known, collect_step, collect_end}
 use Rattle.condition_literals.proofs.disjunct_literals.Goals as goal
 
-pub disjunct_of-d-requires-clause-c_lt_conditions : goal.disjunct_of-d-requires-clause-c_lt_conditions
-disjunct_of-d-requires-clause-c_lt_conditions c = search (rules, condition_given)
+pub unwrap-condition-requires : goal.unwrap-condition-requires
+unwrap-condition-requires c = has_condition _ _ _ _ _ _ c.requirement_at-it.ensures (catalogued c.args.catalogue.now) c.requires.q_lt_requirements.0 c.requires.q_lt_requirements.1
 
-pub disjunct_of-d-requires-clause-i_in_bounds : goal.disjunct_of-d-requires-clause-i_in_bounds
-disjunct_of-d-requires-clause-i_in_bounds c = search (rules, disjunct_there)
+pub disjunct_of-disjunct-requires-clause-given : goal.disjunct_of-disjunct-requires-clause-given
+disjunct_of-disjunct-requires-clause-given c =
+    rw c.conditions.ensures
+    (condition_given _ _ _ _ _ _ c.requirement_at-it.ensures (catalogued c.args.catalogue.now) c.requires.q_lt_requirements.0 c.requires.q_lt_requirements.1 _ c.unwrap-condition.ensures)
 
-pub loop-j-init : goal.loop-j-init
-loop-j-init c = search (rules, collect_start)
+pub disjunct_of-disjunct-requires-clause-there : goal.disjunct_of-disjunct-requires-clause-there
+disjunct_of-disjunct-requires-clause-there c =
+    there_in _ _ c.conditions.ensures
+    (disjunct_there _ _ _ _ _ _ _ c.requirement_at-it.ensures (catalogued c.args.catalogue.now) c.requires.q_lt_requirements.0 c.requires.q_lt_requirements.1 _ c.unwrap-condition.ensures c.requires.q_lt_requirements.2)
+
+pub loop-range-init : goal.loop-range-init
+loop-range-init c =
+    collect_start _ _ _ _ _ _ _ c.requirement_at-it.ensures (catalogued c.args.catalogue.now) c.requires.q_lt_requirements.0 c.requires.q_lt_requirements.1 _ c.unwrap-condition.ensures
+    (carried _ _ c.conditions.ensures c.ranges-range-items.ensures c.disjunct_of-disjunct.ensures) _ (few_carried c.ranges-range-items.ensures c.disjunct_of-disjunct.ensures) c.requires.q_lt_requirements.2 c.requires.fits c.requires.good_state c.requires.disjunct_known
 
 pub range_literals-m-requires-clause-count_bound : goal.range_literals-m-requires-clause-count_bound
 range_literals-m-requires-clause-count_bound c = (search rules, search (rules, collect_given))
@@ -18,8 +29,11 @@ range_literals-m-requires-clause-count_bound c = (search rules, search (rules, c
 pub range_literals-m-requires-clause-range_known : goal.range_literals-m-requires-clause-range_known
 range_literals-m-requires-clause-range_known c = search (rules, collect_known)
 
-pub loop-j-preserved : goal.loop-j-preserved
-loop-j-preserved c = search (rules, collect_step)
+pub loop-range-preserved : goal.loop-range-preserved
+loop-range-preserved c = search (rules, collect_step)
 
 pub returns : goal.returns
-returns c = search (rules, collect_end)
+returns c =
+    collect_end c.loop-range.invariant
+    (ranges_are _ _ _ _ _ _ _ c.requirement_at-it.ensures (catalogued c.args.catalogue.now) c.requires.q_lt_requirements.0 c.requires.q_lt_requirements.1 _ c.unwrap-condition.ensures
+    (carried _ _ c.conditions.ensures c.ranges-range-items.ensures c.disjunct_of-disjunct.ensures)) c.loop-range-test.false

@@ -1,5 +1,4 @@
 -- `condition_literals::literals_false` tells whether the literals at hand are all decided false. The invariant: they are if those from place j on are.
-use Prim.Native.Nat.{◌-◌}
 use Rattle.state.specs.Layout.{held}
 use Rattle.decision_tracker.specs.Tracking.{decisions}
 use Rattle.condition_literals.proofs.Falsified.{Falsifying}
@@ -7,6 +6,3 @@ use Rattle.condition_literals.proofs.literals_false.Given as goal
 
 abbrev pub invariant-loop-j : goal.invariant-loop-j
 invariant-loop-j l = Falsifying (decisions l.n.decisions (held l.l l.s)) (held l.l l.s 19) l.n.literals l.count l.j
-
-abbrev pub decreases-loop-j : goal.decreases-loop-j
-decreases-loop-j l = l.count - l.j

@@ -1,11 +1,11 @@
 -- `condition_literals::part_literals` puts a range's non-matching parts behind them. The invariant: those before part p are there.
+use Rattle.index.specs.Views.{catalogue_of, counts_of}
 use Prim.Native.Nat.{◌-◌}
-use Rattle.cache.specs.Areas.{catalogue}
 use Rattle.condition_literals.proofs.Literals.{Going}
 use Rattle.condition_literals.proofs.part_literals.Given as goal
 
 abbrev pub invariant-loop-p : goal.invariant-loop-p
-invariant-loop-p l = Going (catalogue l.k l.marks l.unions l.t) l.r l.l l.n l.count l.initial.s l.s l.m l.p
+invariant-loop-p l = Going (catalogue_of l.catalogue) l.r l.l l.n l.count l.initial.s l.s l.m l.p
 
 abbrev pub decreases-loop-p : goal.decreases-loop-p
-decreases-loop-p l = l.k.parts - l.p
+decreases-loop-p l = (counts_of l.catalogue).parts - l.p

@@ -1,4 +1,5 @@
 -- `condition_literals::range_literals` puts the literals of a fired range behind them: its non-matching parts, or "not one-of-name".
+use Rattle.index.proofs.Given.{catalogued}
 use borrow.Author.Rules.{rules}
 use Rattle.firing.proofs.Given.{one_fits}
 use Rattle.condition_literals.proofs.Known.{range_parts}
@@ -15,4 +16,4 @@ pub returns : goal.returns
 returns c = search (rules, one_pushed)
 
 pub literal_of-literal-requires-clause-o_value : goal.literal_of-literal-requires-clause-o_value
-literal_of-literal-requires-clause-o_value c = (search (rules, one_fits), search (rules, one_known))
+literal_of-literal-requires-clause-o_value c = (one_fits _ _ _ _ _ (catalogued c.args.catalogue.now) c.requires.count_bound.1 c.range_name.ensures, search (rules, one_known))

@@ -3,9 +3,6 @@ use borrow.Author.Rules.{rules}
 use Rattle.decision_tracker.proofs.Laws.{room_for, decided}
 use Rattle.decision_tracker.proofs.decide.Goals as goal
 
-pub push_row-requires-clause-fits : goal.push_row-requires-clause-fits
-push_row-requires-clause-fits c = search (rules, room_for)
-
 pub push_row-requires-clause-d_lt_variables : goal.push_row-requires-clause-d_lt_variables
 push_row-requires-clause-d_lt_variables c = search (rules, room_for)
 

@@ -1,9 +1,6 @@
 use borrow.Author.Rules.{rules}
-use Rattle.decision_tracker.proofs.Laws.{undo_start, some_left, undo_step, undo_end}
+use Rattle.decision_tracker.proofs.Laws.{some_left, undo_step, undo_end}
 use Rattle.decision_tracker.proofs.undo.Goals as goal
-
-pub loop-l-init : goal.loop-l-init
-loop-l-init c = search (rules, undo_start)
 
 pub drop_last-k-requires-clause-d_nonzero : goal.drop_last-k-requires-clause-d_nonzero
 drop_last-k-requires-clause-d_nonzero c = search (rules, some_left)

@@ -1,10 +1,6 @@
 -- `entries::store` puts the first n records of a list in the place of those that wait. The invariant: the first i of them wait.
-use Prim.Native.Nat.{◌-◌}
 use Rattle.entries.proofs.Drain.{Storing}
 use Rattle.entries.proofs.store.Given as goal
 
 abbrev pub invariant-loop-i : goal.invariant-loop-i
-invariant-loop-i l = Storing l.l l.records l.n l.initial.w l.i l.w
-
-abbrev pub decreases-loop-i : goal.decreases-loop-i
-decreases-loop-i l = l.n - l.i
+invariant-loop-i l = Storing l.l l.records l.initial.w l.i l.w

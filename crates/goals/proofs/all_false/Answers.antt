@@ -1,9 +1,6 @@
 use borrow.Author.Rules.{rules}
-use Rattle.goals.proofs.Decided.{refute_start, refute_known, refute_step, refute_fails, refute_end}
+use Rattle.goals.proofs.Decided.{refute_known, refute_step, refute_fails, refute_end}
 use Rattle.goals.proofs.all_false.Goals as goal
-
-pub loop-j-init : goal.loop-j-init
-loop-j-init c = search (rules, refute_start)
 
 pub range_false-requires-clause-all_known : goal.range_false-requires-clause-all_known
 range_false-requires-clause-all_known c = search (rules, refute_known)

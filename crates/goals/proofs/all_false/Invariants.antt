@@ -1,6 +1,5 @@
 -- `goals::all_false` tells whether every candidate of the ranges at hand is decided false. The invariant: it is so of all if it is so from range j on.
-use Prim.Native.Nat.{◌-◌}
-use Rattle.cache.specs.Areas.{catalogue}
+use Rattle.index.specs.Views.{catalogue_of}
 use Rattle.state.specs.Layout.{held}
 use Rattle.variable_map.specs.Mapping.{variables}
 use Rattle.decision_tracker.specs.Tracking.{decisions}
@@ -8,7 +7,4 @@ use Rattle.goals.proofs.Decided.{Refuting}
 use Rattle.goals.proofs.all_false.Given as goal
 
 abbrev pub invariant-loop-j : goal.invariant-loop-j
-invariant-loop-j l = Refuting (catalogue l.k l.marks l.unions l.t) (variables l.n.variables (held l.l l.s)) (decisions l.n.decisions (held l.l l.s)) l.m (held l.l l.s) l.j
-
-abbrev pub decreases-loop-j : goal.decreases-loop-j
-decreases-loop-j l = l.m - l.j
+invariant-loop-j l = Refuting (catalogue_of l.catalogue) (variables l.n.variables (held l.l l.s)) (decisions l.n.decisions (held l.l l.s)) l.m (held l.l l.s) l.j

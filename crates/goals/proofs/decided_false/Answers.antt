@@ -1,16 +1,7 @@
 -- `goals::decided_false` tells whether a part's variable is decided false.
 use borrow.Author.Rules.{rules}
-use Rattle.goals.proofs.Decided.{part_in_tables, false_is}
+use Rattle.goals.proofs.Decided.{part_in_tables}
 use Rattle.goals.proofs.decided_false.Goals as goal
-
-pub variable_of-x-requires-clause-fits : goal.variable_of-x-requires-clause-fits
-variable_of-x-requires-clause-fits c = search (rules, part_in_tables)
-
-pub variable_of-x-requires-clause-mapped : goal.variable_of-x-requires-clause-mapped
-variable_of-x-requires-clause-mapped c = search (rules, part_in_tables)
 
 pub variable_of-x-requires-clause-o_value : goal.variable_of-x-requires-clause-o_value
 variable_of-x-requires-clause-o_value c = search (rules, part_in_tables)
-
-pub returns : goal.returns
-returns c = search (rules, false_is)

@@ -6,8 +6,8 @@ use Rattle.goals.proofs.decides_for.Goals as goal
 pub returns-then-not-decision : goal.returns-then-not-decision
 returns-then-not-decision c = search (rules, decides_false)
 
-pub returns-then-origin-ne1 : goal.returns-then-origin-ne1
-returns-then-origin-ne1 c = search (rules, decides_other)
+pub returns-in_default : goal.returns-in_default
+returns-in_default c = search (rules, decides_other)
 
-pub returns : goal.returns
-returns c = search (rules, decides_part)
+pub returns-in-Part : goal.returns-in-Part
+returns-in-Part c = search (rules, decides_part)

@@ -1,15 +1,15 @@
-use borrow.Author.Rules.{rules}
-use Rattle.goals.proofs.Decided.{hold_start, hold_step, hold_fails, hold_end}
+use Rattle.goals.proofs.Decided.{carried, hold_step, hold_fails, hold_end}
 use Rattle.goals.proofs.disjunct_holds.Goals as goal
 
-pub loop-j-init : goal.loop-j-init
-loop-j-init c = search (rules, hold_start)
+pub loop-range-preserved : goal.loop-range-preserved
+loop-range-preserved c =
+    hold_step c.loop-range.invariant (carried _ _ c.conditions.ensures c.ranges-range-items.ensures c.disjunct_of-disjunct.ensures) _
+    c.loop-range-test.true c.range_holds.ensures c.if-not-range_holds.false
 
-pub loop-j-preserved : goal.loop-j-preserved
-loop-j-preserved c = search (rules, hold_step)
-
-pub returns-else-range_holds : goal.returns-else-range_holds
-returns-else-range_holds c = search (rules, hold_fails)
+pub returns-then-not-range_holds : goal.returns-then-not-range_holds
+returns-then-not-range_holds c =
+    hold_fails c.loop-range.invariant (carried _ _ c.conditions.ensures c.ranges-range-items.ensures c.disjunct_of-disjunct.ensures) _
+    c.loop-range-test.true c.range_holds.ensures c.if-not-range_holds.true
 
 pub returns : goal.returns
-returns c = search (rules, hold_end)
+returns c = hold_end c.loop-range.invariant (carried _ _ c.conditions.ensures c.ranges-range-items.ensures c.disjunct_of-disjunct.ensures) c.loop-range-test.false

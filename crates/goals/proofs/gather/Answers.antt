@@ -3,17 +3,8 @@ use borrow.Author.Rules.{rules}
 use Rattle.goals.proofs.Hand.{range_given, union_given, gather_range, gather_union}
 use Rattle.goals.proofs.gather.Goals as goal
 
-pub note-requires-clause-fits : goal.note-requires-clause-fits
-note-requires-clause-fits c = search (rules, range_given)
-
 pub note-requires-clause-marked : goal.note-requires-clause-marked
 note-requires-clause-marked c = search (rules, range_given)
-
-pub gather_union-requires-clause-catalogued : goal.gather_union-requires-clause-catalogued
-gather_union-requires-clause-catalogued c = search (rules, union_given)
-
-pub gather_union-requires-clause-fits : goal.gather_union-requires-clause-fits
-gather_union-requires-clause-fits c = search (rules, union_given)
 
 pub gather_union-requires-clause-marked : goal.gather_union-requires-clause-marked
 gather_union-requires-clause-marked c = search (rules, union_given)

@@ -6,9 +6,6 @@ use Rattle.goals.proofs.range_false.Goals.{then-chosen+else-not-decided_false, e
 pub loop-p-init : goal.loop-p-init
 loop-p-init c = search (rules, deny_first)
 
-pub decided_false-requires-clause-mapped : goal.decided_false-requires-clause-mapped
-decided_false-requires-clause-mapped c = (search rules, search rules, search rules)
-
 pub decided_false-requires-clause-p_value : goal.decided_false-requires-clause-p_value
 decided_false-requires-clause-p_value c = search (rules, deny_known)
 

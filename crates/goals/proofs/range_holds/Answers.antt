@@ -12,8 +12,5 @@ returns-then-decided_true c = search (rules, seek_found)
 pub returns : goal.returns
 returns c = search (rules, seek_none)
 
-pub decided_true-requires-clause-mapped : goal.decided_true-requires-clause-mapped
-decided_true-requires-clause-mapped c = (search rules, search rules, search rules)
-
 pub loop-p-preserved : goal.loop-p-preserved
 loop-p-preserved c = elim c.if-chosen.branch [ then-chosen+else-decided_true w ↦ search (rules, seek_behind) | else-chosen w ↦ search (rules, seek_next) ]

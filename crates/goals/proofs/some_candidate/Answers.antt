@@ -1,9 +1,6 @@
 use borrow.Author.Rules.{rules}
-use Rattle.goals.proofs.Decided.{lack_start, lack_step, lack_found, lack_end}
+use Rattle.goals.proofs.Decided.{lack_step, lack_found, lack_end}
 use Rattle.goals.proofs.some_candidate.Goals as goal
-
-pub loop-j-init : goal.loop-j-init
-loop-j-init c = search (rules, lack_start)
 
 pub returns-then-matching_count-gt0 : goal.returns-then-matching_count-gt0
 returns-then-matching_count-gt0 c = search (rules, lack_found)

@@ -1,13 +1,8 @@
 -- `handling::add_all_fired` adds the clauses of the fired disjuncts. The invariant: the first j of them have theirs.
-use Prim.Native.Nat.{◌-◌}
-use Rattle.cache.specs.Areas.{catalogue}
+use Rattle.index.specs.Views.{catalogue_of}
 use Rattle.encoder.specs.Held.{run_of}
-use Rattle.firing.specs.Firing.{indices_in}
 use Rattle.handling.proofs.Steps.{Firing}
 use Rattle.handling.proofs.add_all_fired.Given as goal
 
-abbrev pub invariant-loop-j : goal.invariant-loop-j
-invariant-loop-j l = Firing (catalogue l.k l.marks l.unions l.t) l.l (run_of l.r) l.q l.ranges (indices_in l.is) l.initial.m l.initial.s l.initial.clauses l.m l.s l.clauses l.j
-
-abbrev pub decreases-loop-j : goal.decreases-loop-j
-decreases-loop-j l = l.is.len - l.j
+abbrev pub invariant-loop-index : goal.invariant-loop-index
+invariant-loop-index l = Firing (catalogue_of l.catalogue) l.l (run_of l.r) l.q l.ranges l.indices l.initial.m l.initial.s l.initial.clauses l.m l.s l.clauses l.index-index

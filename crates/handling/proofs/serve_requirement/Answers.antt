@@ -1,6 +1,5 @@
 -- `handling::serve_requirement` serves a requirement's task.
-use borrow.Author.Rules.{rules}
-use Rattle.state.proofs.Sizes.{fits_same}
+use Rattle.index.proofs.Given.{catalogued}
 use Rattle.firing.proofs.Required.{goal_given}
 use Rattle.handling.proofs.Steps.{hand_later}
 use Rattle.goals.proofs.Released.{good_hand}
@@ -8,52 +7,20 @@ use Rattle.handling.proofs.Serving.{gathered, requirement_served}
 use Rattle.handling.proofs.Settled.{settles_gathered}
 use Rattle.handling.proofs.serve_requirement.Goals as goal
 
-pub gather-ranges-requires-clause-catalogued : goal.gather-ranges-requires-clause-catalogued
-gather-ranges-requires-clause-catalogued c = c.requires.catalogued
-
-pub gather-ranges-requires-clause-fits : goal.gather-ranges-requires-clause-fits
-gather-ranges-requires-clause-fits c = c.requires.fits
-
-pub gather-ranges-requires-clause-marked : goal.gather-ranges-requires-clause-marked
-gather-ranges-requires-clause-marked c = c.requires.marked
-
 pub gather-ranges-requires-clause-goal_given : goal.gather-ranges-requires-clause-goal_given
-gather-ranges-requires-clause-goal_given c = goal_given _ _ _ _ _ _ c.requirement_at-it.ensures c.requires.catalogued c.requires.q_lt_requirements.0
-
-pub handle-m-requires-clause-catalogued : goal.handle-m-requires-clause-catalogued
-handle-m-requires-clause-catalogued c = let gathers = c.gather-ranges.ensures in
-    c.requires.catalogued
-
-pub handle-m-requires-clause-fits : goal.handle-m-requires-clause-fits
-handle-m-requires-clause-fits c = let gathers = c.gather-ranges.ensures in
-    fits_same (search rules) c.requires.fits
+gather-ranges-requires-clause-goal_given c = goal_given _ _ _ _ _ _ c.requirement_at-it.ensures (catalogued c.args.catalogue.now) c.requires.q_lt_requirements.0
 
 pub handle-m-requires-clause-good : goal.handle-m-requires-clause-good
 handle-m-requires-clause-good c = let gathers = c.gather-ranges.ensures in
     good_hand gathers.others c.requires.good
 
-pub handle-m-requires-clause-long_enough : goal.handle-m-requires-clause-long_enough
-handle-m-requires-clause-long_enough c = let gathers = c.gather-ranges.ensures in
-    c.requires.long_enough
-
-pub handle-m-requires-clause-q_lt_requirements : goal.handle-m-requires-clause-q_lt_requirements
-handle-m-requires-clause-q_lt_requirements c = let gathers = c.gather-ranges.ensures in
-    c.requires.q_lt_requirements
-
 pub handle-m-requires-clause-at_hand : goal.handle-m-requires-clause-at_hand
 handle-m-requires-clause-at_hand c = let gathers = c.gather-ranges.ensures in
     gathered _ _ _ _ _ _ c.requirement_at-it.ensures gathers
 
-pub handle-m-requires-clause-given_indices : goal.handle-m-requires-clause-given_indices
-handle-m-requires-clause-given_indices c = let gathers = c.gather-ranges.ensures in
-    c.requires.given_indices
-
 pub handle-m-requires-clause-settles : goal.handle-m-requires-clause-settles
 handle-m-requires-clause-settles c = let gathers = c.gather-ranges.ensures in
     λ e. settles_gathered gathers.others (c.requires.settles e)
-
-pub release-requires-clause-fits : goal.release-requires-clause-fits
-release-requires-clause-fits c = fits_same (search rules) c.requires.fits
 
 pub release-requires-clause-marked : goal.release-requires-clause-marked
 release-requires-clause-marked c = (hand_later c.handle-m.ensures (good_hand c.gather-ranges.ensures.others c.requires.good) (gathered _ _ _ _ _ _ c.requirement_at-it.ensures c.gather-ranges.ensures)).marked

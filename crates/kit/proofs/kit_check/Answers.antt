@@ -1,7 +1,6 @@
 -- `kit::kit_check` answers as `check_answer` says, and each of the six areas is zero afterwards.
-use borrow.Author.Rules.{rules}
 use Rattle.kit.proofs.Checking.{served}
 use Rattle.kit.proofs.kit_check.Goals as goal
 
 pub returns : goal.returns
-returns c = search (rules, served)
+returns c = served _ _ _ _ _ _ _ _ _ _ _ _ _ _ _ _ _ _ _ c.lent.ensures c.clear_three.ensures.0 c.clear_three.ensures.1 c.clear_three.ensures.2 c.check_within.ensures

@@ -4,7 +4,7 @@ use Rattle.kit.proofs.Running.{ran}
 use Rattle.kit.proofs.kit_run.Goals as goal
 
 pub returns : goal.returns
-returns c = ran _ _ _ _ _ _ _ _ _ _ _ _ _ _ _ _ _ _ _ _ c.run_within-answer.ensures
+returns c = ran _ _ _ _ _ _ _ _ _ _ _ _ _ _ _ _ _ _ _ _ _ c.lent.ensures c.run_within-answer.ensures
     (still_zeroed c.clear_three.ensures.0 c.run_within-answer.auto.marks)
     (still_zeroed c.clear_three.ensures.1 c.run_within-answer.auto.unions)
     (still_zeroed c.clear_three.ensures.2 c.run_within-answer.auto.t)

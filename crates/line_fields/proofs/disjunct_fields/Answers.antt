@@ -1,13 +1,13 @@
 use borrow.Author.Rules.{rules}
-use Rattle.line_fields.proofs.Printing.{printing_start, printing_step, printing_end}
-use Rattle.line_fields.proofs.Numbers.{number_text_law}
+use Rattle.line_fields.proofs.Printing.{printing_start, printing_step}
+use Rattle.line_fields.proofs.Numbers.{number_text_law, numbers_end}
 use Rattle.line_fields.proofs.disjunct_fields.Goals as goal
 
-pub loop-j-init : goal.loop-j-init
-loop-j-init c = search (rules, printing_start)
+pub loop-range-init : goal.loop-range-init
+loop-range-init c = search (rules, printing_start)
 
-pub loop-j-preserved : goal.loop-j-preserved
-loop-j-preserved c = search (rules, printing_step, number_text_law)
+pub loop-range-preserved : goal.loop-range-preserved
+loop-range-preserved c = search (rules, printing_step, number_text_law)
 
 pub returns : goal.returns
-returns c = search (rules, printing_end)
+returns c = search (rules, numbers_end)

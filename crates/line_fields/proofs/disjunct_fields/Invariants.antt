@@ -3,5 +3,5 @@ use Rattle.text.specs.Writing.{Writes}
 use Rattle.line_fields.specs.Listed.{texts, number_text}
 use Rattle.line_fields.proofs.disjunct_fields.Given as goal
 
-abbrev pub invariant-loop-j : goal.invariant-loop-j
-invariant-loop-j l = Writes l.initial.writer l.writer (texts (number_text l.d.ranges) l.j)
+abbrev pub invariant-loop-range : goal.invariant-loop-range
+invariant-loop-range l = Writes l.initial.writer l.writer (texts (number_text l.range-items) l.range-index)

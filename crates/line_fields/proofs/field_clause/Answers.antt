@@ -3,8 +3,8 @@ use borrow.Author.Rules.{rules}
 use Rattle.line_fields.proofs.Fields.{clause_none, clause_some}
 use Rattle.line_fields.proofs.field_clause.Goals as goal
 
-pub returns-then-clause-eq0 : goal.returns-then-clause-eq0
-returns-then-clause-eq0 c = search (rules, clause_none)
+pub returns-in-None : goal.returns-in-None
+returns-in-None c = search (rules, clause_none)
 
-pub returns-else-clause-eq0 : goal.returns-else-clause-eq0
-returns-else-clause-eq0 c = search (rules, clause_some)
+pub returns-in-Some : goal.returns-in-Some
+returns-in-Some c = search (rules, clause_some)

@@ -3,8 +3,8 @@ use borrow.Author.Rules.{rules}
 use Rattle.line_fields.proofs.Fields.{owner_root, owner_part}
 use Rattle.line_fields.proofs.field_owner.Goals as goal
 
-pub returns-then-o-root : goal.returns-then-o-root
-returns-then-o-root c = search (rules, owner_root)
+pub returns-in-Root : goal.returns-in-Root
+returns-in-Root c = search (rules, owner_root)
 
-pub returns-else-o-root : goal.returns-else-o-root
-returns-else-o-root c = search (rules, owner_part)
+pub returns-in-Part : goal.returns-in-Part
+returns-in-Part c = search (rules, owner_part)

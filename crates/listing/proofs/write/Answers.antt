@@ -2,17 +2,11 @@
 use borrow.Author.Rules.{rules}
 use native.Mathlib.Omega.{arith}
 use Rattle.text.proofs.Writing.{same_reference}
-use Rattle.listing.proofs.Whole.{made_ready, good_rows, decisions_fit, waiting_long, whole}
+use Rattle.listing.proofs.Whole.{good_rows, decisions_fit, waiting_long, whole}
 use Rattle.listing.proofs.write.Goals as goal
-
-pub first_half-requires-clause-ready : goal.first_half-requires-clause-ready
-first_half-requires-clause-ready c = search (rules, made_ready)
 
 pub first_half-requires-clause-good_rows : goal.first_half-requires-clause-good_rows
 first_half-requires-clause-good_rows c = search (rules, good_rows)
-
-pub second_half-requires-clause-ready : goal.second_half-requires-clause-ready
-second_half-requires-clause-ready c = search (rules, made_ready)
 
 pub second_half-requires-clause-good_rows : goal.second_half-requires-clause-good_rows
 second_half-requires-clause-good_rows c = search (rules, good_rows)

@@ -5,8 +5,8 @@ use Rattle.names.proofs.locked_part.Goals as goal
 pub loop-p-init : goal.loop-p-init
 loop-p-init c = search (rules, locked_first)
 
-pub returns-then-selected : goal.returns-then-selected
-returns-then-selected c = search (rules, locked_found)
+pub returns-then-selects : goal.returns-then-selects
+returns-then-selects c = search (rules, locked_found)
 
 pub returns : goal.returns
 returns c = search (rules, locked_end)

@@ -1,10 +1,6 @@
 -- `names::name_parts`: the parts that a name's clauses are for get their variables.
-use Rattle.encoder.proofs.Steps.{alone_after}
 use Rattle.names.proofs.Serving.{parts_named}
 use Rattle.names.proofs.name_parts.Goals as goal
-
-pub name_each-requires-clause-good_alone : goal.name_each-requires-clause-good_alone
-name_each-requires-clause-good_alone c = alone_after c.name_locked-b.ensures (alone_after c.serve_several-a.ensures c.requires.good_alone)
 
 pub returns : goal.returns
 returns c = parts_named _ c.requires.good_alone c.serve_several-a.ensures c.name_locked-b.ensures c.name_each.ensures

@@ -1,8 +1,7 @@
 -- `naming::all_candidates`. The invariant: the candidates of the first j ranges at hand are named.
-use Prim.Native.Nat.{◌-◌}
+use Rattle.index.specs.Views.{catalogue_of}
 use Rattle.rules.specs.Lists.{fold}
 use Rattle.rules.specs.Candidates.{sorted}
-use Rattle.cache.specs.Areas.{catalogue}
 use Rattle.state.specs.Layout.{held}
 use Rattle.marked.specs.Marked.{listed}
 use Rattle.parts.specs.declared.Naming.TheVariants.{Candidate}
@@ -11,7 +10,4 @@ use Rattle.naming.proofs.Loops.{Passed}
 use Rattle.naming.proofs.all_candidates.Given as goal
 
 abbrev pub invariant-loop-j : goal.invariant-loop-j
-invariant-loop-j l = Passed (catalogue l.k l.marks l.unions l.t) l.l (λ r. fold (naming_of (catalogue l.k l.marks l.unions l.t) Candidate) (sorted (catalogue l.k l.marks l.unions l.t) r)) (listed l.ranges 14 (held l.l l.initial.s)) l.initial.m l.initial.s l.m l.s l.j
-
-abbrev pub decreases-loop-j : goal.decreases-loop-j
-decreases-loop-j l = l.ranges - l.j
+invariant-loop-j l = Passed (catalogue_of l.catalogue) l.l (λ r. fold (naming_of (catalogue_of l.catalogue) Candidate) (sorted (catalogue_of l.catalogue) r)) (listed l.ranges 14 (held l.l l.initial.s)) l.initial.m l.initial.s l.m l.s l.j

@@ -1,11 +1,7 @@
 -- `naming::first_candidates`. The invariant: of the first j ranges at hand one candidate of each name is named.
-use Prim.Native.Nat.{◌-◌}
-use Rattle.cache.specs.Areas.{catalogue}
+use Rattle.index.specs.Views.{catalogue_of}
 use Rattle.naming.proofs.Firsts.{FirstsPassed}
 use Rattle.naming.proofs.first_candidates.Given as goal
 
 abbrev pub invariant-loop-j : goal.invariant-loop-j
-invariant-loop-j l = FirstsPassed (catalogue l.k l.marks l.unions l.t) l.l l.ranges l.initial.m l.initial.s l.m l.s l.seen l.j
-
-abbrev pub decreases-loop-j : goal.decreases-loop-j
-decreases-loop-j l = l.ranges - l.j
+invariant-loop-j l = FirstsPassed (catalogue_of l.catalogue) l.l l.ranges l.initial.m l.initial.s l.m l.s l.seen l.j

@@ -1,29 +1,35 @@
+use Rattle.index.proofs.Given.{catalogued}
+use mathlib.Core.Path.{refl}
 use borrow.Author.Rules.{rules}
-use Rattle.state.proofs.Sizes.{fits_same}
-use Rattle.naming.proofs.Loops.{pass_start}
-use Rattle.naming.proofs.Disjuncts.{ranges_step, its_condition, index_given, its_range, disjunct_end}
+use Rattle.goals.proofs.Decided.{carried}
+use Rattle.firing.proofs.Required.{has_condition, there_in}
+use Rattle.naming.proofs.Loops.{pass_start, pass_step}
+use Rattle.naming.proofs.Disjuncts.{its_condition, index_given, its_range, disjunct_end}
 use Rattle.naming.proofs.name_disjunct.Goals as goal
 
-pub disjunct_of-d-requires-clause-c_lt_conditions : goal.disjunct_of-d-requires-clause-c_lt_conditions
-disjunct_of-d-requires-clause-c_lt_conditions c = its_condition _ _ _ _ _ _ _ c.requirement_at-it.ensures c.requires.catalogued c.requires.q_lt_requirements
+pub unwrap-condition-requires : goal.unwrap-condition-requires
+unwrap-condition-requires c = has_condition _ _ _ _ _ _ c.requirement_at-it.ensures (catalogued c.args.catalogue.now) c.requires.q_lt_requirements.0 c.requires.q_lt_requirements.1
 
-pub disjunct_of-d-requires-clause-i_in_bounds : goal.disjunct_of-d-requires-clause-i_in_bounds
-disjunct_of-d-requires-clause-i_in_bounds c = index_given _ _ _ _ _ _ _ c.requirement_at-it.ensures c.requires.catalogued c.requires.q_lt_requirements
+pub disjunct_of-disjunct-requires-clause-given : goal.disjunct_of-disjunct-requires-clause-given
+disjunct_of-disjunct-requires-clause-given c =
+    rw c.conditions.ensures (its_condition _ _ _ _ _ _ _ c.requirement_at-it.ensures (catalogued c.args.catalogue.now) c.requires.q_lt_requirements _ c.unwrap-condition.ensures)
 
-pub loop-j-init : goal.loop-j-init
-loop-j-init c = pass_start c.requires.good_alone
+pub disjunct_of-disjunct-requires-clause-there : goal.disjunct_of-disjunct-requires-clause-there
+disjunct_of-disjunct-requires-clause-there c =
+    there_in _ _ c.conditions.ensures (index_given _ _ _ _ _ _ _ c.requirement_at-it.ensures (catalogued c.args.catalogue.now) c.requires.q_lt_requirements _ c.unwrap-condition.ensures)
 
-pub name_range-m-requires-clause-fits : goal.name_range-m-requires-clause-fits
-name_range-m-requires-clause-fits c = fits_same c.loop-j.invariant.same c.requires.fits
-
-pub name_range-m-requires-clause-good_alone : goal.name_range-m-requires-clause-good_alone
-name_range-m-requires-clause-good_alone c = c.loop-j.invariant.alone
+pub loop-range-init : goal.loop-range-init
+loop-range-init c = pass_start c.requires.good_alone
 
 pub name_range-m-requires-clause-r_lt_ranges : goal.name_range-m-requires-clause-r_lt_ranges
-name_range-m-requires-clause-r_lt_ranges c = its_range _ _ _ _ _ _ _ c.requirement_at-it.ensures c.requires.catalogued c.requires.q_lt_requirements c.disjunct_of-d.ensures _ c.loop-j-test.true
+name_range-m-requires-clause-r_lt_ranges c =
+    its_range _ _ _ _ _ _ _ c.requirement_at-it.ensures (catalogued c.args.catalogue.now) c.requires.q_lt_requirements _ c.unwrap-condition.ensures
+    (carried _ _ c.conditions.ensures c.ranges-range-items.ensures c.disjunct_of-disjunct.ensures) _ c.loop-range-test.true
 
-pub loop-j-preserved : goal.loop-j-preserved
-loop-j-preserved c = ranges_step c.loop-j.invariant c.disjunct_of-d.ensures c.loop-j-test.true (search rules) c.name_range-m.ensures
+pub loop-range-preserved : goal.loop-range-preserved
+loop-range-preserved c = pass_step c.loop-range.invariant _ refl c.loop-range-test.true (search rules) c.name_range-m.ensures
 
 pub returns : goal.returns
-returns c = disjunct_end _ _ _ _ _ _ _ c.requirement_at-it.ensures c.requires.catalogued c.requires.q_lt_requirements c.disjunct_of-d.ensures c.loop-j.invariant c.loop-j-test.false
+returns c =
+    disjunct_end _ _ _ _ _ _ _ c.requirement_at-it.ensures (catalogued c.args.catalogue.now) c.requires.q_lt_requirements _ c.unwrap-condition.ensures
+    (carried _ _ c.conditions.ensures c.ranges-range-items.ensures c.disjunct_of-disjunct.ensures) c.loop-range.invariant c.loop-range-test.false

@@ -1,13 +1,8 @@
 -- `naming::name_disjunct`. The invariant: the disjunct's first j ranges have their variables.
-use Prim.Native.Nat.{◌-◌}
-use Rattle.conditions.specs.Sizes.{ranges_of}
-use Rattle.cache.specs.Areas.{catalogue}
+use Rattle.index.specs.Views.{catalogue_of}
 use Rattle.naming.specs.Naming.{name_range}
 use Rattle.naming.proofs.Loops.{Passed}
 use Rattle.naming.proofs.name_disjunct.Given as goal
 
-abbrev pub invariant-loop-j : goal.invariant-loop-j
-invariant-loop-j l = Passed (catalogue l.k l.marks l.unions l.t) l.l (name_range (catalogue l.k l.marks l.unions l.t)) (ranges_of l.d) l.initial.m l.initial.s l.m l.s l.j
-
-abbrev pub decreases-loop-j : goal.decreases-loop-j
-decreases-loop-j l = l.d.len - l.j
+abbrev pub invariant-loop-range : goal.invariant-loop-range
+invariant-loop-range l = Passed (catalogue_of l.catalogue) l.l (name_range (catalogue_of l.catalogue)) l.range-items l.initial.m l.initial.s l.m l.s l.range-index

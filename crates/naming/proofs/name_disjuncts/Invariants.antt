@@ -1,15 +1,10 @@
 -- `naming::name_disjuncts`. The invariant: the ranges of the first j disjuncts have their variables.
-use Prim.Native.Nat.{◌-◌}
+use Rattle.index.specs.Views.{catalogue_of}
 use Rattle.rules.specs.Lists.{fold}
 use Rattle.rules.specs.Conditions.{disjunct_at}
-use Rattle.cache.specs.Areas.{catalogue}
-use Rattle.firing.specs.Firing.{indices_in}
 use Rattle.naming.specs.Naming.{name_range}
 use Rattle.naming.proofs.Loops.{Passed}
 use Rattle.naming.proofs.name_disjuncts.Given as goal
 
-abbrev pub invariant-loop-j : goal.invariant-loop-j
-invariant-loop-j l = Passed (catalogue l.k l.marks l.unions l.t) l.l (λ i. fold (name_range (catalogue l.k l.marks l.unions l.t)) (disjunct_at (catalogue l.k l.marks l.unions l.t) l.q i)) (indices_in l.is) l.initial.m l.initial.s l.m l.s l.j
-
-abbrev pub decreases-loop-j : goal.decreases-loop-j
-decreases-loop-j l = l.is.len - l.j
+abbrev pub invariant-loop-index : goal.invariant-loop-index
+invariant-loop-index l = Passed (catalogue_of l.catalogue) l.l (λ i. fold (name_range (catalogue_of l.catalogue)) (disjunct_at (catalogue_of l.catalogue) l.q i)) l.indices l.initial.m l.initial.s l.m l.s l.index-index

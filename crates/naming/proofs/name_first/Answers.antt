@@ -4,12 +4,9 @@ use mathlib.Core.Path.{refl}
 use Rattle.naming.proofs.Firsts.{first_named, none_named}
 use Rattle.naming.proofs.name_first.Goals as goal
 
-pub name_for_tracking-requires-clause-several_bound : goal.name_for_tracking-requires-clause-several_bound
-name_for_tracking-requires-clause-several_bound c = (c.requires.good_alone.good.state.several, c.requires.good_alone.good.state.named, search rules)
-
-pub returns-then-p-k : goal.returns-then-p-k
-returns-then-p-k c = let p = c.requires.name_value in
-    first_named _ _ _ _ _ _ p.0 _ p.1 refl c.first_candidate-p.ensures (search rules) c.see.ensures c.name_for_tracking.ensures
+pub returns-then-p-catalogue : goal.returns-then-p-catalogue
+returns-then-p-catalogue c = let p = c.requires.name_value in
+    first_named _ _ _ _ _ _ p.0 _ p.1 refl c.first_candidate-p.ensures (search rules) c.see.ensures (c.name_for_tracking.ensures _ _)
 
 pub returns : goal.returns
 returns c = let p = c.requires.name_value in none_named _ _ _ _ _ _ p.0 _ p.1 refl c.first_candidate-p.ensures (search rules)

@@ -1,10 +1,6 @@
 -- `opening::is_several` looks through the names. The invariant: none of those passed is the one.
-use Prim.Native.Nat.{◌-◌}
 use Rattle.opening.proofs.Several.{Sought}
 use Rattle.opening.proofs.is_several.Given as goal
 
 abbrev pub invariant-loop-i : goal.invariant-loop-i
 invariant-loop-i l = Sought l.l l.s l.name l.count l.i
-
-abbrev pub decreases-loop-i : goal.decreases-loop-i
-decreases-loop-i l = l.count - l.i

@@ -6,17 +6,17 @@ use Rattle.opening.proofs.Tracking.{part_free, tracking_full, tracking_again, tr
 use Rattle.opening.proofs.name_for_tracking.Goals as goal
 
 pub returns-then-n-ne0 : goal.returns-then-n-ne0
-returns-then-n-ne0 c = tracking_full _ _ _ _ (told_full c.if-n-ne0.true)
+returns-then-n-ne0 c = λ m u. tracking_full _ _ _ _ (told_full c.if-n-ne0.true)
 
 pub returns-then-contains : goal.returns-then-contains
-returns-then-contains c = tracking_again _ _ _ _ c.requires.several_bound.1 c.contains.ensures c.if-contains.true
+returns-then-contains c = λ m u. tracking_again _ _ _ _ c.requires.several_bound.1 c.contains.ensures c.if-contains.true
 
 pub returns-then-is_several : goal.returns-then-is_several
-returns-then-is_several c = tracking_several _ _ _ _ c.requires.several_bound.1 c.contains.ensures c.is_several.ensures
+returns-then-is_several c = λ m u. tracking_several _ _ _ _ c.requires.several_bound.1 c.contains.ensures c.is_several.ensures
     (c.part_name-name.ensures ∙ sym (part_name_held _ _ _ _ _)) c.if-is_several.true
 
 pub returns : goal.returns
-returns c = tracking_new _ _ _ _ c.requires.several_bound.1 c.contains.ensures c.is_several.ensures
+returns c = λ m u. tracking_new _ _ _ _ c.requires.several_bound.1 c.contains.ensures c.is_several.ensures
     (c.part_name-name.ensures ∙ sym (part_name_held _ _ _ _ _)) c.if-contains.false c.if-is_several.false c.push-named.ensures
 
 pub push-named-requires : goal.push-named-requires

@@ -7,8 +7,8 @@ use Rattle.opening.proofs.name_variable.Goals as goal
 pub returns-then-n-ne0 : goal.returns-then-n-ne0
 returns-then-n-ne0 c = variable_full _ _ _ (told_full c.if-n-ne0.true)
 
-pub returns-in-Variable : goal.returns-in-Variable
-returns-in-Variable c = variable_named _ _ (named_made c.name.ensures c.in-Variable.is)
+pub returns-in-Some : goal.returns-in-Some
+returns-in-Some c = variable_named _ _ (named_made c.name.ensures c.in-Some.is)
 
-pub returns-in-Full : goal.returns-in-Full
-returns-in-Full c = variable_lacking _ _ (c.name.ensures.lacking c.in-Full.is) c.filled.ensures
+pub returns-in-None : goal.returns-in-None
+returns-in-None c = variable_lacking _ _ (c.name.ensures.lacking c.in-None.is) c.filled.ensures

@@ -10,4 +10,4 @@ pub returns-then-n-l : goal.returns-then-n-l
 returns-then-n-l c = queue_more c.push-tail.ensures c.if-n-l.true
 
 pub returns : goal.returns
-returns c = queue_over _ _ c.requires c.if-n-l.false c.filled.ensures
+returns c = queue_over _ _ c.requires.0 c.if-n-l.false c.filled.ensures

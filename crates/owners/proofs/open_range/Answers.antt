@@ -3,12 +3,6 @@ use borrow.Author.Rules.{rules}
 use Rattle.owners.proofs.Names.{range_low, range_opened}
 use Rattle.owners.proofs.open_range.Goals as goal
 
-pub open_name-requires-clause-fits : goal.open_name-requires-clause-fits
-open_name-requires-clause-fits c = search (rules, range_low)
-
-pub open_name-requires-clause-marked : goal.open_name-requires-clause-marked
-open_name-requires-clause-marked c = search (rules, range_low)
-
 pub open_name-requires-clause-name_bound : goal.open_name-requires-clause-name_bound
 open_name-requires-clause-name_bound c = search (rules, range_low)
 

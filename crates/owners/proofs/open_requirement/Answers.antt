@@ -1,31 +1,17 @@
 -- `owners::open_requirement` opens the names of an owner's unconditional requirement.
-use borrow.Author.Rules.{rules}
-use Rattle.owners.proofs.Records.{required_owner, required_goal, open_other, open_conditional, open_own}
+use Rattle.owners.proofs.Records.{required_goal, open_other, open_conditional, open_own}
 use Rattle.owners.proofs.open_requirement.Goals as goal
+use Rattle.owners.proofs.open_requirement.Goals.{then-ne-via-then-ne, then-ne-via-else-ne+then-is_some}
 
-pub owner_number-requires : goal.owner_number-requires
-owner_number-requires c = search (rules, required_owner)
-
-pub returns-then-owner_number-o : goal.returns-then-owner_number-o
-returns-then-owner_number-o c = open_other _ _ _ _ _ _ c.requirement_at-it.ensures _ _ c.owner_number.ensures c.if-owner_number-o.true
-
-pub returns-then-it : goal.returns-then-it
-returns-then-it c = open_conditional _ _ _ _ _ _ c.requirement_at-it.ensures _ _ c.owner_number.ensures c.if-it.true
+pub returns-then-ne : goal.returns-then-ne
+returns-then-ne c =
+    elim c.then-ne.branch [
+      | then-ne-via-then-ne w ↦ open_other _ _ _ _ _ _ c.requirement_at-it.ensures _ _ c.ne.ensures w.if-ne.true
+      | then-ne-via-else-ne+then-is_some w ↦ open_conditional _ _ _ _ _ _ c.requirement_at-it.ensures _ _ c.ne.ensures w.is_some.ensures w.if-is_some.true
+    ]
 
 pub returns : goal.returns
-returns c = open_own _ _ _ _ _ _ c.requirement_at-it.ensures _ _ c.owner_number.ensures c.if-owner_number-o.false c.if-it.false c.open_goal.ensures
-
-pub open_goal-requires-clause-indexed : goal.open_goal-requires-clause-indexed
-open_goal-requires-clause-indexed c = c.requires.indexed
-
-pub open_goal-requires-clause-well_formed : goal.open_goal-requires-clause-well_formed
-open_goal-requires-clause-well_formed c = c.requires.well_formed
-
-pub open_goal-requires-clause-fits : goal.open_goal-requires-clause-fits
-open_goal-requires-clause-fits c = c.requires.fits
-
-pub open_goal-requires-clause-good_alone : goal.open_goal-requires-clause-good_alone
-open_goal-requires-clause-good_alone c = c.requires.good_alone
+returns c = open_own _ _ _ _ _ _ c.requirement_at-it.ensures _ _ c.ne.ensures c.if-ne.false c.is_some.ensures c.if-is_some.false c.open_goal.ensures
 
 pub open_goal-requires-clause-goal_given : goal.open_goal-requires-clause-goal_given
-open_goal-requires-clause-goal_given c = required_goal _ _ _ _ _ _ c.requirement_at-it.ensures c.requires.well_formed c.requires.q_lt_requirements.0
+open_goal-requires-clause-goal_given c = required_goal _ _ _ _ _ _ c.requirement_at-it.ensures c.args.catalogue.now.formed c.requires.q_lt_requirements

@@ -1,4 +1,5 @@
 -- `owners::open_union` goes along a union's ranges. The invariant: the names of those passed are opened.
+use Rattle.index.specs.Views.{counts_of}
 use mathlib.Core.Path.{◌≡◌}
 use Prim.Native.Nat.{◌-◌}
 use lib.ListN.{length}
@@ -7,7 +8,7 @@ use Rattle.owners.proofs.Names.{Opened}
 use Rattle.owners.proofs.open_union.Given as goal
 
 abbrev pub invariant-loop-i : goal.invariant-loop-i
-invariant-loop-i l = (length l.s ≡ length l.initial.s) × Opened l.k l.marks l.unions l.t l.l l.u l.initial.m (held l.l l.initial.s) l.i l.m (held l.l l.s)
+invariant-loop-i l = (length l.s ≡ length l.initial.s) × Opened (counts_of l.catalogue) l.catalogue.index.areas.marks.now l.catalogue.index.areas.unions.now l.catalogue.index.areas.tables.area.now l.l l.u l.initial.m (held l.l l.initial.s) l.i l.m (held l.l l.s)
 
 abbrev pub decreases-loop-i : goal.decreases-loop-i
-decreases-loop-i l = l.k.members - l.i
+decreases-loop-i l = (counts_of l.catalogue).members - l.i

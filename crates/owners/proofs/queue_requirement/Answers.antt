@@ -1,16 +1,14 @@
--- `owners::queue_requirement` queues an owner's requirement, or its condition.
-use borrow.Author.Rules.{rules}
-use Rattle.owners.proofs.Records.{required_owner, queue_other, queue_direct, queue_conditional}
+-- `owners::queue_requirement` queues an owner's requirement.
+use Rattle.owners.proofs.Records.{queue_other, queue_direct, queue_conditional}
 use Rattle.owners.proofs.queue_requirement.Goals as goal
+use Rattle.owners.proofs.queue_requirement.Goals.{in-None, in-Some}
 
-pub owner_number-requires : goal.owner_number-requires
-owner_number-requires c = search (rules, required_owner)
-
-pub returns-then-owner_number-o : goal.returns-then-owner_number-o
-returns-then-owner_number-o c = queue_other _ _ _ _ _ _ c.requirement_at-it.ensures _ _ c.owner_number.ensures c.if-owner_number-o.true
-
-pub returns-then-it : goal.returns-then-it
-returns-then-it c = queue_direct _ _ _ _ _ _ c.requirement_at-it.ensures _ _ c.owner_number.ensures c.if-owner_number-o.false c.requires.indexed c.requires.q_lt_requirements.0 c.if-it.true c.queue.ensures
+pub returns-then-ne : goal.returns-then-ne
+returns-then-ne c = queue_other _ _ _ _ _ _ c.requirement_at-it.ensures _ _ c.ne.ensures c.if-ne.true
 
 pub returns : goal.returns
-returns c = queue_conditional _ _ _ _ _ _ c.requirement_at-it.ensures _ _ c.owner_number.ensures c.if-owner_number-o.false c.requires.indexed c.requires.q_lt_requirements.0 c.if-it.false c.queue-2.ensures
+returns c =
+    elim c.match-it.branch [
+      | in-None w ↦ queue_direct _ _ _ _ _ _ c.requirement_at-it.ensures _ _ c.ne.ensures c.if-ne.false c.args.catalogue.now.indexed c.requires.q_lt_requirements w.in-None.is (rw w.task-is at c.queue.ensures)
+      | in-Some w ↦ queue_conditional _ _ _ _ _ _ c.requirement_at-it.ensures _ _ c.ne.ensures c.if-ne.false c.args.catalogue.now.indexed c.requires.q_lt_requirements w.in-Some.is (rw w.task-is at c.queue.ensures)
+    ]

@@ -1,13 +1,18 @@
--- `part_items::add_range` enters a range without members, or refuses it.
-use borrow.Author.Rules.{rules}
+use Rattle.std.proofs.Common.{rules}
+use Rattle.tables.specs.Tables.{with_range}
+use Rattle.kept.proofs.Entered.{given_still, sized_still, vacant_still}
 use Rattle.part_items.proofs.Items.{range_full, range_nameless, range_entered}
 use Rattle.part_items.proofs.add_range.Goals as goal
 
-pub returns-then-k-ge512 : goal.returns-then-k-ge512
-returns-then-k-ge512 c = search (rules, range_full)
+pub returns-then-draft-ge512-clause-entered : goal.returns-then-draft-ge512-clause-entered
+returns-then-draft-ge512-clause-entered c = search (rules, range_full)
 
-pub returns-then-k-name : goal.returns-then-k-name
-returns-then-k-name c = search (rules, range_nameless)
+pub returns-then-draft-name-clause-entered : goal.returns-then-draft-name-clause-entered
+returns-then-draft-name-clause-entered c = search (rules, range_nameless)
 
-pub returns : goal.returns
-returns c = search (rules, range_entered)
+pub invariant_of-draft : goal.invariant_of-draft
+unfolding with_range
+invariant_of-draft c = record { given = search (rules, given_still); sized = search (rules, sized_still); vacant = search (rules, vacant_still) }
+
+pub returns-clause-entered : goal.returns-clause-entered
+returns-clause-entered c = search (rules, range_entered)

@@ -1,10 +1,10 @@
--- `part_items::is_second` is the test of the definitions for a second part with a flag; the search is made only where the flag is set.
-use borrow.Author.Rules.{rules}
-use Rattle.part_items.proofs.Search.{second_found, second_unset}
+use Rattle.std.proofs.Common.{rules}
+use Rattle.part_items.proofs.Search.{second_searched, second_known, second_unset}
 use Rattle.part_items.proofs.is_second.Goals as goal
+use Rattle.part_items.proofs.is_second.Goals.{then-has_flag, else-has_flag}
 
-pub returns-then-is_set : goal.returns-then-is_set
-returns-then-is_set c = search (rules, second_found)
+pub returns-then-not-is_of : goal.returns-then-not-is_of
+returns-then-not-is_of c = elim c.if-has_flag.branch [ then-has_flag w ↦ search (rules, second_searched) | else-has_flag w ↦ absurd (cc) ]
 
-pub returns : goal.returns
-returns c = search (rules, second_unset)
+pub returns-else-not-is_of : goal.returns-else-not-is_of
+returns-else-not-is_of c = elim c.if-has_flag.branch [ then-has_flag w ↦ search (rules, second_known) | else-has_flag w ↦ search (rules, second_unset) ]

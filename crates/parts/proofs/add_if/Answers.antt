@@ -2,17 +2,11 @@
 use Rattle.parts.proofs.Clauses.{selected_known, adding_selected, adding_other}
 use Rattle.parts.proofs.add_if.Goals as goal
 
-pub add_part-requires-clause-good : goal.add_part-requires-clause-good
-add_part-requires-clause-good c = c.requires.good
-
-pub add_part-requires-clause-can_add : goal.add_part-requires-clause-can_add
-add_part-requires-clause-can_add c = c.requires.can_add
-
 pub add_part-requires-clause-known_unless_full : goal.add_part-requires-clause-known_unless_full
-add_part-requires-clause-known_unless_full c = selected_known _ _ _ _ _ c.requires.known_unless_full c.requires.p_lt_parts c.selected.ensures c.if-selected.true
+add_part-requires-clause-known_unless_full c = selected_known _ _ _ _ _ c.requires.known_unless_full c.requires.p_lt_parts c.selects.ensures c.if-selects.true
 
-pub returns-then-selected : goal.returns-then-selected
-returns-then-selected c = adding_selected _ _ _ _ c.selected.ensures c.if-selected.true c.add_part.ensures
+pub returns-then-selects : goal.returns-then-selects
+returns-then-selects c = adding_selected _ _ _ _ c.selects.ensures c.if-selects.true c.add_part.ensures
 
 pub returns : goal.returns
-returns c = adding_other _ _ _ _ c.selected.ensures c.if-selected.false
+returns c = adding_other _ _ _ _ c.selects.ensures c.if-selects.false

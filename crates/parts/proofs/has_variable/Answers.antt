@@ -3,12 +3,6 @@ use borrow.Author.Rules.{rules}
 use Rattle.parts.proofs.Names.{part_fits, variable_some}
 use Rattle.parts.proofs.has_variable.Goals as goal
 
-pub variable-requires-clause-fits : goal.variable-requires-clause-fits
-variable-requires-clause-fits c = search (rules, part_fits)
-
-pub variable-requires-clause-mapped : goal.variable-requires-clause-mapped
-variable-requires-clause-mapped c = search (rules, part_fits)
-
 pub variable-requires-clause-o_value : goal.variable-requires-clause-o_value
 variable-requires-clause-o_value c = search (rules, part_fits)
 

@@ -1,9 +1,10 @@
 -- `parts::is_tracked` says so only of a part that is named for tracking, or whose name was served with several allowed.
+use mathlib.Core.Path.{refl}
 use Rattle.parts.proofs.Names.{tracked_again, tracked_several}
 use Rattle.parts.proofs.is_tracked.Goals as goal
 
 pub returns-then-contains : goal.returns-then-contains
-returns-then-contains c = λ e. tracked_again _ _ _ _ _ c.requires.good_alone c.contains.ensures c.if-contains.true e
+returns-then-contains c = λ e. tracked_again _ _ _ _ _ c.requires.good_alone c.contains.ensures c.if-contains.true refl
 
-pub returns : goal.returns
-returns c = λ e. tracked_several _ _ _ _ _ c.requires.good_alone c.contains.ensures c.is_several.ensures c.part_name-name.ensures e
+pub returns-else-contains : goal.returns-else-contains
+returns-else-contains c = λ e. tracked_several _ _ _ _ _ c.requires.good_alone c.contains.ensures c.is_several.ensures c.part_name-name.ensures e

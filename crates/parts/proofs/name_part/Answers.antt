@@ -3,17 +3,11 @@ use borrow.Author.Rules.{rules}
 use Rattle.parts.proofs.Names.{part_fits, naming_variable, naming_as}
 use Rattle.parts.proofs.name_part.Goals as goal
 
-pub name_variable-requires-clause-fits : goal.name_variable-requires-clause-fits
-name_variable-requires-clause-fits c = search (rules, part_fits)
-
-pub name_variable-requires-clause-mapped : goal.name_variable-requires-clause-mapped
-name_variable-requires-clause-mapped c = search (rules, part_fits)
-
 pub name_variable-requires-clause-o_value : goal.name_variable-requires-clause-o_value
 name_variable-requires-clause-o_value c = search (rules, part_fits)
 
 pub returns-in-Variable : goal.returns-in-Variable
-returns-in-Variable c = naming_variable _ _ c.part.ensures c.name_variable.ensures _ c.in-Variable.is
+returns-in-Variable c = naming_variable _ c.name_variable.ensures _ c.in-Variable.is
 
 pub returns-in-Tracked : goal.returns-in-Tracked
 returns-in-Tracked c = naming_as _ _ _ c.in-Tracked.is c.name_tracked.ensures

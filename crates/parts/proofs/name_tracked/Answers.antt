@@ -3,26 +3,14 @@ use borrow.Author.Rules.{rules}
 use Rattle.parts.proofs.Names.{part_fits, several_after, named_after, tracked_named, tracked_known}
 use Rattle.parts.proofs.name_tracked.Goals as goal
 
-pub has_variable-requires-clause-mapped : goal.has_variable-requires-clause-mapped
-has_variable-requires-clause-mapped c = (c.requires.good_alone.good.state.mapped, search rules)
-
-pub name_for_tracking-requires-clause-several_bound : goal.name_for_tracking-requires-clause-several_bound
-name_for_tracking-requires-clause-several_bound c = (c.requires.good_alone.good.state.several, c.requires.good_alone.good.state.named, search rules)
-
 pub name_for_tracking-requires-2-clause-several_bound : goal.name_for_tracking-requires-2-clause-several_bound
 name_for_tracking-requires-2-clause-several_bound c = (several_after c.name_variable-m.ensures c.requires.good_alone, named_after c.name_variable-m.ensures c.requires.good_alone, search rules)
 
 pub returns-then-has_variable : goal.returns-then-has_variable
-returns-then-has_variable c = tracked_known _ (c.has_variable.ensures c.if-has_variable.true) c.name_for_tracking.ensures
+returns-then-has_variable c = tracked_known _ (c.has_variable.ensures c.if-has_variable.true) (c.name_for_tracking.ensures _ _)
 
 pub returns : goal.returns
-returns c = tracked_named _ _ c.part.ensures c.name_variable-m.ensures c.name_for_tracking-2.ensures
-
-pub name_variable-m-requires-clause-fits : goal.name_variable-m-requires-clause-fits
-name_variable-m-requires-clause-fits c = search (rules, part_fits)
-
-pub name_variable-m-requires-clause-mapped : goal.name_variable-m-requires-clause-mapped
-name_variable-m-requires-clause-mapped c = search (rules, part_fits)
+returns c = tracked_named _ c.name_variable-m.ensures (c.name_for_tracking-2.ensures _ _)
 
 pub name_variable-m-requires-clause-o_value : goal.name_variable-m-requires-clause-o_value
 name_variable-m-requires-clause-o_value c = search (rules, part_fits)

@@ -1,19 +1,24 @@
--- `rule_items::add_constraint` enters a constraint or refuses it, as `add_item` says.
-use borrow.Author.Rules.{rules}
+use Rattle.std.proofs.Common.{rules}
+use Rattle.tables.specs.Tables.{with_constraint}
+use Rattle.kept.proofs.Entered.{given_still, sized_still, vacant_still}
 use Rattle.rule_items.proofs.Items.{constraint_full, constraint_ownerless, constraint_rangeless, constraint_unknown, constraint_entered}
 use Rattle.rule_items.proofs.add_constraint.Goals as goal
 
-pub returns-then-k-ge512 : goal.returns-then-k-ge512
-returns-then-k-ge512 c = search (rules, constraint_full)
+pub returns-then-counts-ge512-clause-entered : goal.returns-then-counts-ge512-clause-entered
+returns-then-counts-ge512-clause-entered c = search (rules, constraint_full)
 
-pub returns-then-no_such : goal.returns-then-no_such
-returns-then-no_such c = search (rules, constraint_ownerless)
+pub returns-then-is_past-clause-entered : goal.returns-then-is_past-clause-entered
+returns-then-is_past-clause-entered c = search (rules, constraint_ownerless)
 
-pub returns-then-k-range : goal.returns-then-k-range
-returns-then-k-range c = search (rules, constraint_rangeless)
+pub returns-then-counts-range-clause-entered : goal.returns-then-counts-range-clause-entered
+returns-then-counts-range-clause-entered c = search (rules, constraint_rangeless)
 
-pub returns-then-owner_unknown : goal.returns-then-owner_unknown
-returns-then-owner_unknown c = search (rules, constraint_unknown)
+pub returns-then-is_unknown-clause-entered : goal.returns-then-is_unknown-clause-entered
+returns-then-is_unknown-clause-entered c = let q = rw (c.as_tables.ensures.counts, c.as_tables.ensures.area) at c.is_unknown.ensures in search (rules, constraint_unknown)
 
-pub returns : goal.returns
-returns c = search (rules, constraint_entered)
+pub invariant_of-draft-2 : goal.invariant_of-draft-2
+unfolding with_constraint
+invariant_of-draft-2 c = record { given = search (rules, given_still); sized = search (rules, sized_still); vacant = search (rules, vacant_still) }
+
+pub returns-clause-entered : goal.returns-clause-entered
+returns-clause-entered c = let q = rw (c.as_tables.ensures.counts, c.as_tables.ensures.area) at c.is_unknown.ensures in search (rules, constraint_entered)

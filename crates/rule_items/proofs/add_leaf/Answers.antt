@@ -1,13 +1,18 @@
--- `rule_items::add_leaf` enters a leaf condition or refuses it, as `add_item` says.
-use borrow.Author.Rules.{rules}
-use Rattle.rule_items.proofs.Conditions.{leaf_full, leaf_rangeless, leaf_entered}
+use Rattle.std.proofs.Common.{rules}
+use Rattle.tables.specs.Tables.{with_condition}
+use Rattle.kept.proofs.Entered.{given_still, vacant_still}
+use Rattle.rule_items.proofs.Conditions.{leaf_full, leaf_rangeless, leaf_entered, leaf_sized}
 use Rattle.rule_items.proofs.add_leaf.Goals as goal
 
-pub returns-then-k-ge256 : goal.returns-then-k-ge256
-returns-then-k-ge256 c = search (rules, leaf_full)
+pub returns-then-draft-ge256-clause-entered : goal.returns-then-draft-ge256-clause-entered
+returns-then-draft-ge256-clause-entered c = search (rules, leaf_full)
 
-pub returns-then-k-range : goal.returns-then-k-range
-returns-then-k-range c = search (rules, leaf_rangeless)
+pub returns-then-draft-range-clause-entered : goal.returns-then-draft-range-clause-entered
+returns-then-draft-range-clause-entered c = search (rules, leaf_rangeless)
 
-pub returns : goal.returns
-returns c = search (rules, leaf_entered)
+pub invariant_of-draft : goal.invariant_of-draft
+unfolding with_condition
+invariant_of-draft c = record { given = search (rules, given_still); sized = search (rules, leaf_sized); vacant = search (rules, vacant_still) }
+
+pub returns-clause-entered : goal.returns-clause-entered
+returns-clause-entered c = search (rules, leaf_entered)

@@ -1,13 +1,15 @@
--- `rule_items::add_union_member` writes a row for a range of a union, behind those of all unions.
-use borrow.Author.Rules.{rules}
-use Rattle.rule_items.proofs.Items.{row_unionless, row_rangeless, row_entered}
+use Rattle.std.proofs.Common.{rules}
+use Rattle.rule_items.proofs.Items.{row_unionless, row_rangeless, row_entered, row_given}
 use Rattle.rule_items.proofs.add_union_member.Goals as goal
 
-pub returns-then-k-union : goal.returns-then-k-union
-returns-then-k-union c = search (rules, row_unionless)
+pub returns-then-draft-union-clause-entered : goal.returns-then-draft-union-clause-entered
+returns-then-draft-union-clause-entered c = search (rules, row_unionless)
 
-pub returns-then-k-range : goal.returns-then-k-range
-returns-then-k-range c = search (rules, row_rangeless)
+pub returns-then-draft-range-clause-entered : goal.returns-then-draft-range-clause-entered
+returns-then-draft-range-clause-entered c = search (rules, row_rangeless)
 
-pub returns : goal.returns
-returns c = search (rules, row_entered)
+pub invariant_of-draft-clause-given : goal.invariant_of-draft-clause-given
+invariant_of-draft-clause-given c = search (rules, row_given)
+
+pub returns-clause-entered : goal.returns-clause-entered
+returns-clause-entered c = search (rules, row_entered)

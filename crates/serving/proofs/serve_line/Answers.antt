@@ -10,54 +10,14 @@ loop-head-init c = (passed_start c.requires.fits c.requires.good c.requires.long
 pub returns-then-m-ne0-clause-line_served : goal.returns-then-m-ne0-clause-line_served
 returns-then-m-ne0-clause-line_served c = passed_stop c.loop-head.invariant.0 (told_full c.if-m-ne0.true)
 
-pub returns-then-m-ne0-clause-flagged_2 : goal.returns-then-m-ne0-clause-flagged_2
-returns-then-m-ne0-clause-flagged_2 c = c.loop-head.invariant.1
-
 pub returns-clause-line_served : goal.returns-clause-line_served
 returns-clause-line_served c = passed_end c.loop-head.invariant.0 c.loop-head-test.false
 
-pub returns-clause-flagged_2 : goal.returns-clause-flagged_2
-returns-clause-flagged_2 c = c.loop-head.invariant.1
-
-pub serve_next-m-requires-clause-catalogued : goal.serve_next-m-requires-clause-catalogued
-serve_next-m-requires-clause-catalogued c = let x = c.loop-head.invariant.0 in
-    let h = c.loop-head-test.true in
-    c.requires.catalogued
-
-pub serve_next-m-requires-clause-fits : goal.serve_next-m-requires-clause-fits
-serve_next-m-requires-clause-fits c = let x = c.loop-head.invariant.0 in
-    let h = c.loop-head-test.true in
-    x.fits
-
-pub serve_next-m-requires-clause-good : goal.serve_next-m-requires-clause-good
-serve_next-m-requires-clause-good c = let x = c.loop-head.invariant.0 in
-    let h = c.loop-head-test.true in
-    x.good
-
-pub serve_next-m-requires-clause-long_enough : goal.serve_next-m-requires-clause-long_enough
-serve_next-m-requires-clause-long_enough c = let x = c.loop-head.invariant.0 in
-    let h = c.loop-head-test.true in
-    x.long
-
-pub serve_next-m-requires-clause-marked : goal.serve_next-m-requires-clause-marked
-serve_next-m-requires-clause-marked c = let x = c.loop-head.invariant.0 in
-    let h = c.loop-head-test.true in
-    x.hand
-
 pub serve_next-m-requires-clause-task_given : goal.serve_next-m-requires-clause-task_given
-serve_next-m-requires-clause-task_given c = let x = c.loop-head.invariant.0 in
-    let h = c.loop-head-test.true in
-    passed_given x (told_going c.if-m-ne0.false) h
+serve_next-m-requires-clause-task_given c = passed_given c.loop-head.invariant.0 (told_going c.if-m-ne0.false) c.loop-head-test.true
 
 pub serve_next-m-requires-clause-number_nonzero : goal.serve_next-m-requires-clause-number_nonzero
-serve_next-m-requires-clause-number_nonzero c = let x = c.loop-head.invariant.0 in
-    let h = c.loop-head-test.true in
-    (c.requires.marked.1, x.begun.few, x.none, h)
-
-pub serve_next-m-requires-clause-flagged : goal.serve_next-m-requires-clause-flagged
-serve_next-m-requires-clause-flagged c = let x = c.loop-head.invariant.0 in
-    let h = c.loop-head-test.true in
-    c.loop-head.invariant.1
+serve_next-m-requires-clause-number_nonzero c = (c.requires.marked.1, c.loop-head.invariant.0.begun.few, c.loop-head.invariant.0.none, c.loop-head-test.true)
 
 pub overflow_add-head : goal.overflow_add-head
 overflow_add-head c = omega (arith, c.loop-head-test.true, c.loop-head.invariant.0.good.state.room, c.loop-head.invariant.0.fits.waiting)

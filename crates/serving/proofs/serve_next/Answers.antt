@@ -8,40 +8,18 @@ use Rattle.serving.proofs.serve_next.Goals as goal
 pub overflow_add-behind : goal.overflow_add-behind
 overflow_add-behind c = omega (arith, c.requires.number_nonzero.3)
 
-pub serve_task-requires-clause-catalogued : goal.serve_task-requires-clause-catalogued
-serve_task-requires-clause-catalogued c = let q = c.requires.number_nonzero in
-    c.requires.catalogued
-
-pub serve_task-requires-clause-fits : goal.serve_task-requires-clause-fits
-serve_task-requires-clause-fits c = let q = c.requires.number_nonzero in
-    c.requires.fits
-
 pub serve_task-requires-clause-good : goal.serve_task-requires-clause-good
-serve_task-requires-clause-good c = let q = c.requires.number_nonzero in
-    unfold from in good_from q.3 c.requires.good
-
-pub serve_task-requires-clause-long_enough : goal.serve_task-requires-clause-long_enough
-serve_task-requires-clause-long_enough c = let q = c.requires.number_nonzero in
-    c.requires.long_enough
-
-pub serve_task-requires-clause-marked : goal.serve_task-requires-clause-marked
-serve_task-requires-clause-marked c = let q = c.requires.number_nonzero in
-    c.requires.marked
+serve_task-requires-clause-good c = unfold from in good_from c.requires.number_nonzero.3 c.requires.good
 
 pub serve_task-requires-clause-task_given : goal.serve_task-requires-clause-task_given
-serve_task-requires-clause-task_given c = let q = c.requires.number_nonzero in
-    rw c.at-number.ensures c.requires.task_given
+serve_task-requires-clause-task_given c = rw c.at-task.ensures c.requires.task_given
 
 pub serve_task-requires-clause-number_nonzero : goal.serve_task-requires-clause-number_nonzero
 serve_task-requires-clause-number_nonzero c = let q = c.requires.number_nonzero in
     (q.0, q.1, q.2)
 
 pub serve_task-requires-clause-flagged : goal.serve_task-requires-clause-flagged
-serve_task-requires-clause-flagged c = let q = c.requires.number_nonzero in
-    unfold from in flagged_from _ c.requires.flagged
+serve_task-requires-clause-flagged c = unfold from in flagged_from _ c.requires.flagged
 
 pub returns-clause-serves : goal.returns-clause-serves
-returns-clause-serves c = served_next _ _ _ c.at-number.ensures (unfold from in c.serve_task.ensures.alike_did)
-
-pub returns-clause-flagged_2 : goal.returns-clause-flagged_2
-returns-clause-flagged_2 c = c.serve_task.ensures.flagged_2
+returns-clause-serves c = served_next _ _ _ c.at-task.ensures (unfold from in c.serve_task.ensures.alike_did)

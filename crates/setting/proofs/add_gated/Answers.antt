@@ -2,12 +2,6 @@ use borrow.Author.Rules.{rules}
 use Rattle.storing.proofs.Added.{gated_sets, gated_idle, made_exists}
 use Rattle.setting.proofs.add_gated.Goals as goal
 
-pub store_setting-requires-clause-fits : goal.store_setting-requires-clause-fits
-store_setting-requires-clause-fits c = search (rules, made_exists)
-
-pub store_setting-requires-clause-can_add : goal.store_setting-requires-clause-can_add
-store_setting-requires-clause-can_add c = search (rules, made_exists)
-
 pub store_setting-requires-clause-literal_bound : goal.store_setting-requires-clause-literal_bound
 store_setting-requires-clause-literal_bound c = search (rules, made_exists)
 

@@ -1,21 +1,13 @@
 -- `sheet::carry_out` carries one of the five commands out, or refuses it.
 use borrow.Author.Rules.{rules}
+use native.Mathlib.Omega.{arith}
 use Rattle.beginning.proofs.Held.{reaches_rising}
 use Rattle.sheet.proofs.Outcomes.{as_add, as_draw, as_run, as_decide, as_undo}
 use Rattle.sheet.proofs.Flags.{add_no_run, draw_no_run, decide_no_run, undo_no_run, command_flagged}
 use Rattle.sheet.proofs.carry_out.Goals as goal
 
-pub draw-requires-clause-catalogued : goal.draw-requires-clause-catalogued
-draw-requires-clause-catalogued c = c.requires.catalogued
-
-pub draw-requires-clause-fits : goal.draw-requires-clause-fits
-draw-requires-clause-fits c = c.requires.fits
-
-pub draw-requires-clause-reaches : goal.draw-requires-clause-reaches
-draw-requires-clause-reaches c = c.requires.reaches
-
-pub draw-requires-clause-long_enough : goal.draw-requires-clause-long_enough
-draw-requires-clause-long_enough c = c.requires.long_enough
+pub add-requires-clause-parts_bound : goal.add-requires-clause-parts_bound
+add-requires-clause-parts_bound c = omega (arith, c.args.catalogue.now.index.areas.tables.laid.parts)
 
 pub undo-requires-clause-fits : goal.undo-requires-clause-fits
 undo-requires-clause-fits c = search (rules, reaches_rising)
@@ -37,9 +29,6 @@ returns-in-Draw-clause-flagged_after c = command_flagged _ (draw_no_run _ _ c.in
 
 pub returns-in-Run-clause-command_did : goal.returns-in-Run-clause-command_did
 returns-in-Run-clause-command_did c = as_run _ _ c.in-Run.is c.run.ensures.command_did
-
-pub returns-in-Run-clause-flagged_after : goal.returns-in-Run-clause-flagged_after
-returns-in-Run-clause-flagged_after c = c.run.ensures.flagged_after
 
 pub returns-in-Decide-clause-command_did : goal.returns-in-Decide-clause-command_did
 returns-in-Decide-clause-command_did c = (as_decide _ _ _ _ c.in-Decide.is c.decide.ensures)

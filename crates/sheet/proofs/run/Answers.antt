@@ -21,18 +21,3 @@ returns-clause-command_did c = run_done _ c.too_low.ensures c.if-too_low.false c
 
 pub returns-clause-flagged_after : goal.returns-clause-flagged_after
 returns-clause-flagged_after c = after_carried c.run_once-m.ensures.flagged_2
-
-pub run_once-m-requires-clause-catalogued : goal.run_once-m-requires-clause-catalogued
-run_once-m-requires-clause-catalogued c = c.requires.catalogued
-
-pub run_once-m-requires-clause-fits : goal.run_once-m-requires-clause-fits
-run_once-m-requires-clause-fits c = c.requires.fits
-
-pub run_once-m-requires-clause-reaches : goal.run_once-m-requires-clause-reaches
-run_once-m-requires-clause-reaches c = c.requires.reaches
-
-pub run_once-m-requires-clause-long_enough : goal.run_once-m-requires-clause-long_enough
-run_once-m-requires-clause-long_enough c = c.requires.long_enough
-
-pub run_once-m-requires-clause-flagged : goal.run_once-m-requires-clause-flagged
-run_once-m-requires-clause-flagged c = c.requires.flagged

@@ -3,8 +3,8 @@ use borrow.Author.Rules.{rules}
 use Rattle.state_lines.proofs.Lines.{conflict_none, conflict_some}
 use Rattle.state_lines.proofs.conflict_line.Goals as goal
 
-pub returns-else-row-ne0 : goal.returns-else-row-ne0
-returns-else-row-ne0 c = search (rules, conflict_none)
+pub returns-in-Some : goal.returns-in-Some
+returns-in-Some c = search (rules, conflict_some)
 
-pub returns-then-row-ne0 : goal.returns-then-row-ne0
-returns-then-row-ne0 c = search (rules, conflict_some)
+pub returns-in_default : goal.returns-in_default
+returns-in_default c = search (rules, conflict_none)

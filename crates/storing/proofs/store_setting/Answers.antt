@@ -1,5 +1,5 @@
 use Rattle.encoder.proofs.Did.{told_full, told_going}
-use Rattle.storing.proofs.Adding.{setting_full, setting_more, setting_can}
+use Rattle.storing.proofs.Adding.{setting_full, setting_more}
 use Rattle.storing.proofs.store_setting.Goals as goal
 
 pub returns-then-m-ne0 : goal.returns-then-m-ne0
@@ -7,9 +7,3 @@ returns-then-m-ne0 c = setting_full c.store-m.ensures (told_full c.if-m-ne0.true
 
 pub returns : goal.returns
 returns c = setting_more c.store-m.ensures (told_going c.if-m-ne0.false) c.force.ensures
-
-pub force-requires-clause-fits : goal.force-requires-clause-fits
-force-requires-clause-fits c = c.requires.fits
-
-pub force-requires-clause-can_force : goal.force-requires-clause-can_force
-force-requires-clause-can_force c = setting_can c.requires.can_add c.store-m.ensures (told_going c.if-m-ne0.false) c.requires.literal_bound

@@ -1,7 +1,4 @@
 -- `tracking::add_tracked` adds all clauses of a part that joins.
-use borrow.Author.Rules.{rules}
-use Rattle.state.proofs.Sizes.{fits_same}
-use Rattle.encoder.proofs.Steps.{long_same}
 use Rattle.encoder.proofs.Did.{told_full, told_going}
 use Rattle.tracking.proofs.Clauses.{tracked_first, tracked_second, tracked_older, tracked_all}
 use Rattle.tracking.proofs.Steps.{some_all}
@@ -16,29 +13,11 @@ returns-then-b-ne0 c = tracked_second _ _ _ _ _ c.new_helper-a.ensures c.part_cl
 pub returns : goal.returns
 returns c = tracked_all _ _ _ _ _ c.new_helper-a.ensures c.part_clauses-b.ensures c.requires.good_some (told_going c.if-a-ne0.false) (told_going c.if-b-ne0.false) c.one_clause.ensures
 
-pub part_clauses-b-requires-clause-fits : goal.part_clauses-b-requires-clause-fits
-part_clauses-b-requires-clause-fits c = fits_same (search rules) c.requires.fits
-
 pub part_clauses-b-requires-clause-good_some : goal.part_clauses-b-requires-clause-good_some
 part_clauses-b-requires-clause-good_some c = some_all c.requires.good_some c.new_helper-a.ensures
 
-pub part_clauses-b-requires-clause-long_enough : goal.part_clauses-b-requires-clause-long_enough
-part_clauses-b-requires-clause-long_enough c = long_same (search rules) c.requires.long_enough
-
-pub part_clauses-b-requires-clause-number_nonzero : goal.part_clauses-b-requires-clause-number_nonzero
-part_clauses-b-requires-clause-number_nonzero c = (c.requires.can_join.number, c.requires.i_bound.1)
-
-pub part_clauses-b-requires-clause-helpers_below : goal.part_clauses-b-requires-clause-helpers_below
-part_clauses-b-requires-clause-helpers_below c = c.requires.helpers_below
-
-pub one_clause-requires-clause-fits : goal.one_clause-requires-clause-fits
-one_clause-requires-clause-fits c = fits_same (search rules) c.requires.fits
-
 pub one_clause-requires-clause-good_some : goal.one_clause-requires-clause-good_some
 one_clause-requires-clause-good_some c = some_all (some_all c.requires.good_some c.new_helper-a.ensures) c.part_clauses-b.ensures
-
-pub one_clause-requires-clause-long_enough : goal.one_clause-requires-clause-long_enough
-one_clause-requires-clause-long_enough c = long_same (search rules) c.requires.long_enough
 
 pub one_clause-requires-clause-name_bound : goal.one_clause-requires-clause-name_bound
 one_clause-requires-clause-name_bound c = (c.requires.i_bound.2, tracked_older 0 _ _ _ _ c.new_helper-a.ensures c.part_clauses-b.ensures c.requires.good_some (told_going c.if-a-ne0.false) (told_going c.if-b-ne0.false) c.requires.can_join.older)

@@ -2,11 +2,7 @@
 use borrow.Author.Rules.{rules}
 use Rattle.storing.proofs.Added.{made_exists}
 use Rattle.tracking.proofs.Parts.{agree_added}
-use Rattle.tracking.proofs.Steps.{some_can_add}
 use Rattle.tracking.proofs.agree.Goals as goal
-
-pub add_forbid-requires-clause-can_add : goal.add_forbid-requires-clause-can_add
-add_forbid-requires-clause-can_add c = search (rules, some_can_add)
 
 pub add_forbid-requires-clause-number_nonzero : goal.add_forbid-requires-clause-number_nonzero
 add_forbid-requires-clause-number_nonzero c = (search rules, search rules, search (rules, made_exists))

@@ -1,32 +1,21 @@
 use borrow.Author.Rules.{rules}
 use Rattle.encoder.proofs.Did.{told_full, told_going}
-use Rattle.tracking.proofs.Steps.{some_tracked, some_after}
-use Rattle.tracking.proofs.Parts.{linking_start, linking_stop, linking_step, linking_end}
+use Rattle.tracking.proofs.Parts.{linking_start, linking_pass, linking_stop, linking_step, linking_end}
 use Rattle.tracking.proofs.any_clauses.Goals as goal
-
-pub next_of-at-requires-clause-laid : goal.next_of-at-requires-clause-laid
-next_of-at-requires-clause-laid c = search (rules, some_tracked)
-
-pub next_of-at-requires-clause-fits : goal.next_of-at-requires-clause-fits
-next_of-at-requires-clause-fits c = search (rules, some_tracked)
-
-pub next_of-at-requires-clause-marked : goal.next_of-at-requires-clause-marked
-next_of-at-requires-clause-marked c = search (rules, some_tracked)
-
-pub next_of-at-requires-in-loop-at-clause-laid : goal.next_of-at-requires-in-loop-at-clause-laid
-next_of-at-requires-in-loop-at-clause-laid c = c.requires.laid
-
-pub next_of-at-requires-in-loop-at-clause-marked : goal.next_of-at-requires-in-loop-at-clause-marked
-next_of-at-requires-in-loop-at-clause-marked c = some_tracked (some_after c.loop-at.invariant.walk.good c.any_clause-m.ensures)
+use Rattle.tracking.proofs.any_clauses.Goals.{then-is_of+else-m-ne0, else-is_of}
 
 pub loop-at-init : goal.loop-at-init
 loop-at-init c = search (rules, linking_start)
 
-pub returns-then-m-ne0 : goal.returns-then-m-ne0
-returns-then-m-ne0 c = search (rules, linking_stop, told_full c.if-m-ne0.true)
-
 pub returns : goal.returns
 returns c = search (rules, linking_end)
 
+pub returns-then-m-ne0 : goal.returns-then-m-ne0
+returns-then-m-ne0 c = linking_stop c.loop-at.invariant c.loop-at-test.true c.is_of.ensures c.if-is_of.true _ c.any_clause-m.ensures (told_full c.if-m-ne0.true)
+
 pub loop-at-preserved : goal.loop-at-preserved
-loop-at-preserved c = search (rules, linking_step, told_going c.if-m-ne0.false)
+loop-at-preserved c = elim c.if-is_of.branch [
+  | then-is_of+else-m-ne0 w ↦ rw (w.s-is, w.clauses-is, w.m-is)
+      (linking_step c.loop-at.invariant c.loop-at-test.true c.is_of.ensures w.if-is_of.true _ w.any_clause-m.ensures (told_going w.if-m-ne0.false) w.any_clause-m.auto.s w.any_clause-m.auto.clauses)
+  | else-is_of w ↦ rw (w.s-is, w.clauses-is, w.m-is) (linking_pass c.loop-at.invariant c.loop-at-test.true c.is_of.ensures w.if-is_of.false)
+]

@@ -1,10 +1,6 @@
 -- `tracking::any_clauses` adds the any clauses of a one-of-name variable. The invariant: the parts before `at` have theirs.
-use Prim.Native.Nat.{◌-◌}
 use Rattle.tracking.proofs.Parts.{Linking}
 use Rattle.tracking.proofs.any_clauses.Given as goal
 
 abbrev pub invariant-loop-at : goal.invariant-loop-at
-invariant-loop-at l = Linking l.k l.t l.l l.r l.name l.y l.initial.m l.initial.s l.initial.clauses l.s l.clauses l.m l.at
-
-abbrev pub decreases-loop-at : goal.decreases-loop-at
-decreases-loop-at l = l.initial.m.tracked - l.at
+invariant-loop-at l = Linking l.tables.counts l.tables.area.now l.l l.r l.name l.y l.initial.m l.initial.s l.initial.clauses l.s l.clauses l.m l.at

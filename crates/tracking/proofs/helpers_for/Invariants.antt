@@ -1,10 +1,6 @@
 -- `tracking::helpers_for`: how many helpers k tracked parts have. The invariant: fewer than h are too few.
-use Prim.Native.Nat.{◌-◌}
 use Rattle.tracking.proofs.Helpers.{Fewer}
 use Rattle.tracking.proofs.helpers_for.Given as goal
 
 abbrev pub invariant-loop-h : goal.invariant-loop-h
 invariant-loop-h l = Fewer l.k l.h
-
-abbrev pub decreases-loop-h : goal.decreases-loop-h
-decreases-loop-h l = 10 - l.h

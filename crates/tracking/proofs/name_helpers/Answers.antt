@@ -6,12 +6,6 @@ use Rattle.tracking.proofs.name_helpers.Goals as goal
 pub loop-j-init : goal.loop-j-init
 loop-j-init c = search (rules, naming_start)
 
-pub name_variable-m-requires-clause-fits : goal.name_variable-m-requires-clause-fits
-name_variable-m-requires-clause-fits c = search (rules, helper_in_tables, any_mapped)
-
-pub name_variable-m-requires-clause-mapped : goal.name_variable-m-requires-clause-mapped
-name_variable-m-requires-clause-mapped c = search (rules, helper_in_tables, any_mapped)
-
 pub name_variable-m-requires-clause-o_value : goal.name_variable-m-requires-clause-o_value
 name_variable-m-requires-clause-o_value c = search (rules, helper_in_tables, any_mapped)
 

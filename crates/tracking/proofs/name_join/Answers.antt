@@ -2,11 +2,8 @@
 use borrow.Author.Rules.{rules}
 use Rattle.goals.proofs.Decided.{part_in_tables}
 use Rattle.tracking.proofs.Helpers.{joins_named}
-use Rattle.tracking.proofs.Steps.{any_mapped, any_named}
+use Rattle.tracking.proofs.Steps.{any_named}
 use Rattle.tracking.proofs.name_join.Goals as goal
-
-pub name_variable-m-requires-clause-mapped : goal.name_variable-m-requires-clause-mapped
-name_variable-m-requires-clause-mapped c = search (rules, any_mapped)
 
 pub name_variable-m-requires-clause-o_value : goal.name_variable-m-requires-clause-o_value
 name_variable-m-requires-clause-o_value c = search (rules, part_in_tables)

@@ -1,4 +1,5 @@
 -- `tracking::new_helper` adds the clauses of a helper that the earlier parts did not need.
+use mathlib.Core.Path.{refl}
 use borrow.Author.Rules.{rules}
 use Rattle.tracking.proofs.Clauses.{helper_below, new_helper_none, new_helper_one}
 use Rattle.tracking.proofs.new_helper.Goals as goal
@@ -6,8 +7,8 @@ use Rattle.tracking.proofs.new_helper.Goals as goal
 pub helper_clauses-requires-clause-y_lt_variables : goal.helper_clauses-requires-clause-y_lt_variables
 helper_clauses-requires-clause-y_lt_variables c = (search (rules, helper_below), search rules)
 
-pub returns-then-h-tracker : goal.returns-then-h-tracker
-returns-then-h-tracker c = new_helper_one c.requires.helpers_below c.helpers_for-h.ensures _ c.if-h-tracker.true c.helper_of.ensures c.helper_clauses.ensures
+pub returns-then-h-helpers : goal.returns-then-h-helpers
+returns-then-h-helpers c = new_helper_one c.requires.helpers_below c.helpers_for-h.ensures _ c.if-h-helpers.true refl c.helper_clauses.ensures
 
 pub returns : goal.returns
 returns c = search (rules, new_helper_none)

@@ -3,12 +3,6 @@ use borrow.Author.Rules.{rules}
 use Rattle.tracking.proofs.Parts.{place_low, place_is}
 use Rattle.tracking.proofs.tracked_variable.Goals as goal
 
-pub variable_of-requires-clause-fits : goal.variable_of-requires-clause-fits
-variable_of-requires-clause-fits c = search (rules, place_low)
-
-pub variable_of-requires-clause-mapped : goal.variable_of-requires-clause-mapped
-variable_of-requires-clause-mapped c = search (rules, place_low)
-
 pub variable_of-requires-clause-o_value : goal.variable_of-requires-clause-o_value
 variable_of-requires-clause-o_value c = search (rules, place_low)
 

@@ -3,9 +3,6 @@ use borrow.Author.Rules.{rules}
 use Rattle.variable_map.proofs.Laws.{root_free, started}
 use Rattle.variable_map.proofs.start.Goals as goal
 
-pub push-requires-clause-fits : goal.push-requires-clause-fits
-push-requires-clause-fits c = search (rules, root_free)
-
 pub push-requires-clause-free : goal.push-requires-clause-free
 push-requires-clause-free c = search (rules, root_free)
 

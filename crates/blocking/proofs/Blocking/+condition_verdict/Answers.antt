@@ -1,26 +1,26 @@
-use borrow.Author.Rules.{rules}
-use native.Mathlib.Omega.{arith}
-use mathlib.Core.Path.{refl}
-use Rattle.blocking.proofs.Asking.{leaf_range, leaf_judged, left_falls, right_falls, left_there, right_there, left_tells, both_tell}
+use mathlib.Core.Path.{refl, sym}
+use denote.Enum.Bare.{same_false}
+use Rattle.index.proofs.Given.{catalogued}
+use Rattle.blocking.specs.contracts.Verdict.{the_type}
+use Rattle.blocking.proofs.Asking.{leaf_range, leaf_judged, and_left, and_both, or_both}
 use Rattle.blocking.proofs.Blocking.+condition_verdict.Goals as goal
 
-pub range_verdict-requires-clause-r_lt_ranges : goal.range_verdict-requires-clause-r_lt_ranges
-range_verdict-requires-clause-r_lt_ranges t c = search (rules, leaf_range)
+pub range_verdict-requires : goal.range_verdict-requires
+range_verdict-requires t c = record { sees = c.requires.sees; r_lt_ranges = leaf_range _ _ _ _ (catalogued c.args.catalogue.now) c.requires.x_lt_conditions c.in-Range.ensures }
 
-pub returns-then-it-eq2 : goal.returns-then-it-eq2
-returns-then-it-eq2 t c = search (rules, leaf_judged)
+pub returns-in-Range : goal.returns-in-Range
+returns-in-Range t c = leaf_judged _ _ _ _ (catalogued c.args.catalogue.now) c.requires.x_lt_conditions c.in-Range.ensures c.range_verdict.ensures
 
-pub condition_verdict-first-requires : goal.condition_verdict-first-requires
-condition_verdict-first-requires t c = (search (rules, left_falls), (search rules, search (rules, left_there)))
+pub returns-then-ne-2 : goal.returns-then-ne-2
+returns-then-ne-2 t c =
+    and_left _ _ _ _ (catalogued c.args.catalogue.now) c.requires.x_lt_conditions c.in-And.ensures c.condition_verdict-first.ensures c.keep.ensures.verdict c.keep.ensures.kept refl
 
-pub returns-then-told_by_left : goal.returns-then-told_by_left
-returns-then-told_by_left t c =
-    left_tells _ _ _ _ c.requires.sees c.requires.x_lt_conditions _ c.condition_at-it.ensures c.if-it-eq2.false c.condition_verdict-first.ensures refl c.told_by_left.ensures c.if-told_by_left.true (omega arith)
+pub returns-else-ne-2 : goal.returns-else-ne-2
+returns-else-ne-2 t c =
+    and_both _ _ _ _ (catalogued c.args.catalogue.now) c.requires.x_lt_conditions c.in-And.ensures c.condition_verdict-first.ensures c.condition_verdict-second.ensures c.keep-in-And.ensures.verdict
+    c.keep-in-And.ensures.kept refl
 
-pub condition_verdict-second-requires : goal.condition_verdict-second-requires
-condition_verdict-second-requires t c = (search (rules, right_falls), (search rules, search (rules, right_there)))
-
-pub returns : goal.returns
-returns t c =
-    both_tell _ _ _ _ c.requires.sees c.requires.x_lt_conditions _ c.condition_at-it.ensures c.if-it-eq2.false c.condition_verdict-first.ensures c.condition_verdict-second.ensures refl c.told_by_left.ensures
-    c.if-told_by_left.false c.of_halves-both.ensures (omega arith)
+pub returns-else-eq : goal.returns-else-eq
+returns-else-eq t c =
+    or_both _ _ _ _ (catalogued c.args.catalogue.now) c.requires.x_lt_conditions c.in-Or.ensures c.condition_verdict-first-in-Or.ensures c.condition_verdict-second-in-Or.ensures c.keep-in-Or.ensures.verdict
+    c.keep-in-Or.ensures.kept c.or.ensures refl (same_false the_type _ _ (sym c.if-eq.ensures))

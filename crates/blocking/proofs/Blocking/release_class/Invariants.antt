@@ -3,4 +3,4 @@ use Rattle.blocking.proofs.Releasing.{Class}
 use Rattle.blocking.proofs.Blocking.release_class.Given as goal
 
 abbrev pub invariant-loop-r : goal.invariant-loop-r
-invariant-loop-r l = Class l.marks l.p l.j l.r l.initial.self l.self
+invariant-loop-r l = Class l.marks.area.now l.p l.j l.r l.initial.self l.self

@@ -1,5 +1,5 @@
 -- `blocking::Listing::note_judged` counts how often a condition was judged, and lists it in time.
-use Rattle.tables.specs.Tables.{tables}
+use Rattle.conditions.specs.Disjuncts.{conditions_of}
 use Rattle.blocking.specs.Blocking.{Listed}
 use Rattle.blocking.proofs.Lists.{listed_judged}
 use Rattle.blocking.proofs.Listing.note_judged.Goals as goal
@@ -7,7 +7,7 @@ use Rattle.blocking.proofs.Listing.note_judged.Goals.{in-Some, in-Some-2+then-ne
 
 pub returns : goal.returns
 returns c =
-    let listed : Listed (tables c.args.k c.args.t.now).conditions c.match-self.self = elim c.match-self.branch [
+    let listed : Listed (conditions_of c.args.conditions.now) c.match-self.self = elim c.match-self.branch [
       | in-Some w ↦ rw w.self-is c.requires.listed
       | in-Some-2+then-ne w ↦ rw w.self-is w.list_condition.ensures
       | in-Some-2+else-ne w ↦ rw w.self-is c.requires.listed

@@ -6,8 +6,8 @@ use Rattle.carried.proofs.Memory.draws_nothing.Goals as goal
 pub returns-then-is_set-clause-idles : goal.returns-then-is_set-clause-idles
 returns-then-is_set-clause-idles c = search (rules, idles_settled)
 
-pub returns-then-c-k-clause-idles : goal.returns-then-c-k-clause-idles
-returns-then-c-k-clause-idles c = search (rules, idles_not)
+pub returns-then-c-catalogue-clause-idles : goal.returns-then-c-catalogue-clause-idles
+returns-then-c-catalogue-clause-idles c = search (rules, idles_not)
 
 pub returns-clause-idles : goal.returns-clause-idles
 returns-clause-idles c = search (rules, idles_given)

@@ -6,8 +6,8 @@ use Rattle.carried.proofs.Memory.is_passed.Goals as goal
 pub returns-then-is_flagged-clause-idles : goal.returns-then-is_flagged-clause-idles
 returns-then-is_flagged-clause-idles c = search (rules, passed_flagged)
 
-pub returns-then-c-k-clause-idles : goal.returns-then-c-k-clause-idles
-returns-then-c-k-clause-idles c = search (rules, passed_not)
+pub returns-then-c-conditions-clause-idles : goal.returns-then-c-conditions-clause-idles
+returns-then-c-conditions-clause-idles c = search (rules, passed_not)
 
 pub returns-clause-idles : goal.returns-clause-idles
 returns-clause-idles c = search (rules, passed_asked)

@@ -1,37 +1,18 @@
 use borrow.Author.Rules.{rules}
 use native.Mathlib.Omega.{arith}
-use Rattle.state.proofs.Sizes.{fits_same}
 use Rattle.encoder.proofs.Steps.{alone_after}
 use Rattle.parts.proofs.Names.{part_fits, naming_end}
 use Rattle.constraints.proofs.OutsideLaws.{name_first_law, name_next}
 use Rattle.constraints.proofs.outside.name_outside.Goals as goal
 
-pub next_unnamed-p-requires-clause-indexed : goal.next_unnamed-p-requires-clause-indexed
-next_unnamed-p-requires-clause-indexed c = c.requires.indexed
-
-pub next_unnamed-p-requires-clause-mapped : goal.next_unnamed-p-requires-clause-mapped
-next_unnamed-p-requires-clause-mapped c = (c.requires.good_alone.good.state.mapped, c.requires.r_lt_ranges, c.first_chosen-first.ensures.inside)
-
 pub loop-p-init : goal.loop-p-init
 loop-p-init c = name_first_law c.requires.good_alone c.first_chosen-first.ensures c.next_unnamed-p.ensures
 
-pub overflow_cast-p : goal.overflow_cast-p
-overflow_cast-p c = omega (arith, c.loop-p-test.true, c.requires.indexed.held.laid.parts)
-
-pub name_variable-m-requires-clause-fits : goal.name_variable-m-requires-clause-fits
-name_variable-m-requires-clause-fits c = fits_same c.loop-p.invariant.done.same c.requires.fits
-
-pub name_variable-m-requires-clause-mapped : goal.name_variable-m-requires-clause-mapped
-name_variable-m-requires-clause-mapped c = c.loop-p.invariant.done.alone.good.state.mapped
-
 pub name_variable-m-requires-clause-o_value : goal.name_variable-m-requires-clause-o_value
-name_variable-m-requires-clause-o_value c = part_fits _ _ c.part.ensures (omega (arith, c.loop-p-test.true, c.requires.indexed.held.laid.parts))
-
-pub next_outside-next-requires : goal.next_outside-next-requires
-next_outside-next-requires c = (c.requires.indexed.held, c.requires.indexed.chains, c.requires.r_lt_ranges, c.loop-p-test.true)
+name_variable-m-requires-clause-o_value c = part_fits _ (omega (arith, c.loop-p-test.true, c.args.index.now.areas.held.laid.parts))
 
 pub loop-p-preserved : goal.loop-p-preserved
-loop-p-preserved c = name_next _ c.loop-p.invariant c.loop-p-test.true c.part.ensures c.name_variable-m.ensures (search rules) c.next_outside-next.ensures c.next_unnamed-p-in-loop-p.ensures
+loop-p-preserved c = name_next c.loop-p.invariant c.loop-p-test.true c.name_variable-m.ensures (search rules) c.next_outside-next.ensures c.next_unnamed-p-in-loop-p.ensures
 
 pub returns : goal.returns
 returns c = naming_end _ _ _ _ c.loop-p.invariant.done c.loop-p-test.false

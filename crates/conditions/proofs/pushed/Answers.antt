@@ -1,7 +1,0 @@
--- `conditions::pushed` stores one range more.
-use borrow.Author.Rules.{rules}
-use Rattle.conditions.proofs.Laws.{one_more}
-use Rattle.conditions.proofs.pushed.Goals as goal
-
-pub returns : goal.returns
-returns c = search (rules, one_more)

@@ -1,7 +1,0 @@
--- `firing::none` carries no index.
-use borrow.Author.Rules.{rules}
-use Rattle.firing.proofs.Carried.{lists_none}
-use Rattle.firing.proofs.none.Goals as goal
-
-pub returns : goal.returns
-returns c = search (rules, lists_none)

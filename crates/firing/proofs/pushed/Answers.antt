@@ -1,7 +1,0 @@
--- `firing::pushed` stores one index more.
-use borrow.Author.Rules.{rules}
-use Rattle.firing.proofs.Carried.{lists_more}
-use Rattle.firing.proofs.pushed.Goals as goal
-
-pub returns : goal.returns
-returns c = search (rules, lists_more)

@@ -1,7 +1,0 @@
--- `index::same_row` compares the words of two rows.
-use borrow.Author.Rules.{rules}
-use Rattle.index.proofs.Members.{same_words}
-use Rattle.index.proofs.same_row.Goals as goal
-
-pub returns : goal.returns
-returns c = search (rules, same_words)
