@@ -16,15 +16,18 @@ use Rattle.rules.proofs.ListLaws.{unless_keeps, fold_every}
 use Rattle.rules.proofs.MemberLaws.{map_place}
 use Rattle.rules.proofs.DistinctEnough.{fold_append}
 use Rattle.state.specs.declared.Limits.{Limits}
-use Rattle.state.specs.Layout.{held, Fits}
+use Rattle.state.specs.Layout.{held}
 use Rattle.marked.specs.Marked.{listed, owner_of, Marked}
 use Rattle.marked.proofs.Laws.{length_listed, at_low}
 use Rattle.encoder.specs.declared.Counters.{Counters}
-use Rattle.encoder.specs.Held.{Reading, opening_of, state_of, GoodAlone}
-use Rattle.encoder.specs.Did.{Widens, on_opening, PlainDid, is_full}
+use Rattle.encoder.specs.declared.State as encoder
+use Rattle.encoder.specs.Held.{Reading, opening_of, state_of}
+use Rattle.encoder.specs.Did.{Widens, on_opening, is_full}
+use Rattle.encoder.specs.Does.{PlainDoes, IsGood, regions_of}
 use Rattle.encoder.proofs.Did.{did_then, did_stop, did_as}
 use Rattle.encoder.proofs.Widening.{Lengthens, lengthens_fold, open_owner_lengthens, widens_opening}
-use Rattle.encoder.proofs.Steps.{state_none, alone_after}
+use Rattle.encoder.proofs.Steps.{state_none}
+use Rattle.encoder.proofs.Does.{at_catalogue, good_then}
 use Rattle.beginning.specs.Beginning.{GoodSome, open_added}
 
 -- ---- openings
@@ -108,109 +111,116 @@ module _ {n : ℕ} {st : ℕ → List ℕ} (k : Marked 6 7 n st) where
 
 -- ---- the loop at place i: the first i are opened
 
-pub record Opened (l : Limits) (n₀ : Counters) (b₀ : List ℕ) (n : Counters) (b : List ℕ) (i : ℕ) : Type 0 where
-  pub fits : Fits l (length b)
-  pub same : length b ≡ length b₀
-  pub start : GoodSome l n₀ (held l b₀)
-  pub did : PlainDid l (λ c v. on_opening (open_first i)) n₀ (held l b₀) n (held l b)
+pub record Opened (count : ℕ) (x₀ x : encoder.State) (i : ℕ) : Type 0 where
+  pub counted : count ≡ x₀.used.added
+  pub start : GoodSome x₀
+  pub did : PlainDoes (λ c v. on_opening (open_first i)) x₀ x
 
-pub opened_start : {l : Limits} {n : Counters} {b : List ℕ} → Fits l (length b) → GoodSome l n (held l b) → Opened l n b n b 0
-opened_start f g =
-    record { fits = f; same = refl; start = g; did = record { is = λ c. state_none (λ v s. unfold on_opening in rw (first_none s.opening)) } }
+pub opened_start : (x : encoder.State) → GoodSome x → Opened x.used.added x x 0
+opened_start x g =
+    record { counted = refl; start = g; did = record { limits = refl; area = refl; did = λ c. state_none (λ v s. unfold on_opening in rw (first_none s.opening)) } }
 
 -- some reading: what is added does not depend on it
 abbrev some : Reading
 some = record { truth = λ p. true; drawn = [] }
 
-module _ {l : Limits} {n₀ n : Counters} {b₀ b : List ℕ} {i : ℕ} (x : Opened l n₀ b₀ n b i) where
+module _ {count : ℕ} {x₀ x : encoder.State} {i : ℕ} (y : Opened count x₀ x i) where
   abbrev c₀ : Catalogue
-  c₀ = x.start.catalogue
+  c₀ = y.start.catalogue
 
-  good_now : GoodAlone c₀ l n (held l b)
-  good_now = alone_after (x.did.is c₀) x.start.good
+  good_now : IsGood c₀ x
+  good_now = good_then (at_catalogue y.did) y.start.good
 
-  pub opened_owners : Marked 1 2 n.owners (held l b)
+  pub opened_owners : Marked 1 2 x.used.owners (regions_of x)
   opened_owners = good_now.good.state.owners
 
-  marked_start : Marked 6 7 n₀.added (held l b₀)
-  marked_start = x.start.good.good.state.added
+  marked_start : Marked 6 7 x₀.used.added (regions_of x₀)
+  marked_start = y.start.good.good.state.added
 
-  marked_now : Marked 6 7 n.added (held l b)
+  marked_now : Marked 6 7 x.used.added (regions_of x)
   marked_now = good_now.good.state.added
 
-  module _ (f : is_full n ≡ false) where
+  module _ (f : is_full x.used ≡ false) where
     -- so it was not full before
-    not_before : is_full n₀ ≡ false
-    not_before = by_cases (is_full n₀) (λ e. absurd (true≢false (sym (((x.did.is c₀).is [] []).stays e) ∙ f))) (λ e. e)
+    not_before : is_full x₀.used ≡ false
+    not_before = by_cases (is_full x₀.used) (λ e. absurd (true≢false (sym (((y.did.did c₀).is [] []).stays e) ∙ f))) (λ e. e)
 
-    same_added : added_in n.added (held l b) ≡ added_in n₀.added (held l b₀)
+    same_added : added_in x.used.added (regions_of x) ≡ added_in x₀.used.added (regions_of x₀)
     same_added =
-        let cl = x.start.good.clauses in
-        let e = ((x.did.is c₀).is cl []).done x.start.good.good not_before f some in
-        sym (added_held c₀ l some n (held l b) cl [])
+        let cl = y.start.good.clauses in
+        let st : ℕ → List ℕ = held x₀.limits x.area.now in
+        let e = ((y.did.did c₀).is cl []).done y.start.good.good not_before f some in
+        rw y.did.limits
+        (sym (added_held c₀ x₀.limits some x.used st cl [])
         ∙ (ap (λ (s : State). s.opening.added) e
-        ∙ (unfold on_opening in first_added i (state_of c₀ l some n₀ (held l b₀) cl []).opening ∙ added_held c₀ l some n₀ (held l b₀) cl []))
+        ∙ (unfold on_opening in first_added i (state_of c₀ x₀.limits some x₀.used (regions_of x₀) cl []).opening ∙ added_held c₀ x₀.limits some x₀.used (regions_of x₀) cl [])))
 
-    same_count : n.added ≡ n₀.added
-    same_count = sym (added_count marked_now) ∙ (ap length same_added ∙ added_count marked_start)
+    same_count : x.used.added ≡ count
+    same_count = sym (added_count marked_now) ∙ (ap length same_added ∙ added_count marked_start) ∙ sym y.counted
 
-    module _ (h : i < n₀.added) {o : ℕ} (e : o ≡ get_or (listed n₀.added 6 (held l b)) i 0) where
-      at_now : o ≡ get_or (listed n.added 6 (held l b)) i 0
+    module _ (h : i < count) {o : ℕ} (e : o ≡ get_or (listed count 6 (regions_of x)) i 0) where
+      at_now : o ≡ get_or (listed x.used.added 6 (regions_of x)) i 0
       at_now = rw same_count e
 
       -- the next owner's number is in range
       pub opened_low : o < 1025
       opened_low =
-          let a : o < length (held l b 7) = at_low marked_now i o (rw same_count h) at_now in
+          let a : o < length (regions_of x 7) = at_low marked_now i o (rw same_count h) at_now in
           omega (arith, marked_now.room, marked_now.short)
 
-      owner_is_law : get_or (added_in n₀.added (held l b₀)) i root ≡ owner_of o
+      owner_is_law : get_or (added_in x₀.used.added (regions_of x₀)) i root ≡ owner_of o
       owner_is_law = rw (← same_added, at_now) (added_at marked_now i (rw same_count h))
 
-      next_is : (c : Catalogue) (v : Reading) (cl wt : List ℕ) → on_opening (open_owner (owner_of o)) (on_opening (open_first i) (state_of c l v n₀ (held l b₀) cl wt))
-          ≡ on_opening (open_first (i + 1)) (state_of c l v n₀ (held l b₀) cl wt)
+      next_is : (c : Catalogue) (v : Reading) (cl wt : List ℕ) → on_opening (open_owner (owner_of o)) (on_opening (open_first i) (state_of c x₀.limits v x₀.used (regions_of x₀) cl wt))
+          ≡ on_opening (open_first (i + 1)) (state_of c x₀.limits v x₀.used (regions_of x₀) cl wt)
       unfolding on_opening
       next_is c v cl wt =
-          let u = state_of c l v n₀ (held l b₀) cl wt in
-          let a : u.opening.added ≡ added_in n₀.added (held l b₀) = added_held c l v n₀ (held l b₀) cl wt in
-          let m : i < length u.opening.added = rw (a, added_count marked_start) h in
+          let u = state_of c x₀.limits v x₀.used (regions_of x₀) cl wt in
+          let a : u.opening.added ≡ added_in x₀.used.added (regions_of x₀) = added_held c x₀.limits v x₀.used (regions_of x₀) cl wt in
+          let m : i < length u.opening.added = rw (a, added_count marked_start, ← y.counted) h in
           let s : open_owner (owner_of o) (open_first i u.opening) ≡ open_first (i + 1) u.opening =
           ap (λ w. open_owner w (open_first i u.opening)) (sym (ap (λ ws. get_or ws i root) a ∙ owner_is_law)) ∙ first_more i u.opening m in
           rw s
 
-      pub opened_step : {n' : Counters} {b' : List ℕ} → length b' ≡ length b
-          → PlainDid l (λ c v. on_opening (open_owner (owner_of o))) n (held l b) n' (held l b') → Opened l n₀ b₀ n' b' (i + 1)
-      opened_step same d =
+      pub opened_step : {x' : encoder.State} → PlainDoes (λ c v. on_opening (open_owner (owner_of o))) x x' → Opened count x₀ x' (i + 1)
+      opened_step d =
           record {
-            fits = rw same x.fits;
-            same = same ∙ x.same;
-            start = x.start;
+            counted = y.counted;
+            start = y.start;
             did = record {
-              is = λ c. record {
-                is = λ cl wt. did_as (did_then ((x.did.is c).is cl wt) ((d.is c).is cl wt)) (λ v. first_widens (i + 1)) (λ g z v. next_is c v cl wt);
+              limits = d.limits ∙ y.did.limits;
+              area = d.area ∙ y.did.area;
+              did = λ c. record {
+                is = λ cl wt. did_as (did_then ((y.did.did c).is cl wt) ((rw y.did.limits at (d.did c)).is cl wt)) (λ v. first_widens (i + 1)) (λ g z v. next_is c v cl wt);
               };
             };
           }
 
-  module _ (h : n₀.added ≤ i) where
+  module _ (h : count ≤ i) where
     all_is : (c : Catalogue) (v : Reading) (cl wt : List ℕ)
-        → on_opening (open_first i) (state_of c l v n₀ (held l b₀) cl wt) ≡ on_opening open_added (state_of c l v n₀ (held l b₀) cl wt)
+        → on_opening (open_first i) (state_of c x₀.limits v x₀.used (regions_of x₀) cl wt) ≡ on_opening open_added (state_of c x₀.limits v x₀.used (regions_of x₀) cl wt)
     unfolding on_opening
     all_is c v cl wt =
-        let u = state_of c l v n₀ (held l b₀) cl wt in
-        let m : length u.opening.added ≤ i = rw (added_held c l v n₀ (held l b₀) cl wt, added_count marked_start) h in
+        let u = state_of c x₀.limits v x₀.used (regions_of x₀) cl wt in
+        let m : length u.opening.added ≤ i = rw (added_held c x₀.limits v x₀.used (regions_of x₀) cl wt, added_count marked_start, ← y.counted) h in
         rw (first_all i u.opening m)
 
     -- all are opened
-    pub opened_end : PlainDid l (λ c v. on_opening open_added) n₀ (held l b₀) n (held l b)
+    pub opened_end : PlainDoes (λ c v. on_opening open_added) x₀ x
     opened_end =
-        record { is = λ c. record { is = λ cl wt. did_as ((x.did.is c).is cl wt) (λ v. added_widens) (λ g z v. all_is c v cl wt) } }
+        record {
+          limits = y.did.limits;
+          area = y.did.area;
+          did = λ c. record { is = λ cl wt. did_as ((y.did.did c).is cl wt) (λ v. added_widens) (λ g z v. all_is c v cl wt) };
+        }
 
   -- where it is full the others are left out
-  pub opened_full : is_full n ≡ true → PlainDid l (λ c v. on_opening open_added) n₀ (held l b₀) n (held l b)
+  pub opened_full : is_full x.used ≡ true → PlainDoes (λ c v. on_opening open_added) x₀ x
   opened_full f =
       record {
-        is = λ c. record {
-          is = λ cl wt. did_as (did_stop ((x.did.is c).is cl wt) f (λ v. rest_widens i)) (λ v. added_widens) (λ g z v. unfold on_opening in rw (rest_all i));
+        limits = y.did.limits;
+        area = y.did.area;
+        did = λ c. record {
+          is = λ cl wt. did_as (did_stop ((y.did.did c).is cl wt) f (λ v. rest_widens i)) (λ v. added_widens) (λ g z v. unfold on_opening in rw (rest_all i));
         };
       }

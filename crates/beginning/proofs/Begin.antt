@@ -34,18 +34,21 @@ use Rattle.line.proofs.Line.{queued_none}
 use Rattle.line.proofs.Tasks.{task_drawn}
 use Rattle.entries.specs.Entries.{drawn_in}
 use Rattle.encoder.specs.declared.Counters.{Counters}
-use Rattle.encoder.specs.Held.{Reading, drawn_task, no_such, task_from, task_in, opening_of, state_of, Good, GoodAlone}
-use Rattle.encoder.specs.Did.{room_of, beyond, on_opening, Did, StateDid, PlainDid, is_full}
+use Rattle.encoder.specs.declared.State as encoder
+use Rattle.encoder.specs.Held.{Reading, drawn_task, no_such, task_from, task_in, opening_of, state_of, Good}
+use Rattle.encoder.specs.Did.{room_of, beyond, on_opening, Did, StateDid, is_full}
+use Rattle.encoder.specs.Does.{StateDoes, PlainDoes, IsGood, IsGoodWith, regions_of}
 use Rattle.state.specs.Limits.{limits_of}
-use Rattle.encoder.proofs.Did.{beside_kept, did_made, did_then}
+use Rattle.encoder.proofs.Did.{beside_kept, did_made}
 use Rattle.encoder.proofs.Frames.{good_kept, list_kept, line_kept}
 use Rattle.encoder.proofs.Widening.{Lengthens, widens_opening}
-use Rattle.encoder.proofs.Steps.{good_alone, alone_after}
+use Rattle.encoder.proofs.Steps.{good_alone}
+use Rattle.encoder.proofs.Does.{does_then, at_catalogue, good_then}
 use Rattle.goals.specs.Goals.{AllGiven}
 use Rattle.goals.proofs.Given.{all_given}
 use Rattle.firing.proofs.Callers.{queued_fire}
 use Rattle.beginning.proofs.Drawn.{drawn_counted}
-use Rattle.beginning.specs.Beginning.{reading_of, Holds, Reaches, GoodSome, open_added, forget_added, fire_from, fire_drawn, emptied, Begins}
+use Rattle.beginning.specs.Beginning.{reading_of, Holds, Reaches, GoodSome, open_added, forget_added, fire_from, fire_drawn, emptied, Empties, Begins, RunBegins}
 
 -- of three tests the first, where the others are false
 pub only_first : (a b d : Bool) → (a || (b || d)) ≡ true → b ≡ false → d ≡ false → a ≡ true
@@ -119,8 +122,8 @@ module _ (l : Limits) (n : Counters) {st st' : ℕ → List ℕ} (x : Emptied 6 
         did_made (λ v. widens_opening forget_added forget_lengthens) refl (λ g. unfold any in beside_kept x.others refl refl refl) refl refl (λ j. refl)
         forgotten_good (λ g. forgotten_state)
 
-  pub forgotten : PlainDid l (λ c v. on_opening forget_added) n st none_added st'
-  forgotten = record { is = λ c. record { is = λ cl wt. forgotten_did c cl wt } }
+  pub forgotten : (c : Catalogue) → StateDid c l (λ v. on_opening forget_added) n st none_added st'
+  forgotten c = record { is = λ cl wt. forgotten_did c cl wt }
 
 -- ---- the rules' beginning of a run
 
@@ -190,25 +193,31 @@ drawn_few h = omega (arith, h.holds.good.entries)
 
 -- ---- what holds between the steps
 
-pub some_emptied : {c : Catalogue} {l : Limits} {n : Counters} {st : ℕ → List ℕ} {cl wt : List ℕ} → Good c l n st cl wt → GoodSome l (emptied n) st
-some_emptied {c} g = record { catalogue = c; good = good_alone (emptied_good g) }
+module _ {c : Catalogue} {x x₀ : encoder.State} {cl wt : List ℕ} (g : IsGoodWith c x cl wt) (e : Empties x x₀) where
+  some_emptied : IsGood c x₀
+  some_emptied = rw (e.limits, e.used, e.same) (good_alone (emptied_good g))
 
-pub added_after : {l : Limits} {n a : Counters} {st st₁ : ℕ → List ℕ} → GoodSome l n st → PlainDid l (λ c v. on_opening open_added) n st a st₁
-    → Marked 6 7 a.added st₁
-added_after g x = (alone_after (x.is g.catalogue) g.good).good.state.added
+  pub good_emptied : GoodSome x₀
+  good_emptied = record { catalogue = c; good = some_emptied }
 
-pub alone_begun : {c : Catalogue} {l : Limits} {n n₀ a b : Counters} {st st₁ st₂ : ℕ → List ℕ} {cl wt : List ℕ} → Good c l n st cl wt → n₀ ≡ emptied n
-    → PlainDid l (λ c v. on_opening open_added) n₀ st a st₁ → PlainDid l (λ c v. on_opening forget_added) a st₁ b st₂ → GoodAlone c l b st₂
-alone_begun {c} g e x y = alone_after (y.is c) (alone_after (x.is c) (rw e (good_alone (emptied_good g))))
+  module _ {a : encoder.State} (d : PlainDoes (λ c v. on_opening open_added) x₀ a) where
+    good_added : IsGood c a
+    good_added = good_then (at_catalogue d) some_emptied
+
+    pub added_after : Marked 6 7 a.used.added (regions_of a)
+    added_after = good_added.good.state.added
+
+    module _ {b : encoder.State} (f : PlainDoes (λ c v. on_opening forget_added) a b) where
+      pub good_begun : IsGood c b
+      good_begun = good_then (at_catalogue f) good_added
+
+      pub begun_limits : b.limits ≡ x.limits
+      begun_limits = f.limits ∙ (d.limits ∙ e.limits)
 
 -- ---- the steps together
 
-module _ {c : Catalogue} {l : Limits} (n : Counters) {n₀ a b m : Counters} {st st₁ st₂ st₃ : ℕ → List ℕ} (cl wt : List ℕ)
-    (e : n₀ ≡ emptied n) (x : PlainDid l (λ c v. on_opening open_added) n₀ st a st₁) (y : PlainDid l (λ c v. on_opening forget_added) a st₁ b st₂)
-    (z : StateDid c l (λ v. on_opening (fire_drawn c v (drawn_in l n.drawn wt))) b st₂ m st₃) where
-  whole_did : Did c l (λ v. beginning c v (drawn_in l n.drawn wt)) (emptied n) st cl wt m st₃ cl wt
-  whole_did = rw e at (did_then (did_then ((x.is c).is cl wt) ((y.is c).is cl wt)) (z.is cl wt))
-
+module _ {c : Catalogue} {l : Limits} {n m : Counters} {st st' : ℕ → List ℕ} {cl wt : List ℕ}
+    (whole_did : Did c l (λ v. beginning c v (drawn_in l n.drawn wt)) (emptied n) st cl wt m st' cl wt) where
   module _ {s : State} (g : Given c) (reached : Reached (limits_of l) c s) (h : Holds c l s n st cl wt) where
     begun_is : beginning c (reading_of s) (drawn_in l n.drawn wt) (state_of c l (reading_of s) (emptied n) st cl wt) ≡ forget (begun c s)
     begun_is =
@@ -219,7 +228,7 @@ module _ {c : Catalogue} {l : Limits} (n : Counters) {n₀ a b m : Counters} {st
     unfolding emptied
     going = h.room
 
-    begun_now : is_full m ≡ false → state_of c l (reading_of s) m st₃ cl wt ≡ forget (begun c s)
+    begun_now : is_full m ≡ false → state_of c l (reading_of s) m st' cl wt ≡ forget (begun c s)
     begun_now f = whole_did.done (emptied_good h.good) going f (reading_of s) ∙ begun_is
 
     begun_over : is_full m ≡ true → (level : ℕ) → above (limits_of l) (run_once c level s) ≡ true
@@ -233,7 +242,7 @@ module _ {c : Catalogue} {l : Limits} (n : Counters) {n₀ a b m : Counters} {st
         (only_first (above (limits_of l) u) _ _ b (le-ltb (3649 + l.waiting - 0) (length u.opening.line) few)
         (le-ltb 64 (length u.opening.several) (point_fits g reached r begins).several))
 
-  pub begins_all : Good c l n st cl wt → Marked 14 15 0 st → Begins c l n st cl wt m st₃
+  begins_all : Good c l n st cl wt → Marked 14 15 0 st → Begins c l n st cl wt m st'
   unfolding emptied
   begins_all g h =
       record {
@@ -244,3 +253,14 @@ module _ {c : Catalogue} {l : Limits} (n : Counters) {n₀ a b m : Counters} {st
         done = λ s d i k f. begun_now d i k f;
         over = λ s d i k f. begun_over d i k f;
       }
+
+pub run_begins : {c : Catalogue} {l : Limits} {x x₀ a b x' : encoder.State} {cl wt : List ℕ} → IsGoodWith c x cl wt → Marked 14 15 0 (regions_of x) → Empties x x₀
+    → PlainDoes (λ c v. on_opening open_added) x₀ a → PlainDoes (λ c v. on_opening forget_added) a b
+    → l ≡ x.limits → StateDoes c (λ v. on_opening (fire_drawn c v (drawn_in l x.used.drawn wt))) b x' → RunBegins c x cl wt x'
+run_begins {cl = cl} {wt = wt} g h e d f same z =
+    let steps = does_then (does_then (at_catalogue d) (at_catalogue f)) (rw same at z) in
+    record {
+      limits = steps.limits ∙ e.limits;
+      area = steps.area ∙ e.area;
+      did = begins_all (rw (e.limits, e.used, e.same) at (steps.did.is cl wt)) g h;
+    }

@@ -1,5 +1,5 @@
 -- The drawn entries fire one after another, each a task of its own.
-use mathlib.Core.Path.{◌≡◌, refl, ◌∙◌, ap}
+use mathlib.Core.Path.{◌≡◌, refl, ap}
 use mathlib.Core.List.{List, [], ◌∷◌, ◌++◌}
 use Prim.Native.Nat.{ℕ, suc, ◌+◌, ◌<◌, ◌≤◌}
 use native.Mathlib.Nat.{add-zero}
@@ -15,14 +15,14 @@ use Rattle.tables.specs.declared.Counts.{Counts}
 use Rattle.cache.specs.Areas.{catalogue}
 use Rattle.cache.proofs.Laws.{requirements_held}
 use Rattle.state.specs.declared.Limits.{Limits}
-use Rattle.state.specs.Layout.{held, Fits}
 use Rattle.state.proofs.Rows.{length_rows}
 use Rattle.entries.specs.declared.Entry.{Entry}
 use Rattle.entries.specs.Entries.{no_entry, entry_of, row_at_index, drawn_in}
-use Rattle.encoder.specs.declared.Counters.{Counters}
-use Rattle.encoder.specs.Held.{Reading, task_in, GoodAlone}
-use Rattle.encoder.specs.Did.{on_opening, StateDid}
-use Rattle.encoder.proofs.Steps.{state_same, state_none, state_then}
+use Rattle.encoder.specs.declared.State as encoder
+use Rattle.encoder.specs.Held.{Reading, task_in}
+use Rattle.encoder.specs.Did.{on_opening}
+use Rattle.encoder.specs.Does.{StateDoes, IsGood}
+use Rattle.encoder.proofs.Does.{does_same, does_then, does_none, good_then}
 use Rattle.goals.specs.Goals.{AllGiven}
 use Rattle.firing.specs.Firing.{queued}
 use Rattle.beginning.specs.Beginning.{fire_from, fire_drawn}
@@ -61,16 +61,17 @@ module _ (c : Catalogue) (v : Reading) where
 
 -- ---- the loop at entry e: those before it have fired
 
-pub record Fired (c : Catalogue) (l : Limits) (ds : List (ℕ × ℕ)) (n₀ : Counters) (b₀ : List ℕ) (n : Counters) (b : List ℕ) (e : ℕ) : Type 0 where
-  pub fits : Fits l (length b)
-  pub same : length b ≡ length b₀
-  pub start : GoodAlone c l n₀ (held l b₀)
-  pub did : StateDid c l (λ v. on_opening (fire_drawn c v (take e ds))) n₀ (held l b₀) n (held l b)
+pub record Fired (c : Catalogue) (ds : List (ℕ × ℕ)) (x₀ x : encoder.State) (e : ℕ) : Type 0 where
+  pub start : IsGood c x₀
+  pub did : StateDoes c (λ v. on_opening (fire_drawn c v (take e ds))) x₀ x
 
-pub fired_start : {c : Catalogue} {l : Limits} (ds : List (ℕ × ℕ)) {n : Counters} {b : List ℕ} → Fits l (length b) → GoodAlone c l n (held l b) → Fired c l ds n b n b 0
-fired_start {c} ds f g = record { fits = f; same = refl; start = g; did = state_none (λ v s. unfold on_opening in rw (drawn_none c v s.opening)) }
+pub fired_start : {c : Catalogue} (ds : List (ℕ × ℕ)) {x : encoder.State} → IsGood c x → Fired c ds x x 0
+fired_start {c} ds g = record { start = g; did = does_none (λ v s. unfold on_opening in rw (drawn_none c v s.opening)) }
 
-module _ {c : Catalogue} {l : Limits} {ds : List (ℕ × ℕ)} {n₀ n : Counters} {b₀ b : List ℕ} {e : ℕ} (x : Fired c l ds n₀ b₀ n b e) where
+module _ {c : Catalogue} {ds : List (ℕ × ℕ)} {x₀ x : encoder.State} {e : ℕ} (y : Fired c ds x₀ x e) where
+  pub fired_good : IsGood c x
+  fired_good = good_then y.did y.start
+
   module _ (it : Entry) (h : e < length ds) (is : entry_of it ≡ get_or ds e no_entry) where
     next_is : (v : Reading) (s : State)
         → on_opening (queued c it.requirement (task_in c v (3649 + e))) (on_opening (fire_drawn c v (take e ds)) s) ≡ on_opening (fire_drawn c v (take (e + 1) ds)) s
@@ -79,12 +80,11 @@ module _ {c : Catalogue} {l : Limits} {ds : List (ℕ × ℕ)} {n₀ n : Counter
         let q : it.requirement ≡ (get_or ds e no_entry).0 = ap (λ (y : ℕ × ℕ). y.0) is in
         rw (q, drawn_more c v ds e s.opening h)
 
-    pub fired_step : {n' : Counters} {b' : List ℕ} → length b' ≡ length b
-        → StateDid c l (λ v. on_opening (queued c it.requirement (task_in c v (3649 + e)))) n (held l b) n' (held l b') → Fired c l ds n₀ b₀ n' b' (e + 1)
-    fired_step same d = record { fits = rw same x.fits; same = same ∙ x.same; start = x.start; did = state_same (state_then x.did d) next_is }
+    pub fired_step : {x' : encoder.State} → StateDoes c (λ v. on_opening (queued c it.requirement (task_in c v (3649 + e)))) x x' → Fired c ds x₀ x' (e + 1)
+    fired_step d = record { start = y.start; did = does_same (does_then y.did d) next_is }
 
-  pub fired_end : length ds ≤ e → StateDid c l (λ v. on_opening (fire_drawn c v ds)) n₀ (held l b₀) n (held l b)
-  fired_end h = rw (take_all e ds h) at x.did
+  pub fired_end : length ds ≤ e → StateDoes c (λ v. on_opening (fire_drawn c v ds)) x₀ x
+  fired_end h = rw (take_all e ds h) at y.did
 
 -- an entry's requirement
 pub entry_given : (k : Counts) (m u t : List ℕ) {ds : List (ℕ × ℕ)} {e : ℕ} (it : Entry) → AllGiven (catalogue k m u t) ds → e < length ds → entry_of it ≡ get_or ds e no_entry

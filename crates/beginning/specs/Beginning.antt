@@ -9,10 +9,13 @@ use Rattle.rules.specs.Limits.{above}
 use Rattle.rules.proofs.Reached.{Given, Reached}
 use Rattle.rules.proofs.Forgotten.{forget}
 use Rattle.state.specs.declared.Limits.{Limits}
+use Rattle.state.specs.Layout.{held}
 use Rattle.marked.specs.Marked.{Marked}
 use Rattle.encoder.specs.declared.Counters.{Counters}
-use Rattle.encoder.specs.Held.{Reading, task_in, state_of, Good, GoodAlone}
+use Rattle.encoder.specs.declared.State as encoder
+use Rattle.encoder.specs.Held.{Reading, task_in, state_of, Good}
 use Rattle.encoder.specs.Did.{is_full}
+use Rattle.encoder.specs.Does.{IsGood, regions_of}
 use Rattle.state.specs.Limits.{limits_of}
 use Rattle.firing.specs.Firing.{queued}
 
@@ -34,12 +37,19 @@ pub record Reaches (c : Catalogue) (l : Limits) (n : Counters) (st : ℕ → Lis
   pub reached : Reached (limits_of l) c state
   pub holds : Holds c l state n st cl wt
 
+-- the same two of the encoder's state and the two other areas
+abbrev pub IsHolding : Catalogue → State → encoder.State → (cl wt : List ℕ) → Type 0
+IsHolding c s x cl wt = Holds c x.limits s x.used (regions_of x) cl wt
+
+abbrev pub IsReached : Catalogue → encoder.State → (cl wt : List ℕ) → Type 0
+IsReached c x cl wt = Reaches c x.limits x.used (regions_of x) cl wt
+
 -- ---- a run begins
 
--- what holds between two steps of the state area, with some catalogue: for a step that does not read it
-pub record GoodSome (l : Limits) (n : Counters) (st : ℕ → List ℕ) : Type 0 where
+-- what holds between two steps of the state alone, with some catalogue: for a step that does not read it
+pub record GoodSome (x : encoder.State) : Type 0 where
   pub catalogue : Catalogue
-  pub good : GoodAlone catalogue l n st
+  pub good : IsGood catalogue x
 
 unfoldable pub open_added : Opening → Opening
 open_added o = fold open_owner o.added o
@@ -77,6 +87,13 @@ emptied n =
       full = n.full;
     }
 
+-- that is so of the encoder's state
+pub record Empties (x x' : encoder.State) : Type 0 where
+  pub limits : x'.limits ≡ x.limits
+  pub area : x'.area.ghost_name ≡ x.area.ghost_name
+  pub same : x'.area.now ≡ x.area.now
+  pub used : x'.used ≡ emptied x.used
+
 -- a run has begun, or would end above a limit
 pub record Begins (c : Catalogue) (l : Limits) (n : Counters) (st : ℕ → List ℕ) (cl wt : List ℕ) (n' : Counters) (st' : ℕ → List ℕ) : Type 0 where
   pub good : Good c l n' st' cl wt
@@ -87,3 +104,9 @@ pub record Begins (c : Catalogue) (l : Limits) (n : Counters) (st : ℕ → List
       → state_of c l (reading_of s) n' st' cl wt ≡ forget (begun c s)
   pub over : (s : State) → Given c → Reached (limits_of l) c s → Holds c l s n st cl wt → is_full n' ≡ true
       → (level : ℕ) → above (limits_of l) (run_once c level s) ≡ true
+
+-- the same of the encoder's state
+pub record RunBegins (c : Catalogue) (x : encoder.State) (cl wt : List ℕ) (x' : encoder.State) : Type 0 where
+  pub limits : x'.limits ≡ x.limits
+  pub area : x'.area.ghost_name ≡ x.area.ghost_name
+  pub did : Begins c x.limits x.used (regions_of x) cl wt x'.used (held x.limits x'.area.now)

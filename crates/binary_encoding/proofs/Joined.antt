@@ -18,18 +18,19 @@ use Rattle.rules.proofs.Grows.{join_all_grows}
 use Rattle.rules.proofs.Line.{join_all_opening}
 use Rattle.tables.specs.declared.Counts.{Counts}
 use Rattle.cache.specs.Areas.{catalogue}
-use Rattle.state.specs.declared.Limits.{Limits}
 use Rattle.state.specs.Changed.{Changed}
 use Rattle.variable_map.proofs.Laws.{variables_kept}
-use Rattle.marked.specs.Marked.{listed, Marked, Emptied}
+use Rattle.marked.specs.Marked.{listed, Marked}
 use Rattle.marked.proofs.Laws.{length_listed, listed_same, marked_same, marked_is}
-use Rattle.encoder.specs.declared.Counters.{Counters}
 use Rattle.encoder.specs.declared.Run as code
-use Rattle.encoder.specs.Held.{run_of, opening_of, state_of, GoodState, Good}
-use Rattle.encoder.specs.Did.{Widens, on_opening, ClausesDid}
-use Rattle.goals.specs.Goals.{Gathers}
-use Rattle.goals.proofs.Released.{good_hand, did_released}
-use Rattle.tracking.specs.Joining.{Makes, GoodOf, part_name, of_name, NamesLow, MakesOf, join_names, forget_named, Forgets, CanJoin}
+use Rattle.encoder.specs.declared.State as encoder
+use Rattle.encoder.specs.Held.{run_of, opening_of, state_of}
+use Rattle.encoder.specs.Did.{Widens, on_opening}
+use Rattle.encoder.specs.Does.{ClausesDoes, IsGoodWith, regions_of}
+use Rattle.encoder.proofs.Does.{at_catalogue}
+use Rattle.goals.specs.Goals.{HandGathers, HandReleased}
+use Rattle.goals.proofs.Released.{good_gathered, clauses_do_released}
+use Rattle.tracking.specs.Joining.{Makes, GoodOf, part_name, of_name, NamesLow, tracked_in, named_in, MakesOf, join_names, forget_named, Forgets, CanJoin}
 use Rattle.tracking.proofs.Steps.{makes_as, makes_then}
 use Rattle.binary_encoding.specs.Joiners.{flagged, JoinersNoted, flagged_names}
 use Rattle.binary_encoding.proofs.Track.{name_held, of_name_held}
@@ -63,27 +64,34 @@ module _ (k : Counts) (m u t : List ℕ) where
 
 -- ---- while the names are at hand
 
-pub hand_can : {n : Counters} {st st₁ : ℕ → List ℕ} {r : code.Run} → Changed (14 ∷ 15 ∷ []) st st₁ → CanJoin n st r → CanJoin n st₁ r
-unfolding any
-hand_can {n = n} x c =
-    record {
-      going = c.going;
-      number = c.number;
-      older = c.older;
-      known = rw (variables_kept x n.variables refl, listed_same n.tracked 10 x refl) c.known;
-    }
+module _ {xs : List ℕ} {names : ℕ} {x x₁ : encoder.State} (w : HandGathers xs x names x₁) where
+  hand_changed : Changed (14 ∷ 15 ∷ []) (regions_of x) (regions_of x₁)
+  hand_changed = rw w.written.limits w.gathers.others
 
-module _ (k : Counts) (m u t : List ℕ) {l : Limits} {n : Counters} {st st₁ : ℕ → List ℕ} {cl : List ℕ} (g : Good (catalogue k m u t) l n st cl []) (x : Changed (14 ∷ 15 ∷ []) st st₁) where
-  pub hand_good : GoodOf k t l n st₁ cl
-  hand_good = GoodOf.good m u (good_hand x g)
+  pub hand_at : Marked 14 15 names (regions_of x₁)
+  hand_at = rw w.written.limits w.gathers.marked
 
-  module _ (F : Catalogue → State → State) {names : ℕ} {n' : Counters} {st₂ : ℕ → List ℕ} {cl' : List ℕ} (w : Marked 14 15 names st₁) (d : MakesOf k t l F n st₁ cl n' st₂ cl') where
-    pub hand_marked : Marked 14 15 names st₂
-    hand_marked = (of_beside F hand_good d).marked names w
+  pub hand_can : {r : code.Run} → CanJoin x r → CanJoin x₁ r
+  unfolding any
+  hand_can c =
+      rw w.written.used (record {
+        going = c.going;
+        number = c.number;
+        older = c.older;
+        known = rw (variables_kept hand_changed x.used.variables refl, listed_same x.used.tracked 10 hand_changed refl) c.known;
+      })
 
-    pub hand_named : {st₃ : ℕ → List ℕ} → Emptied 14 15 st₂ st₃ → Marked 8 9 n'.named st₃
-    unfolding any
-    hand_named y = marked_same (of_named (of_after F hand_good d)) y.others refl refl
+  module _ (k : Counts) (m u t : List ℕ) {cl : List ℕ} (g : IsGoodWith (catalogue k m u t) x cl []) where
+    pub hand_good : GoodOf k t x₁ cl
+    hand_good = GoodOf.good m u (good_gathered w g)
+
+    module _ (F : Catalogue → State → State) {x₂ : encoder.State} {cl' : List ℕ} (d : MakesOf k t F x₁ cl x₂ cl') where
+      pub hand_marked : Marked 14 15 names (regions_of x₂)
+      hand_marked = (of_beside F hand_good d).marked names hand_at
+
+      pub hand_named : {x₃ : encoder.State} → HandReleased x₂ x₃ → Marked 8 9 x₃.used.named (regions_of x₃)
+      unfolding any
+      hand_named y = rw (y.written.used, y.written.limits) (marked_same (of_named (of_after F hand_good d)) y.emptied.others refl refl)
 
 -- ---- all of it
 
@@ -93,31 +101,35 @@ join_all_widens c r s =
     let o = join_all_opening c r s in
     record { grows = join_all_grows c r s; line = rw o (omega arith); several = rw o (omega arith) }
 
-module _ (k : Counts) (m u t : List ℕ) {l : Limits} (r : code.Run) {n a n' : Counters} {st st₁ st₂ st₃ st₄ : ℕ → List ℕ} {cl cl' : List ℕ} {flags : List Bool} {names : ℕ} (z : Marked 14 15 0 st)
-    (j : JoinersNoted k t n.named st n.named flags)
-    (x : Gathers (flagged_names k t flags (listed n.named 8 st)) st names st₁) (d : MakesOf k t l (join_names (run_of r) (listed names 14 st₁)) n st₁ cl a st₂ cl')
-    (y : Emptied 14 15 st₂ st₃) (f : Forgets l a st₃ n' st₄) where
-  idle : GoodState (catalogue k m u t) l n st → (y : ℕ) → flagged flags y ≡ false
-      → filter (λ p. not (elem p (listed n.tracked 10 st))) (filter (λ p. eqb (name_of (catalogue k m u t) p) y) (listed n.named 8 st)) ≡ []
+module _ (k : Counts) (m u t : List ℕ) (r : code.Run) {x x₁ x₂ x₃ x₄ : encoder.State} {cl cl' : List ℕ} {flags : List Bool} {names : ℕ} (z : Marked 14 15 0 (regions_of x))
+    (j : JoinersNoted k t x.used.named (regions_of x) x.used.named flags)
+    (w : HandGathers (flagged_names k t flags (named_in x)) x names x₁) (d : MakesOf k t (join_names (run_of r) (listed names 14 (regions_of x₁))) x₁ cl x₂ cl')
+    (y : HandReleased x₂ x₃) (f : Forgets x₃ x₄) where
+  idle : IsGoodWith (catalogue k m u t) x cl [] → (y : ℕ) → flagged flags y ≡ false
+      → filter (λ p. not (elem p (tracked_in x))) (filter (λ p. eqb (name_of (catalogue k m u t) p) y) (named_in x)) ≡ []
   unfolding of_name tracked_of
   idle g y f =
-      let held : filter (λ p. eqb (part_name k t p) y) (listed n.named 8 st) ≡ filter (λ p. eqb (name_of (catalogue k m u t) p) y) (listed n.named 8 st)
-      = of_name_held k m u t y (listed n.named 8 st) in
-      ap (λ (ps : List ℕ). filter (λ p. not (elem p (listed n.tracked 10 st))) ps) (sym held)
-      ∙ joiners_idle k t flags (listed n.tracked 10 st) n.named st (length_listed g.named) (marked_is g.tracked) j y f
+      let held : filter (λ p. eqb (part_name k t p) y) (named_in x) ≡ filter (λ p. eqb (name_of (catalogue k m u t) p) y) (named_in x)
+      = of_name_held k m u t y (named_in x) in
+      ap (λ (ps : List ℕ). filter (λ p. not (elem p (tracked_in x))) ps) (sym held)
+      ∙ joiners_idle k t flags (tracked_in x) x.used.named (regions_of x) (length_listed g.state.named) (marked_is g.state.tracked) j y f
 
-  both : Makes (catalogue k m u t) l (λ s. on_opening forget_named (join_names (run_of r) (listed names 14 st₁) (catalogue k m u t) s)) n st cl n' st₄ cl'
+  -- the names that are gathered
+  gathered : listed names 14 (regions_of x₁) ≡ flagged_names k t flags (named_in x)
+  gathered = rw w.written.limits w.gathers.is
+
+  both : Makes (catalogue k m u t) (λ s. on_opening forget_named (join_names (run_of r) (listed names 14 (regions_of x₁)) (catalogue k m u t) s)) x cl x₄ cl'
   both =
-      makes_then (record { is = did_released z x.others y (λ v. join_names (run_of r) (listed names 14 st₁) (catalogue k m u t)) (d.is m u).is })
-      (state_makes (on_opening forget_named) (f.is (catalogue k m u t)))
+      makes_then (record { is = clauses_do_released w z (d.is m u).is y })
+      (state_makes (on_opening forget_named) (at_catalogue f.does))
 
-  pub joined_all : ClausesDid (catalogue k m u t) l (λ v. join_all (catalogue k m u t) (run_of r)) n st cl n' st₄ cl'
+  pub joined_all : ClausesDoes (catalogue k m u t) (λ v. join_all (catalogue k m u t) (run_of r)) x cl x₄ cl'
   joined_all =
       (makes_as both (join_all_widens (catalogue k m u t) (run_of r))
-      (λ g e v wt. same g.state (state_of (catalogue k m u t) l v n st cl wt) (unfold state_of opening_of in refl) (unfold state_of opening_of in refl))).is
+      (λ g e v wt. same g (state_of (catalogue k m u t) x.limits v x.used (regions_of x) cl wt) (unfold state_of opening_of in refl) (unfold state_of opening_of in refl))).is
     where
-      same : GoodState (catalogue k m u t) l n st → (s : State) → s.opening.named ≡ listed n.named 8 st → s.opening.tracked ≡ listed n.tracked 10 st
-          → on_opening forget_named (join_names (run_of r) (listed names 14 st₁) (catalogue k m u t) s) ≡ join_all (catalogue k m u t) (run_of r) s
+      same : IsGoodWith (catalogue k m u t) x cl [] → (s : State) → s.opening.named ≡ named_in x → s.opening.tracked ≡ tracked_in x
+          → on_opening forget_named (join_names (run_of r) (listed names 14 (regions_of x₁)) (catalogue k m u t) s) ≡ join_all (catalogue k m u t) (run_of r) s
       same g s e d =
-          rw (x.is, names_held k m u t flags (listed n.named 8 st), ← e)
-          (all_join (catalogue k m u t) (run_of r) (flagged flags) s (λ y f. rw (d, e) (idle g y f)) (rw e g.named.once))
+          rw (gathered, names_held k m u t flags (named_in x), ← e)
+          (all_join (catalogue k m u t) (run_of r) (flagged flags) s (λ y f. rw (d, e) (idle g y f)) (rw e g.state.named.once))

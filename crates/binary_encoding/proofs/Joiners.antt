@@ -16,7 +16,8 @@ use Rattle.rules.proofs.MemberLaws.{filter_append}
 use Rattle.tables.specs.declared.Counts.{Counts}
 use Rattle.tables.specs.Tables.{tables}
 use Rattle.marked.specs.Marked.{listed, is_marked}
-use Rattle.goals.specs.Goals.{Notes}
+use Rattle.encoder.specs.declared.State.{State}
+use Rattle.goals.specs.Goals.{HandNotes}
 use Rattle.tracking.specs.Joining.{part_name, NamesLow}
 use Rattle.binary_encoding.specs.Joiners.{flagged, NotesJoiner, JoinersNoted, NotesIf}
 
@@ -36,16 +37,14 @@ joiner_flagged k t st p a flags w h e =
       new = λ z. rw (← q, get_or-set_same flags a true false low);
     }
 
--- ---- the loop over the named parts
-
 -- ---- a name is noted if it is flagged
 
-module _ (flags : List Bool) (name m : ℕ) (st : ℕ → List ℕ) where
-  pub name_passed : get_or flags name false ≡ false → NotesIf (flagged flags name) name m st m st
+module _ (flags : List Bool) (name m : ℕ) (x : State) where
+  pub name_passed : get_or flags name false ≡ false → NotesIf (flagged flags name) name m x m x
   unfolding flagged
   name_passed e = record { noted = λ z. absurd (false≢true (rw e at z)); same = λ z. refl; kept = λ z. refl }
 
-  pub name_noted : {r : ℕ} {st' : ℕ → List ℕ} → get_or flags name false ≡ true → Notes name m st r st' → NotesIf (flagged flags name) name m st r st'
+  pub name_noted : {r : ℕ} {x' : State} → get_or flags name false ≡ true → HandNotes name m x r x' → NotesIf (flagged flags name) name m x r x'
   unfolding flagged
   name_noted e y = record { noted = λ z. y; same = λ z. absurd (false≢true (sym (rw e at z))); kept = λ z. absurd (false≢true (sym (rw e at z))) }
 

@@ -23,20 +23,18 @@ use Rattle.rules.proofs.Line.{link_all_opening}
 use Rattle.rules.proofs.ClauseByClause.{add_clause, emit_one_by_one}
 use Rattle.tables.specs.declared.Counts.{Counts}
 use Rattle.cache.specs.Areas.{catalogue}
-use Rattle.state.specs.declared.Limits.{Limits}
-use Rattle.state.specs.Layout.{held, Fits}
 use Rattle.variable_map.specs.declared.Origin as variable_map
 use Rattle.variable_map.specs.declared.Origin.TheVariants.{Root, Part, Forbid, One, Violation, Gate}
-use Rattle.variable_map.specs.Mapping.{origin_of, variables, AllKnown}
+use Rattle.variable_map.specs.Mapping.{origin_of, AllKnown}
 use Rattle.variable_map.proofs.Laws as variables
-use Rattle.marked.specs.Marked.{listed}
-use Rattle.encoder.specs.declared.Counters.{Counters}
 use Rattle.encoder.specs.declared.Run as code
-use Rattle.encoder.specs.Held.{run_of, opening_of, state_of, Good, LongEnough}
-use Rattle.encoder.specs.Did.{Widens, ClausesDid, is_full}
+use Rattle.encoder.specs.declared.State as encoder
+use Rattle.encoder.specs.Held.{run_of, opening_of, state_of, LongEnough}
+use Rattle.encoder.specs.Did.{Widens, is_full}
+use Rattle.encoder.specs.Does.{ClausesDoes, IsGoodWith, regions_of, variables_of}
 use Rattle.encoder.proofs.Did.{widens_fold}
-use Rattle.tracking.specs.Joining.{Makes, AddsAll, GoodSome, of_name, variables_of, any_clauses, link_clauses, CanLink}
-use Rattle.tracking.proofs.Steps.{some_good, some_all, makes_as, Folded, folded_start, folded_step, folded_stop, folded_end, adds_none, adds_as, Areas, areas_start, areas_then, Same, same_count, clauses_same, known_same}
+use Rattle.tracking.specs.Joining.{Makes, AddsAll, GoodSome, of_name, tracked_in, tracked_variables, any_clauses, link_clauses, CanLink}
+use Rattle.tracking.proofs.Steps.{some_good, some_all, makes_as, Folded, folded_start, folded_step, folded_stop, folded_end, adds_none, adds_limits, adds_as, Areas, areas_start, areas_then, Same, same_count, clauses_same, known_same}
 use Rattle.binary_encoding.proofs.Track.{of_name_held}
 use Rattle.binary_encoding.proofs.Joins.{emit_widens}
 use Rattle.binary_encoding.proofs.All.{link_step, link_if, all_linked}
@@ -52,14 +50,14 @@ other_none (One name) q = absurd (q name refl)
 other_none (Violation range) q = refl
 other_none (Gate goal) q = refl
 
-module _ (k : Counts) (t : List ℕ) (l : Limits) (r : code.Run) (n : Counters) (st : ℕ → List ℕ) (cl : List ℕ) (y : ℕ) (o : variable_map.Origin)
-    (e : origin_of o ≡ get_or (variables n.variables st) y (chosen root)) where
-  pub link_one : {n' : Counters} {st' : ℕ → List ℕ} {cl' : List ℕ} {name : ℕ} → o ≡ One name → AddsAll l r (any_clauses y (variables_of k t n st name)) n st cl n' st' cl'
-      → AddsAll l r (link_clauses k t (variables n.variables st) y (listed n.tracked 10 st)) n st cl n' st' cl'
-  unfolding link_clauses variables_of concat_map name_if_one any_clauses
+module _ (k : Counts) (t : List ℕ) (r : code.Run) (x : encoder.State) (cl : List ℕ) (y : ℕ) (o : variable_map.Origin)
+    (e : origin_of o ≡ get_or (variables_of x) y (chosen root)) where
+  pub link_one : {x' : encoder.State} {cl' : List ℕ} {name : ℕ} → o ≡ One name → AddsAll r (any_clauses y (tracked_variables k t x name)) x cl x' cl'
+      → AddsAll r (link_clauses k t (variables_of x) y (tracked_in x)) x cl x' cl'
+  unfolding link_clauses tracked_variables concat_map name_if_one any_clauses
   link_one q a = adds_as a (rw (← e, q) (sym (append-nil _)))
 
-  pub link_none : ((name : ℕ) → o ≡ One name → ⊥) → AddsAll l r (link_clauses k t (variables n.variables st) y (listed n.tracked 10 st)) n st cl n st cl
+  pub link_none : ((name : ℕ) → o ≡ One name → ⊥) → AddsAll r (link_clauses k t (variables_of x) y (tracked_in x)) x cl x cl
   unfolding link_clauses concat_map
   link_none q = adds_as adds_none (rw (← e, other_none o q))
 
@@ -117,64 +115,61 @@ link_all_widens c r s =
 
 -- ---- the loop at variable y
 
-pub record Linked (k : Counts) (m u t : List ℕ) (l : Limits) (r : code.Run) (n₀ : Counters) (b₀ cl₀ b cl : List ℕ) (n : Counters) (y : ℕ) : Type 0 where
-  pub areas : Areas l b₀ cl₀ b cl
-  pub good : GoodSome l n (held l b) cl
-  pub can : CanLink n (held l b)
-  pub count : n.variables ≡ n₀.variables
-  pub did : Folded (catalogue k m u t) l (λ o. link_if (run_of r) o (catalogue k m u t)) (drop r.before (variables n₀.variables (held l b₀)))
-      (drop y (variables n.variables (held l b))) n₀ (held l b₀) cl₀ n (held l b) cl
+pub record Linked (k : Counts) (m u t : List ℕ) (r : code.Run) (x₀ : encoder.State) (cl₀ : List ℕ) (x : encoder.State) (cl : List ℕ) (y : ℕ) : Type 0 where
+  pub areas : Areas x₀ x cl
+  pub good : GoodSome x cl
+  pub can : CanLink x
+  pub count : x.used.variables ≡ x₀.used.variables
+  pub did : Folded (catalogue k m u t) (λ o. link_if (run_of r) o (catalogue k m u t)) (drop r.before (variables_of x₀)) (drop y (variables_of x)) x₀ cl₀ x cl
 
-pub linked_start : (k : Counts) (m u t : List ℕ) (l : Limits) (r : code.Run) (n : Counters) (b cl : List ℕ) → Fits l (length b) → LongEnough l (length cl) 16384
-    → Good (catalogue k m u t) l n (held l b) cl [] → CanLink n (held l b) → Linked k m u t l r n b cl b cl n r.before
-linked_start k m u t l r n b cl f h g c =
-    record { areas = areas_start f h; good = GoodSome.some (catalogue k m u t) g; can = c; count = refl; did = folded_start }
+pub linked_start : (k : Counts) (m u t : List ℕ) (r : code.Run) (x : encoder.State) (cl : List ℕ) → LongEnough x.limits (length cl) 16384
+    → IsGoodWith (catalogue k m u t) x cl [] → CanLink x → Linked k m u t r x cl x cl r.before
+linked_start k m u t r x cl h g c = record { areas = areas_start h; good = GoodSome.some (catalogue k m u t) g; can = c; count = refl; did = folded_start }
 
-module _ {k : Counts} {m u t : List ℕ} {l : Limits} {r : code.Run} {n₀ : Counters} {b₀ cl₀ b cl : List ℕ} {n : Counters} {y : ℕ} (x : Linked k m u t l r n₀ b₀ cl₀ b cl n y) where
-  all_makes : {n' : Counters} {st' : ℕ → List ℕ} {cl' : List ℕ}
-      → Makes (catalogue k m u t) l (fold (λ o. link_if (run_of r) o (catalogue k m u t)) (drop r.before (variables n₀.variables (held l b₀)))) n₀ (held l b₀) cl₀ n' st' cl'
-      → ClausesDid (catalogue k m u t) l (λ v. link_all (catalogue k m u t) (run_of r)) n₀ (held l b₀) cl₀ n' st' cl'
-  all_makes w =
+module _ {k : Counts} {m u t : List ℕ} {r : code.Run} {x₀ x : encoder.State} {cl₀ cl : List ℕ} {y : ℕ} (w : Linked k m u t r x₀ cl₀ x cl y) where
+  pub linked_place : y < x₀.used.variables → y < x.used.variables
+  linked_place h = rw w.count h
+
+  all_makes : {x' : encoder.State} {cl' : List ℕ} → Makes (catalogue k m u t) (fold (λ o. link_if (run_of r) o (catalogue k m u t)) (drop r.before (variables_of x₀))) x₀ cl₀ x' cl'
+      → ClausesDoes (catalogue k m u t) (λ v. link_all (catalogue k m u t) (run_of r)) x₀ cl₀ x' cl'
+  all_makes z =
       let c = catalogue k m u t in
-      (makes_as w (link_all_widens c (run_of r)) (λ g e v wt. unfold state_of run_of in all_linked c (run_of r) (state_of c l v n₀ (held l b₀) cl₀ wt))).is
+      (makes_as z (link_all_widens c (run_of r)) (λ g e v wt. unfold state_of run_of in all_linked c (run_of r) (state_of c x₀.limits v x₀.used (regions_of x₀) cl₀ wt))).is
 
-  pub linked_end : n₀.variables ≤ y → ClausesDid (catalogue k m u t) l (λ v. link_all (catalogue k m u t) (run_of r)) n₀ (held l b₀) cl₀ n (held l b) cl
+  pub linked_end : x₀.used.variables ≤ y → ClausesDoes (catalogue k m u t) (λ v. link_all (catalogue k m u t) (run_of r)) x₀ cl₀ x cl
   linked_end h =
-      let vs = variables n.variables (held l b) in
-      let none : drop y vs ≡ [] = drop_of_length-le vs {i = y} (omega (arith, x.count, variables.count n.variables (held l b))) in
-      all_makes (folded_end (rw none at x.did))
+      let vs = variables_of x in
+      let none : drop y vs ≡ [] = drop_of_length-le vs {i = y} (omega (arith, w.count, variables.count x.used.variables (regions_of x))) in
+      all_makes (folded_end (rw none at w.did))
 
-  module _ {n' : Counters} (b' : List ℕ) {cl' : List ℕ} (h : y < n₀.variables)
-      (a : AddsAll l r (link_clauses k t (variables n.variables (held l b)) y (listed n.tracked 10 (held l b))) n (held l b) cl n' (held l b') cl') where
-    here : Makes (catalogue k m u t) l (link_if (run_of r) (get_or (variables n.variables (held l b)) y (chosen root)) (catalogue k m u t)) n (held l b) cl n' (held l b') cl'
+  module _ {x' : encoder.State} {cl' : List ℕ} (h : y < x₀.used.variables) (a : AddsAll r (link_clauses k t (variables_of x) y (tracked_in x)) x cl x' cl') where
+    here : Makes (catalogue k m u t) (link_if (run_of r) (get_or (variables_of x) y (chosen root)) (catalogue k m u t)) x cl x' cl'
     here =
         makes_as (a.is (catalogue k m u t)) (link_if_widens (run_of r) _ (catalogue k m u t))
-        (λ g e v wt. same (state_of (catalogue k m u t) l v n (held l b) cl wt) (unfold state_of in refl) (unfold state_of opening_of in refl))
+        (λ g e v wt. same (state_of (catalogue k m u t) x.limits v x.used (regions_of x) cl wt) (unfold state_of in refl) (unfold state_of opening_of in refl))
       where
-        same : (s : State) → s.variables ≡ variables n.variables (held l b) → s.opening.tracked ≡ listed n.tracked 10 (held l b)
-            → fold (add_clause (run_of r)) (link_clauses k t (variables n.variables (held l b)) y (listed n.tracked 10 (held l b))) s
-            ≡ link_if (run_of r) (get_or (variables n.variables (held l b)) y (chosen root)) (catalogue k m u t) s
+        same : (s : State) → s.variables ≡ variables_of x → s.opening.tracked ≡ tracked_in x
+            → fold (add_clause (run_of r)) (link_clauses k t (variables_of x) y (tracked_in x)) s ≡ link_if (run_of r) (get_or (variables_of x) y (chosen root)) (catalogue k m u t) s
         same s e f =
             rw (← e, ← f)
-            (link_if_is k m u t (run_of r) s y (rw e (omega (arith, x.count, variables.count n.variables (held l b)))) (rw e x.can.apart) (rw (e, f) x.can.known))
+            (link_if_is k m u t (run_of r) s y (rw e (omega (arith, w.count, variables.count x.used.variables (regions_of x)))) (rw e w.can.apart) (rw (e, f) w.can.known))
 
-    stepped : Folded (catalogue k m u t) l (λ o. link_if (run_of r) o (catalogue k m u t)) (drop r.before (variables n₀.variables (held l b₀)))
-        (drop (y + 1) (variables n.variables (held l b))) n₀ (held l b₀) cl₀ n' (held l b') cl'
+    stepped : Folded (catalogue k m u t) (λ o. link_if (run_of r) o (catalogue k m u t)) (drop r.before (variables_of x₀)) (drop (y + 1) (variables_of x)) x₀ cl₀ x' cl'
     stepped =
-        let vs = variables n.variables (held l b) in
-        let left : drop y vs ≡ get_or vs y (chosen root) ∷ drop (y + 1) vs = drop-cons vs y (chosen root) (omega (arith, x.count, variables.count n.variables (held l b))) ∙ rw (add-one y) in
-        folded_step (rw left at x.did) here
+        let vs = variables_of x in
+        let left : drop y vs ≡ get_or vs y (chosen root) ∷ drop (y + 1) vs = drop-cons vs y (chosen root) (omega (arith, w.count, variables.count x.used.variables (regions_of x))) ∙ rw (add-one y) in
+        folded_step (rw left at w.did) here
 
-    pub linked_stop : is_full n' ≡ true → ClausesDid (catalogue k m u t) l (λ v. link_all (catalogue k m u t) (run_of r)) n₀ (held l b₀) cl₀ n' (held l b') cl'
+    pub linked_stop : is_full x'.used ≡ true → ClausesDoes (catalogue k m u t) (λ v. link_all (catalogue k m u t) (run_of r)) x₀ cl₀ x' cl'
     linked_stop f = all_makes (folded_stop stepped f (λ o. link_if_widens (run_of r) o (catalogue k m u t)))
 
-    pub linked_step : is_full n' ≡ false → length b' ≡ length b → length cl' ≡ length cl → Linked k m u t l r n₀ b₀ cl₀ b' cl' n' (y + 1)
-    linked_step f s s' =
-        let z : Same n (held l b) n' (held l b') = clauses_same a (some_good x.good) f in
+    pub linked_step : is_full x'.used ≡ false → length cl' ≡ length cl → Linked k m u t r x₀ cl₀ x' cl' (y + 1)
+    linked_step f s =
+        let z : Same x x' = clauses_same a (some_good w.good) f in
         record {
-          areas = areas_then x.areas s s';
-          good = some_all x.good a;
-          can = record { going = f; known = known_same z x.can.known; apart = rw z.variables x.can.apart };
-          count = same_count z ∙ x.count;
+          areas = areas_then w.areas (adds_limits a) s;
+          good = some_all w.good a;
+          can = record { going = f; known = known_same z w.can.known; apart = rw z.variables w.can.apart };
+          count = same_count z ∙ w.count;
           did = rw z.variables stepped;
         }

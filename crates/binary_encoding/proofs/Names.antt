@@ -21,19 +21,18 @@ use Rattle.rules.proofs.Places.{keeps_variable, with_variables_known}
 use Rattle.rules.proofs.ListLaws.{fold_every}
 use Rattle.tables.specs.declared.Counts.{Counts}
 use Rattle.cache.specs.Areas.{catalogue}
-use Rattle.state.specs.declared.Limits.{Limits}
-use Rattle.state.specs.Layout.{held, Fits}
 use Rattle.state.proofs.Sizes.{length_fixed}
-use Rattle.variable_map.specs.Mapping.{variables, AllKnown}
+use Rattle.variable_map.specs.Mapping.{AllKnown}
 use Rattle.variable_map.proofs.Laws as variables
 use Rattle.marked.specs.Marked.{listed, Marked}
 use Rattle.marked.proofs.Laws.{length_listed, at_low}
-use Rattle.encoder.specs.declared.Counters.{Counters}
 use Rattle.encoder.specs.declared.Run as code
+use Rattle.encoder.specs.declared.State as encoder
 use Rattle.encoder.specs.Held.{run_of, opening_of, state_of, LongEnough}
 use Rattle.encoder.specs.Did.{Widens, on_opening, Beside, is_full}
+use Rattle.encoder.specs.Does.{regions_of, variables_of}
 use Rattle.encoder.proofs.Did.{widens_fold}
-use Rattle.tracking.specs.Joining.{Makes, GoodOf, tracking, MakesOf, join_step, join_if, join_name, join_names, CanJoin}
+use Rattle.tracking.specs.Joining.{Makes, GoodOf, tracked_in, named_in, tracking, MakesOf, join_step, join_if, join_name, join_names, CanJoin}
 use Rattle.tracking.proofs.Steps.{state_now, makes_good, makes_state, makes_as, makes_same, Folded, folded_start, folded_step, folded_stop, folded_end, Areas, areas_start, areas_then}
 use Rattle.binary_encoding.proofs.Joins.{join_if_widens}
 
@@ -74,151 +73,148 @@ join_name_widens r name c s = widens_fold (λ p. join_if r name p c) (λ p. join
 -- ---- and by the areas
 
 -- what the loops need of the areas
-pub record Ready (k : Counts) (t : List ℕ) (l : Limits) (r : code.Run) (n₀ : Counters) (b₀ cl₀ b cl : List ℕ) (n : Counters) : Type 0 where
-  pub areas : Areas l b₀ cl₀ b cl
-  pub good : GoodOf k t l n (held l b) cl
-  pub can : CanJoin n (held l b) r
-  pub list : listed n.named 8 (held l b) ≡ listed n₀.named 8 (held l b₀)
+pub record Ready (k : Counts) (t : List ℕ) (r : code.Run) (x₀ x : encoder.State) (cl : List ℕ) : Type 0 where
+  pub areas : Areas x₀ x cl
+  pub good : GoodOf k t x cl
+  pub can : CanJoin x r
+  pub list : named_in x ≡ named_in x₀
 
-pub of_named : {k : Counts} {t : List ℕ} {l : Limits} {n : Counters} {st : ℕ → List ℕ} {cl : List ℕ} → GoodOf k t l n st cl → Marked 8 9 n.named st
+pub of_named : {k : Counts} {t : List ℕ} {x : encoder.State} {cl : List ℕ} → GoodOf k t x cl → Marked 8 9 x.used.named (regions_of x)
 of_named (GoodOf.good m u g) = g.state.named
 
-pub of_after : {k : Counts} {t : List ℕ} {l : Limits} (F : Catalogue → State → State) {n n' : Counters} {st st' : ℕ → List ℕ} {cl cl' : List ℕ} → GoodOf k t l n st cl
-    → MakesOf k t l F n st cl n' st' cl' → GoodOf k t l n' st' cl'
-of_after F (GoodOf.good m u g) d = GoodOf.good m u (makes_good (d.is m u) g)
+pub of_limits : {k : Counts} {t : List ℕ} (F : Catalogue → State → State) {x x' : encoder.State} {cl cl' : List ℕ} → MakesOf k t F x cl x' cl' → x'.limits ≡ x.limits
+of_limits F d = (d.is [] []).is.limits
 
-pub of_beside : {k : Counts} {t : List ℕ} {l : Limits} (F : Catalogue → State → State) {n n' : Counters} {st st' : ℕ → List ℕ} {cl cl' : List ℕ} → GoodOf k t l n st cl
-    → MakesOf k t l F n st cl n' st' cl' → Beside n.first st st'
-of_beside F (GoodOf.good m u g) d = ((d.is m u).is.is []).beside g
+module _ {k : Counts} {t : List ℕ} (F : Catalogue → State → State) {x x' : encoder.State} {cl cl' : List ℕ} where
+  pub of_after : GoodOf k t x cl → MakesOf k t F x cl x' cl' → GoodOf k t x' cl'
+  of_after (GoodOf.good m u g) d = GoodOf.good m u (makes_good (d.is m u) g)
 
-record Shown (before : ℕ) (qs : List ℕ) (n : Counters) (st : ℕ → List ℕ) : Type 0 where
-  older : before ≤ n.variables
-  known : AllKnown (variables n.variables st) (listed n.tracked 10 st)
-  list : listed n.named 8 st ≡ qs
+  pub of_beside : GoodOf k t x cl → MakesOf k t F x cl x' cl' → Beside x.used.first (regions_of x) (regions_of x')
+  of_beside (GoodOf.good m u g) d = let y = (d.is m u).is in rw y.limits ((y.did.is []).beside g)
 
-module _ {k : Counts} {t : List ℕ} {l : Limits} {r : code.Run} {n₀ : Counters} {b₀ cl₀ b cl : List ℕ} {n : Counters} (x : Ready k t l r n₀ b₀ cl₀ b cl n)
-    (F : Catalogue → State → State) {n' : Counters} (b' : List ℕ) {cl' : List ℕ} (d : MakesOf k t l F n (held l b) cl n' (held l b') cl') where
-  module _ (w : (c : Catalogue) (s : State) → Fine r.before (listed n.named 8 (held l b)) s → Fine r.before (listed n.named 8 (held l b)) (F c s)) (f : is_full n' ≡ false) where
-    fine_after : GoodOf k t l n (held l b) cl → Shown r.before (listed n.named 8 (held l b)) n' (held l b')
+record Shown (before : ℕ) (qs : List ℕ) (x : encoder.State) : Type 0 where
+  older : before ≤ x.used.variables
+  known : AllKnown (variables_of x) (tracked_in x)
+  list : named_in x ≡ qs
+
+module _ {k : Counts} {t : List ℕ} {r : code.Run} {x₀ x : encoder.State} {cl : List ℕ} (y : Ready k t r x₀ x cl)
+    (F : Catalogue → State → State) {x' : encoder.State} {cl' : List ℕ} (d : MakesOf k t F x cl x' cl') where
+  module _ (w : (c : Catalogue) (s : State) → Fine r.before (named_in x) s → Fine r.before (named_in x) (F c s)) (f : is_full x'.used ≡ false) where
+    fine_after : GoodOf k t x cl → Shown r.before (named_in x) x'
     unfolding state_of opening_of
     fine_after (GoodOf.good m u g) =
         let c = catalogue k m u t in
-        let before : Fine r.before (listed n.named 8 (held l b)) (state_now c l n (held l b) cl)
-        = record { older = omega (arith, x.can.older, variables.count n.variables (held l b)); known = x.can.known; named = refl } in
-        let after = rw (← makes_state (d.is m u) g f) at (w c (state_now c l n (held l b) cl) before) in
-        record { older = omega (arith, after.older, variables.count n'.variables (held l b')); known = after.known; list = after.named }
+        let before : Fine r.before (named_in x) (state_now c x cl)
+        = record { older = omega (arith, y.can.older, variables.count x.used.variables (regions_of x)); known = y.can.known; named = refl } in
+        let after = rw (← makes_state (d.is m u) g f) at (w c (state_now c x cl) before) in
+        record { older = omega (arith, after.older, variables.count x'.used.variables (regions_of x')); known = after.known; list = after.named }
 
-    pub ready_after : length b' ≡ length b → length cl' ≡ length cl → Ready k t l r n₀ b₀ cl₀ b' cl' n'
-    ready_after s s' =
-        let y = fine_after x.good in
+    pub ready_after : length cl' ≡ length cl → Ready k t r x₀ x' cl'
+    ready_after s =
+        let z = fine_after y.good in
         record {
-          areas = areas_then x.areas s s';
-          good = of_after F x.good d;
-          can = record { going = f; number = x.can.number; older = y.older; known = y.known };
-          list = y.list ∙ x.list;
+          areas = areas_then y.areas (of_limits F d) s;
+          good = of_after F y.good d;
+          can = record { going = f; number = y.can.number; older = z.older; known = z.known };
+          list = z.list ∙ y.list;
         }
 
-    pub ready_count : n'.named ≡ n.named
-    ready_count = sym (length_listed (of_named (of_after F x.good d))) ∙ (ap length (fine_after x.good).list ∙ length_listed (of_named x.good))
+    pub ready_count : x'.used.named ≡ x.used.named
+    ready_count = sym (length_listed (of_named (of_after F y.good d))) ∙ (ap length (fine_after y.good).list ∙ length_listed (of_named y.good))
 
 -- ---- the named parts of one name
 
-pub record Parting (k : Counts) (t : List ℕ) (l : Limits) (r : code.Run) (name : ℕ) (n₀ : Counters) (b₀ cl₀ b cl : List ℕ) (n : Counters) (i : ℕ) : Type 0 where
-  pub ready : Ready k t l r n₀ b₀ cl₀ b cl n
-  pub count : n.named ≡ n₀.named
-  pub few : n.named ≤ 1025
-  pub did : (m u : List ℕ) → Folded (catalogue k m u t) l (λ p. join_if (run_of r) name p (catalogue k m u t)) (listed n₀.named 8 (held l b₀)) (drop i (listed n.named 8 (held l b)))
-      n₀ (held l b₀) cl₀ n (held l b) cl
+pub record Parting (k : Counts) (t : List ℕ) (r : code.Run) (name : ℕ) (x₀ : encoder.State) (cl₀ : List ℕ) (x : encoder.State) (cl : List ℕ) (i : ℕ) : Type 0 where
+  pub ready : Ready k t r x₀ x cl
+  pub count : x.used.named ≡ x₀.used.named
+  pub few : x.used.named ≤ 1025
+  pub did : (m u : List ℕ) → Folded (catalogue k m u t) (λ p. join_if (run_of r) name p (catalogue k m u t)) (named_in x₀) (drop i (named_in x)) x₀ cl₀ x cl
 
-of_few : {k : Counts} {t : List ℕ} {l : Limits} {n : Counters} {st : ℕ → List ℕ} {cl : List ℕ} → GoodOf k t l n st cl → n.named ≤ 1025
+of_few : {k : Counts} {t : List ℕ} {x : encoder.State} {cl : List ℕ} → GoodOf k t x cl → x.used.named ≤ 1025
 of_few g = let w = of_named g in omega (arith, w.most, w.short)
 
-pub parting_start : (k : Counts) (t : List ℕ) (l : Limits) (r : code.Run) (name : ℕ) (n : Counters) (b cl : List ℕ) → Fits l (length b) → LongEnough l (length cl) 16384
-    → GoodOf k t l n (held l b) cl → CanJoin n (held l b) r → Parting k t l r name n b cl b cl n 0
-parting_start k t l r name n b cl f h g c =
-    record { ready = record { areas = areas_start f h; good = g; can = c; list = refl }; count = refl; few = of_few g; did = λ m u. folded_start }
+pub parting_start : (k : Counts) (t : List ℕ) (r : code.Run) (name : ℕ) (x : encoder.State) (cl : List ℕ) → LongEnough x.limits (length cl) 16384
+    → GoodOf k t x cl → CanJoin x r → Parting k t r name x cl x cl 0
+parting_start k t r name x cl h g c =
+    record { ready = record { areas = areas_start h; good = g; can = c; list = refl }; count = refl; few = of_few g; did = λ m u. folded_start }
 
-module _ {k : Counts} {t : List ℕ} {l : Limits} {r : code.Run} {name : ℕ} {n₀ : Counters} {b₀ cl₀ b cl : List ℕ} {n : Counters} {i : ℕ}
-    (x : Parting k t l r name n₀ b₀ cl₀ b cl n i) where
-  pub parting_low : (p : ℕ) → i < n₀.named → p ≡ get_or (listed n₀.named 8 (held l b)) i 0 → p < 1024
-  parting_low p h e = omega (arith, at_low (of_named x.ready.good) i p (rw x.count h) (rw x.count e), length_fixed l b 9 (omega arith) x.ready.areas.fits)
+module _ {k : Counts} {t : List ℕ} {r : code.Run} {name : ℕ} {x₀ x : encoder.State} {cl₀ cl : List ℕ} {i : ℕ} (y : Parting k t r name x₀ cl₀ x cl i) where
+  pub parting_low : (p : ℕ) → i < x₀.used.named → p ≡ get_or (listed x₀.used.named 8 (regions_of x)) i 0 → p < 1024
+  parting_low p h e = omega (arith, at_low (of_named y.ready.good) i p (rw y.count h) (rw y.count e), length_fixed x.limits x.area.now 9 (omega arith) x.fits)
 
-  name_makes : {n' : Counters} {st' : ℕ → List ℕ} {cl' : List ℕ}
-      → ((m u : List ℕ) → Makes (catalogue k m u t) l (fold (λ p. join_if (run_of r) name p (catalogue k m u t)) (listed n₀.named 8 (held l b₀))) n₀ (held l b₀) cl₀ n' st' cl')
-      → MakesOf k t l (join_name (run_of r) name) n₀ (held l b₀) cl₀ n' st' cl'
-  name_makes y = record { is = λ m u. makes_as (y m u) (join_name_widens (run_of r) name (catalogue k m u t)) (λ g e v wt. unfold join_name state_of opening_of in refl) }
+  name_makes : {x' : encoder.State} {cl' : List ℕ}
+      → ((m u : List ℕ) → Makes (catalogue k m u t) (fold (λ p. join_if (run_of r) name p (catalogue k m u t)) (named_in x₀)) x₀ cl₀ x' cl')
+      → MakesOf k t (join_name (run_of r) name) x₀ cl₀ x' cl'
+  name_makes z = record { is = λ m u. makes_as (z m u) (join_name_widens (run_of r) name (catalogue k m u t)) (λ g e v wt. unfold join_name state_of opening_of in refl) }
 
-  pub parting_end : n₀.named ≤ i → MakesOf k t l (join_name (run_of r) name) n₀ (held l b₀) cl₀ n (held l b) cl
+  pub parting_end : x₀.used.named ≤ i → MakesOf k t (join_name (run_of r) name) x₀ cl₀ x cl
   parting_end h =
-      let none : drop i (listed n.named 8 (held l b)) ≡ [] = drop_of_length-le (listed n.named 8 (held l b)) {i = i} (omega (arith, x.count, length_listed (of_named x.ready.good))) in
-      name_makes (λ m u. folded_end (rw none at (x.did m u)))
+      let none : drop i (named_in x) ≡ [] = drop_of_length-le (named_in x) {i = i} (omega (arith, y.count, length_listed (of_named y.ready.good))) in
+      name_makes (λ m u. folded_end (rw none at (y.did m u)))
 
-  module _ {n' : Counters} (b' : List ℕ) {cl' : List ℕ} {p : ℕ} (h : i < n₀.named) (e : p ≡ get_or (listed n₀.named 8 (held l b)) i 0)
-      (d : MakesOf k t l (join_if (run_of r) name p) n (held l b) cl n' (held l b') cl') where
-    stepped : (m u : List ℕ) → Folded (catalogue k m u t) l (λ q. join_if (run_of r) name q (catalogue k m u t)) (listed n₀.named 8 (held l b₀)) (drop (i + 1) (listed n.named 8 (held l b)))
-        n₀ (held l b₀) cl₀ n' (held l b') cl'
+  module _ {x' : encoder.State} {cl' : List ℕ} {p : ℕ} (h : i < x₀.used.named) (e : p ≡ get_or (listed x₀.used.named 8 (regions_of x)) i 0)
+      (d : MakesOf k t (join_if (run_of r) name p) x cl x' cl') where
+    stepped : (m u : List ℕ) → Folded (catalogue k m u t) (λ q. join_if (run_of r) name q (catalogue k m u t)) (named_in x₀) (drop (i + 1) (named_in x)) x₀ cl₀ x' cl'
     stepped m u =
-        let ps = listed n.named 8 (held l b) in
-        let here : p ≡ get_or ps i 0 = rw x.count e in
-        let left : drop i ps ≡ p ∷ drop (i + 1) ps = drop-cons ps i 0 (omega (arith, x.count, length_listed (of_named x.ready.good))) ∙ rw (add-one i, ← here) in
-        folded_step (rw left at (x.did m u)) (d.is m u)
+        let ps = named_in x in
+        let here : p ≡ get_or ps i 0 = rw y.count e in
+        let left : drop i ps ≡ p ∷ drop (i + 1) ps = drop-cons ps i 0 (omega (arith, y.count, length_listed (of_named y.ready.good))) ∙ rw (add-one i, ← here) in
+        folded_step (rw left at (y.did m u)) (d.is m u)
 
-    pub parting_stop : is_full n' ≡ true → MakesOf k t l (join_name (run_of r) name) n₀ (held l b₀) cl₀ n' (held l b') cl'
+    pub parting_stop : is_full x'.used ≡ true → MakesOf k t (join_name (run_of r) name) x₀ cl₀ x' cl'
     parting_stop f = name_makes (λ m u. folded_stop (stepped m u) f (λ q. join_if_widens (run_of r) name q (catalogue k m u t)))
 
-    pub parting_step : is_full n' ≡ false → length b' ≡ length b → length cl' ≡ length cl → Parting k t l r name n₀ b₀ cl₀ b' cl' n' (i + 1)
-    parting_step f s s' =
+    pub parting_step : is_full x'.used ≡ false → length cl' ≡ length cl → Parting k t r name x₀ cl₀ x' cl' (i + 1)
+    parting_step f s =
         let kept = join_if_fine (run_of r) name p in
-        let y = ready_after x.ready (join_if (run_of r) name p) b' d kept f s s' in
+        let z = ready_after y.ready (join_if (run_of r) name p) d kept f s in
         record {
-          ready = y;
-          count = ready_count x.ready (join_if (run_of r) name p) b' d kept f ∙ x.count;
-          few = of_few y.good;
-          did = λ m u. rw (y.list ∙ sym x.ready.list) (stepped m u);
+          ready = z;
+          count = ready_count y.ready (join_if (run_of r) name p) d kept f ∙ y.count;
+          few = of_few z.good;
+          did = λ m u. rw (z.list ∙ sym y.ready.list) (stepped m u);
         }
 
 -- ---- the names at hand
 
-pub record Naming (k : Counts) (t : List ℕ) (l : Limits) (r : code.Run) (names : ℕ) (n₀ : Counters) (b₀ cl₀ b cl : List ℕ) (n : Counters) (i : ℕ) : Type 0 where
-  pub ready : Ready k t l r n₀ b₀ cl₀ b cl n
-  pub marked : Marked 14 15 names (held l b)
-  pub did : (m u : List ℕ) → Folded (catalogue k m u t) l (λ x. join_name (run_of r) x (catalogue k m u t)) (listed names 14 (held l b₀)) (drop i (listed names 14 (held l b)))
-      n₀ (held l b₀) cl₀ n (held l b) cl
+pub record Naming (k : Counts) (t : List ℕ) (r : code.Run) (names : ℕ) (x₀ : encoder.State) (cl₀ : List ℕ) (x : encoder.State) (cl : List ℕ) (i : ℕ) : Type 0 where
+  pub ready : Ready k t r x₀ x cl
+  pub marked : Marked 14 15 names (regions_of x)
+  pub did : (m u : List ℕ) → Folded (catalogue k m u t) (λ y. join_name (run_of r) y (catalogue k m u t)) (listed names 14 (regions_of x₀)) (drop i (listed names 14 (regions_of x))) x₀ cl₀ x cl
 
-pub naming_start : (k : Counts) (t : List ℕ) (l : Limits) (r : code.Run) (names : ℕ) (n : Counters) (b cl : List ℕ) → Fits l (length b) → LongEnough l (length cl) 16384
-    → GoodOf k t l n (held l b) cl → CanJoin n (held l b) r → Marked 14 15 names (held l b) → Naming k t l r names n b cl b cl n 0
-naming_start k t l r names n b cl f h g c w =
-    record { ready = record { areas = areas_start f h; good = g; can = c; list = refl }; marked = w; did = λ m u. folded_start }
+pub naming_start : (k : Counts) (t : List ℕ) (r : code.Run) (names : ℕ) (x : encoder.State) (cl : List ℕ) → LongEnough x.limits (length cl) 16384
+    → GoodOf k t x cl → CanJoin x r → Marked 14 15 names (regions_of x) → Naming k t r names x cl x cl 0
+naming_start k t r names x cl h g c w =
+    record { ready = record { areas = areas_start h; good = g; can = c; list = refl }; marked = w; did = λ m u. folded_start }
 
-module _ {k : Counts} {t : List ℕ} {l : Limits} {r : code.Run} {names : ℕ} {n₀ : Counters} {b₀ cl₀ b cl : List ℕ} {n : Counters} {i : ℕ}
-    (x : Naming k t l r names n₀ b₀ cl₀ b cl n i) where
-  names_make : {n' : Counters} {st' : ℕ → List ℕ} {cl' : List ℕ}
-      → ((m u : List ℕ) → Makes (catalogue k m u t) l (fold (λ y. join_name (run_of r) y (catalogue k m u t)) (listed names 14 (held l b₀))) n₀ (held l b₀) cl₀ n' st' cl')
-      → MakesOf k t l (join_names (run_of r) (listed names 14 (held l b₀))) n₀ (held l b₀) cl₀ n' st' cl'
-  names_make y = record { is = λ m u. makes_same (y m u) (λ s. unfold join_names in refl) }
+module _ {k : Counts} {t : List ℕ} {r : code.Run} {names : ℕ} {x₀ x : encoder.State} {cl₀ cl : List ℕ} {i : ℕ} (y : Naming k t r names x₀ cl₀ x cl i) where
+  names_make : {x' : encoder.State} {cl' : List ℕ}
+      → ((m u : List ℕ) → Makes (catalogue k m u t) (fold (λ n. join_name (run_of r) n (catalogue k m u t)) (listed names 14 (regions_of x₀))) x₀ cl₀ x' cl')
+      → MakesOf k t (join_names (run_of r) (listed names 14 (regions_of x₀))) x₀ cl₀ x' cl'
+  names_make z = record { is = λ m u. makes_same (z m u) (λ s. unfold join_names in refl) }
 
-  pub naming_end : names ≤ i → MakesOf k t l (join_names (run_of r) (listed names 14 (held l b₀))) n₀ (held l b₀) cl₀ n (held l b) cl
+  pub naming_end : names ≤ i → MakesOf k t (join_names (run_of r) (listed names 14 (regions_of x₀))) x₀ cl₀ x cl
   naming_end h =
-      let none : drop i (listed names 14 (held l b)) ≡ [] = drop_of_length-le (listed names 14 (held l b)) {i = i} (omega (arith, length_listed x.marked)) in
-      names_make (λ m u. folded_end (rw none at (x.did m u)))
+      let none : drop i (listed names 14 (regions_of x)) ≡ [] = drop_of_length-le (listed names 14 (regions_of x)) {i = i} (omega (arith, length_listed y.marked)) in
+      names_make (λ m u. folded_end (rw none at (y.did m u)))
 
-  module _ {n' : Counters} (b' : List ℕ) {cl' : List ℕ} {name : ℕ} (h : i < names) (e : name ≡ get_or (listed names 14 (held l b)) i 0)
-      (d : MakesOf k t l (join_name (run_of r) name) n (held l b) cl n' (held l b') cl') where
-    stepped_name : (m u : List ℕ) → Folded (catalogue k m u t) l (λ y. join_name (run_of r) y (catalogue k m u t)) (listed names 14 (held l b₀)) (drop (i + 1) (listed names 14 (held l b)))
-        n₀ (held l b₀) cl₀ n' (held l b') cl'
+  module _ {x' : encoder.State} {cl' : List ℕ} {name : ℕ} (h : i < names) (e : name ≡ get_or (listed names 14 (regions_of x)) i 0)
+      (d : MakesOf k t (join_name (run_of r) name) x cl x' cl') where
+    stepped_name : (m u : List ℕ) → Folded (catalogue k m u t) (λ n. join_name (run_of r) n (catalogue k m u t)) (listed names 14 (regions_of x₀)) (drop (i + 1) (listed names 14 (regions_of x)))
+        x₀ cl₀ x' cl'
     stepped_name m u =
-        let ns = listed names 14 (held l b) in
-        let left : drop i ns ≡ name ∷ drop (i + 1) ns = drop-cons ns i 0 (omega (arith, length_listed x.marked)) ∙ rw (add-one i, ← e) in
-        folded_step (rw left at (x.did m u)) (d.is m u)
+        let ns = listed names 14 (regions_of x) in
+        let left : drop i ns ≡ name ∷ drop (i + 1) ns = drop-cons ns i 0 (omega (arith, length_listed y.marked)) ∙ rw (add-one i, ← e) in
+        folded_step (rw left at (y.did m u)) (d.is m u)
 
-    pub naming_stop : is_full n' ≡ true → MakesOf k t l (join_names (run_of r) (listed names 14 (held l b₀))) n₀ (held l b₀) cl₀ n' (held l b') cl'
-    naming_stop f = names_make (λ m u. folded_stop (stepped_name m u) f (λ y. join_name_widens (run_of r) y (catalogue k m u t)))
+    pub naming_stop : is_full x'.used ≡ true → MakesOf k t (join_names (run_of r) (listed names 14 (regions_of x₀))) x₀ cl₀ x' cl'
+    naming_stop f = names_make (λ m u. folded_stop (stepped_name m u) f (λ n. join_name_widens (run_of r) n (catalogue k m u t)))
 
-    pub naming_step : is_full n' ≡ false → length b' ≡ length b → length cl' ≡ length cl → Naming k t l r names n₀ b₀ cl₀ b' cl' n' (i + 1)
-    naming_step f s s' =
-        let beside = of_beside (join_name (run_of r) name) x.ready.good d in
+    pub naming_step : is_full x'.used ≡ false → length cl' ≡ length cl → Naming k t r names x₀ cl₀ x' cl' (i + 1)
+    naming_step f s =
+        let beside = of_beside (join_name (run_of r) name) y.ready.good d in
         record {
-          ready = ready_after x.ready (join_name (run_of r) name) b' d (join_name_fine (run_of r) name) f s s';
-          marked = beside.marked names x.marked;
-          did = λ m u. rw (beside.list names x.marked) (stepped_name m u);
+          ready = ready_after y.ready (join_name (run_of r) name) d (join_name_fine (run_of r) name) f s;
+          marked = beside.marked names y.marked;
+          did = λ m u. rw (beside.list names y.marked) (stepped_name m u);
         }

@@ -32,14 +32,17 @@ use Rattle.decision_tracker.proofs.Laws.{decisions_kept}
 use Rattle.marked.specs.Marked.{listed, Marked, Free, Pushed, Emptied}
 use Rattle.marked.proofs.Laws.{length_listed, mark_room, listed_same, marked_same}
 use Rattle.encoder.specs.declared.Counters.{Counters}
+use Rattle.encoder.specs.declared.State.{State}
 use Rattle.encoder.specs.Held.{Reading, opening_of, state_of, Good}
-use Rattle.encoder.specs.Did.{on_opening, Did}
+use Rattle.encoder.specs.Did.{on_opening, Did, StateDid}
+use Rattle.encoder.specs.Does.{regions_of}
 use Rattle.encoder.proofs.Counted as counted
 use Rattle.encoder.proofs.Frames.{good_kept, list_kept, line_kept}
 use Rattle.encoder.proofs.Did.{did_made, beside_kept}
 use Rattle.encoder.proofs.Widening.{Lengthens, widens_opening}
-use Rattle.goals.specs.Goals.{noted, Notes, Gathers}
-use Rattle.tracking.specs.Joining.{part_name, of_name, NamesLow, tracking, Tracks, forget_named, Forgets}
+use Rattle.goals.specs.Goals.{noted, Notes, Gathers, Written, HandNotes, HandGathers}
+use Rattle.goals.proofs.Hand.{written_same, written_then}
+use Rattle.tracking.specs.Joining.{part_name, of_name, NamesLow, named_in, tracking, forget_named}
 use Rattle.binary_encoding.specs.Joiners.{flagged, NotesIf, flagged_names}
 
 -- ---- names by the area t
@@ -141,8 +144,8 @@ module _ (k : Counts) (t : List ℕ) (l : Limits) (n : Counters) (b : List ℕ) 
       tracked_did =
           did_made (λ v. widens_opening (tracking p) (tracking_lengthens p)) refl (λ g. unfold any in beside_kept ch refl refl refl) refl refl (λ j. refl) tracked_good (λ g. tracked_state)
 
-  pub tracked_pushed : Tracks k t l p n (held l b) (with_tracked count n) st''
-  tracked_pushed = record { is = λ m u. record { is = λ cl wt. tracked_did m u cl wt } }
+  pub tracked_pushed : (m u : List ℕ) → StateDid (catalogue k m u t) l (λ v. on_opening (tracking p)) n (held l b) (with_tracked count n) st''
+  tracked_pushed m u = record { is = λ cl wt. tracked_did m u cl wt }
 
 -- ---- no part is named any more
 
@@ -167,67 +170,62 @@ module _ (l : Limits) (n : Counters) {st st' : ℕ → List ℕ} (x : Emptied 8 
     forgotten_did =
         did_made (λ v. widens_opening forget_named forget_lengthens) refl (λ g. unfold any in beside_kept x.others refl refl refl) refl refl (λ j. refl) forgotten_good (λ g. forgotten_state)
 
-  pub forgotten : Forgets l n st (counted.with_named 0 n) st'
-  forgotten = record { is = λ c. record { is = λ cl wt. forgotten_did c cl wt } }
+  pub forgotten : (c : Catalogue) → StateDid c l (λ v. on_opening forget_named) n st (counted.with_named 0 n) st'
+  forgotten c = record { is = λ cl wt. forgotten_did c cl wt }
 
 -- ---- the flagged names of the named parts
 
 -- the loop at part i: what is left of the list's making is the whole of it
-pub record Gathering (k : Counts) (t : List ℕ) (flags : List Bool) (l : Limits) (n : Counters) (b₀ b : List ℕ) (m i : ℕ) : Type 0 where
-  pub fits : Fits l (length b)
-  pub same : length b ≡ length b₀
-  pub marked : Marked 14 15 m (held l b)
-  pub named : Marked 8 9 n.named (held l b)
-  pub others : Changed (14 ∷ 15 ∷ []) (held l b₀) (held l b)
-  pub is : fold noted (filter (flagged flags) (map (part_name k t) (drop i (listed n.named 8 (held l b))))) (listed m 14 (held l b))
-      ≡ flagged_names k t flags (listed n.named 8 (held l b₀))
+pub record Gathering (k : Counts) (t : List ℕ) (flags : List Bool) (x₀ x : State) (m i : ℕ) : Type 0 where
+  pub written : Written x₀ x
+  pub marked : Marked 14 15 m (regions_of x)
+  pub named : Marked 8 9 x.used.named (regions_of x)
+  pub others : Changed (14 ∷ 15 ∷ []) (regions_of x₀) (regions_of x)
+  pub is : fold noted (filter (flagged flags) (map (part_name k t) (drop i (named_in x)))) (listed m 14 (regions_of x)) ≡ flagged_names k t flags (named_in x₀)
 
-pub gather_start : (k : Counts) (t : List ℕ) (flags : List Bool) (l : Limits) (n : Counters) (b : List ℕ) → Fits l (length b) → Marked 8 9 n.named (held l b) → Marked 14 15 0 (held l b)
-    → Gathering k t flags l n b b 0 0
+pub gather_start : (k : Counts) (t : List ℕ) (flags : List Bool) (x : State) → Marked 8 9 x.used.named (regions_of x) → Marked 14 15 0 (regions_of x) → Gathering k t flags x x 0 0
 unfolding flagged_names distinct noted listed
-gather_start k t flags l n b f w d = record { fits = f; same = refl; marked = d; named = w; others = changed_none (14 ∷ 15 ∷ []) (held l b); is = refl }
+gather_start k t flags x w d = record { written = written_same; marked = d; named = w; others = changed_none (14 ∷ 15 ∷ []) (regions_of x); is = refl }
 
-module _ {k : Counts} {t : List ℕ} {flags : List Bool} {l : Limits} {n : Counters} {b₀ b : List ℕ} {m i : ℕ} (x : Gathering k t flags l n b₀ b m i) where
-  module _ {p a : ℕ} (h : i < n.named) (e : p ≡ get_or (listed n.named 8 (held l b)) i 0) (d : a ≡ (get_or (tables k t).parts p no_part).name) where
-    left : map (part_name k t) (drop i (listed n.named 8 (held l b))) ≡ a ∷ map (part_name k t) (drop (i + 1) (listed n.named 8 (held l b)))
+module _ {k : Counts} {t : List ℕ} {flags : List Bool} {x₀ x : State} {m i : ℕ} (y : Gathering k t flags x₀ x m i) where
+  module _ {p a : ℕ} (h : i < x₀.used.named) (e : p ≡ get_or (listed x₀.used.named 8 (regions_of x)) i 0) (d : a ≡ (get_or (tables k t).parts p no_part).name) where
+    here : p ≡ get_or (named_in x) i 0
+    here = rw y.written.used e
+
+    left : map (part_name k t) (drop i (named_in x)) ≡ a ∷ map (part_name k t) (drop (i + 1) (named_in x))
     left =
-        let ps = listed n.named 8 (held l b) in
-        let name : a ≡ part_name k t (get_or ps i 0) = unfold part_name in rw (← e) d in
-        rw (drop-cons ps i 0 (omega (arith, length_listed x.named)), add-one i, name)
+        let ps = named_in x in
+        let inside : i < x.used.named = rw y.written.used h in
+        let name : a ≡ part_name k t (get_or ps i 0) = unfold part_name in rw (← here) d in
+        rw (drop-cons ps i 0 (omega (arith, length_listed y.named, inside)), add-one i, name)
 
-    step_noted : (b' : List ℕ) {m' : ℕ} → length b' ≡ length b → flagged flags a ≡ true → Notes a m (held l b) m' (held l b') → Gathering k t flags l n b₀ b' m' (i + 1)
+    step_noted : {x' : State} {m' : ℕ} → flagged flags a ≡ true → HandNotes a m x m' x' → Gathering k t flags x₀ x' m' (i + 1)
     unfolding fold filter
-    step_noted b' s f y =
-        let kept : listed n.named 8 (held l b') ≡ listed n.named 8 (held l b) = listed_same n.named 8 y.others (unfold any in refl) in
+    step_noted {x'} {m'} f z =
+        let notes : Notes a m (regions_of x) m' (regions_of x') = rw z.written.limits z.notes in
+        let kept : named_in x' ≡ named_in x = rw z.written.used (listed_same x.used.named 8 notes.others (unfold any in refl)) in
         record {
-          fits = rw s x.fits;
-          same = s ∙ x.same;
-          marked = y.marked;
-          named = marked_same x.named y.others (unfold any in refl) (unfold any in refl);
-          others = changed_then x.others y.others;
-          is = rw (kept, y.is) (rw (left, filter, f) at x.is);
+          written = written_then y.written z.written;
+          marked = notes.marked;
+          named = rw z.written.used (marked_same y.named notes.others (unfold any in refl) (unfold any in refl));
+          others = changed_then y.others notes.others;
+          is = rw (kept, notes.is) (rw (left, filter, f) at y.is);
         }
 
-    step_passed : (b' : List ℕ) {m' : ℕ} → length b' ≡ length b → flagged flags a ≡ false → m' ≡ m → held l b' ≡ held l b → Gathering k t flags l n b₀ b' m' (i + 1)
+    step_passed : {x' : State} {m' : ℕ} → flagged flags a ≡ false → m' ≡ m → x' ≡ x → Gathering k t flags x₀ x' m' (i + 1)
     unfolding fold filter
-    step_passed b' s f c y =
-        record {
-          fits = rw s x.fits;
-          same = s ∙ x.same;
-          marked = rw (c, y) x.marked;
-          named = rw y x.named;
-          others = rw y x.others;
-          is = rw (c, y) (rw (left, filter, f) at x.is);
-        }
+    step_passed f c z =
+        rw (c, z) (record { written = y.written; marked = y.marked; named = y.named; others = y.others; is = rw (left, filter, f) at y.is })
 
-    pub gather_step : (b' : List ℕ) {m' : ℕ} → NotesIf (flagged flags a) a m (held l b) m' (held l b') → length b' ≡ length b → Gathering k t flags l n b₀ b' m' (i + 1)
-    gather_step b' y s = by_cases (flagged flags a) (λ f. step_noted b' s f (y.noted f)) (λ f. step_passed b' s f (y.same f) (y.kept f))
+    pub gather_step : {x' : State} {m' : ℕ} → NotesIf (flagged flags a) a m x m' x' → Gathering k t flags x₀ x' m' (i + 1)
+    gather_step z = by_cases (flagged flags a) (λ f. step_noted f (z.noted f)) (λ f. step_passed f (z.same f) (z.kept f))
 
-  pub gather_end : n.named ≤ i → Gathers (flagged_names k t flags (listed n.named 8 (held l b₀))) (held l b₀) m (held l b)
+  pub gather_end : x₀.used.named ≤ i → HandGathers (flagged_names k t flags (named_in x₀)) x₀ m x
   unfolding fold filter
   gather_end h =
-      let none : drop i (listed n.named 8 (held l b)) ≡ [] = drop_of_length-le (listed n.named 8 (held l b)) {i = i} (omega (arith, length_listed x.named)) in
-      record { marked = x.marked; is = rw none at x.is; others = x.others }
+      let none : drop i (named_in x) ≡ [] = drop_of_length-le (named_in x) {i = i} (rw (length_listed y.named, y.written.used) h) in
+      let z : Gathers (flagged_names k t flags (named_in x₀)) (regions_of x₀) m (regions_of x) = record { marked = y.marked; is = rw none at y.is; others = y.others } in
+      record { written = y.written; gathers = rw y.written.limits at z }
 
 pub gather_low : (k : Counts) (t : List ℕ) (p a : ℕ) → NamesLow k t → a ≡ (get_or (tables k t).parts p no_part).name → a < 64
 gather_low k t p a w e = let low = w.low p in let q : a ≡ part_name k t p = unfold part_name in e in omega arith

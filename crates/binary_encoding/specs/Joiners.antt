@@ -3,7 +3,8 @@ use Rattle.std.specs.Prelude.{◌≡◌, Bool, true, false, List, map, ℕ, ◌<
 use Rattle.rules.specs.Lists.{filter, distinct}
 use Rattle.tables.specs.declared.Counts.{Counts}
 use Rattle.marked.specs.Marked.{listed, is_marked}
-use Rattle.goals.specs.Goals.{Notes}
+use Rattle.encoder.specs.declared.State.{State}
+use Rattle.goals.specs.Goals.{HandNotes}
 use Rattle.tracking.specs.Joining.{part_name}
 
 unfoldable pub flagged : List Bool → (name : ℕ) → Bool
@@ -18,11 +19,11 @@ pub record NotesJoiner (k : Counts) (t : List ℕ) (st : ℕ → List ℕ) (p : 
 pub record JoinersNoted (k : Counts) (t : List ℕ) (named : ℕ) (st : ℕ → List ℕ) (i : ℕ) (flags : List Bool) : Type 0 where
   pub is : (j : ℕ) → j < i → is_marked 11 (get_or (listed named 8 st) j 0) st ≡ false → flagged flags (part_name k t (get_or (listed named 8 st) j 0)) ≡ true
 
--- x is noted, or nothing is done
-pub record NotesIf (b : Bool) (x m : ℕ) (st : ℕ → List ℕ) (r : ℕ) (st' : ℕ → List ℕ) : Type 0 where
-  pub noted : b ≡ true → Notes x m st r st'
+-- a is noted, or nothing is done
+pub record NotesIf (b : Bool) (a m : ℕ) (x : State) (r : ℕ) (x' : State) : Type 0 where
+  pub noted : b ≡ true → HandNotes a m x r x'
   pub same : b ≡ false → r ≡ m
-  pub kept : b ≡ false → st' ≡ st
+  pub kept : b ≡ false → x' ≡ x
 
 -- the flagged names of these parts, each once
 unfoldable pub flagged_names : Counts → (t : List ℕ) (flags : List Bool) → List ℕ → List ℕ

@@ -2,200 +2,165 @@
 // Once it is full nothing more is done.
 #![tactic(auto)]
 
-ghost use Rattle.std.specs.Prelude.{◌≡◌, false, [], ◌<◌, length};
+ghost use Rattle.std.specs.Prelude.{◌≡◌, false, [], ◌<◌, length, get_or};
 ghost use Rattle.rules.specs.Lists.{elem};
 ghost use Rattle.rules.specs.Run.{join_all, link_all};
-ghost use Rattle.cache.specs.Areas.{catalogue};
-ghost use Rattle.state.specs.Layout.{held, Fits};
-ghost use Rattle.variable_map.specs.Mapping.{variables};
 ghost use Rattle.marked.specs.Marked.{listed, Marked};
-ghost use Rattle.encoder.specs.Held.{run_of, LongEnough, Good};
-ghost use Rattle.encoder.specs.Did.{ClausesDid};
-ghost use Rattle.goals.specs.Goals.{Gathers};
-ghost use Rattle.tracking.specs.Joining.{AddsAll, GoodOf, GoodSome, part_name, of_name, NamesLow, link_clauses, joined_clauses, Tracks, MakesOf, track_with, join_step, join_if, join_name, join_names, Forgets, CanJoin, CanAddPart, CanLink};
+ghost use Rattle.encoder.specs.Held.{run_of, LongEnough};
+ghost use Rattle.encoder.specs.Does.{ClausesDoes, IsGoodWith, regions_of, variables_of};
+ghost use Rattle.goals.specs.Goals.{HandGathers};
+ghost use Rattle.tracking.specs.Joining.{AddsAll, GoodOf, GoodSome, part_name, of_name, NamesLow, tracked_in, named_in, link_clauses, joined_clauses, Tracks, MakesOf, track_with, join_step, join_if, join_name, join_names, Forgets, CanJoin, CanAddPart, CanLink};
 ghost use Rattle.binary_encoding.specs.Joiners.{flagged, NotesJoiner, JoinersNoted, NotesIf, flagged_names};
 ghost use Rattle.index.specs.Views.{catalogue_of, counts_of, catalogue_in};
 
-use encoder::{Counters, Run};
+use encoder::{Run, State};
 use index::{Catalogue, Index};
 use marked::MarkedList;
-use state::{Limits, Region};
+use state::Region;
 use tables::Tables;
 use variable_map::Origin;
 
 // ---- a part joins
 
-// Part p of this name is tracked, behind i others of it.
-fn push_tracked(
-    tables: &Tables,
-    s: &mut [u8],
-    l: Limits,
-    n: Counters,
-    name: u16,
-    p: u16,
-    i: u16,
-) -> Counters
-    requires fits { Fits l (length s.old) }
-    requires marked { Marked 10 11 n.tracked (held l s.old) }
-    requires p_bound { (p < 1024) × (i < 1024) × (part_name tables.now.counts tables.now.area.now p ≡ name) }
-    requires i_value { i ≡ length (of_name tables.now.counts tables.now.area.now name (listed n.tracked 10 (held l s.old))) }
-    requires s_value { elem p (listed n.tracked 10 (held l s.old)) ≡ false }
-    ensures { Tracks tables.now.counts tables.now.area.now l p n (held l s.old) result (held l s.new) }
+// How many parts of this name are tracked.
+fn tracked_count(state: &State, name: u16) -> u16
+    requires { name < 64 }
+    ensures { result ≡ get_or (regions_of state.now 12) name 0 }
 {
-    let tracked = marked::push(s, l, MarkedList::Tracked, n.tracked, p);
-    state::set(s, l, Region::TrackedCounts, name as usize, i + 1);
-    Counters { tracked, ..n }
+    state::get(
+        state.area,
+        state.limits,
+        Region::TrackedCounts,
+        name as usize,
+    )
+}
+
+// Part p of this name is tracked, behind i others of it.
+fn push_tracked(tables: &Tables, state: &mut State, name: u16, p: u16, i: u16)
+    requires marked { Marked 10 11 state.old.used.tracked (regions_of state.old) }
+    requires p_bound { (p < 1024) × (i < 1024) × (part_name tables.now.counts tables.now.area.now p ≡ name) }
+    requires i_value { i ≡ length (of_name tables.now.counts tables.now.area.now name (tracked_in state.old)) }
+    requires untracked { elem p (tracked_in state.old) ≡ false }
+    ensures { Tracks tables.now.counts tables.now.area.now p state.old state.new }
+{
+    state.used.tracked = marked::push(
+        state.area,
+        state.limits,
+        MarkedList::Tracked,
+        state.used.tracked,
+        p,
+    );
+    state::set(
+        state.area,
+        state.limits,
+        Region::TrackedCounts,
+        name as usize,
+        i + 1,
+    );
 }
 
 // Part p, which has a variable as the h helpers have, gets its clauses and is tracked.
 fn join_named(
     tables: &Tables,
-    s: &mut [u8],
+    state: &mut State,
     clauses: &mut [u8],
-    l: Limits,
-    n: Counters,
-    r: Run,
+    run: Run,
     name: u16,
     p: u16,
     i: u16,
     h: usize,
-) -> Counters
-    requires fits { Fits l (length s.old) }
-    requires good_some { GoodSome l n (held l s.old) clauses.old }
-    requires long_enough { LongEnough l (length clauses.old) 16384 }
-    requires can_join { CanJoin n (held l s.old) r }
-    requires can_add_part { CanAddPart tables.now.counts tables.now.area.now n (held l s.old) name p i h }
-    requires s_value { elem p (listed n.tracked 10 (held l s.old)) ≡ false }
-    ensures { MakesOf tables.now.counts tables.now.area.now l (track_with (run_of r) (joined_clauses r.before (variables n.variables (held l s.old)) name p (of_name tables.now.counts tables.now.area.now name (listed n.tracked 10 (held l s.old)))) p) n (held l s.old) clauses.old result (held l s.new) clauses.new }
+)
+    requires good_some { GoodSome state.old clauses.old }
+    requires long_enough { LongEnough state.old.limits (length clauses.old) 16384 }
+    requires can_join { CanJoin state.old run }
+    requires can_add_part { CanAddPart tables.now.counts tables.now.area.now state.old name p i h }
+    requires untracked { elem p (tracked_in state.old) ≡ false }
+    ensures { MakesOf tables.now.counts tables.now.area.now (track_with (run_of run) (joined_clauses run.before (variables_of state.old) name p (of_name tables.now.counts tables.now.area.now name (tracked_in state.old))) p) state.old clauses.old state.new clauses.new }
 {
-    let m = tracking::join_clauses(tables, s, clauses, l, n, r, name, p, i, h);
-    if m.full != 0 {
-        return m;
+    tracking::join_clauses(tables, state, clauses, run, name, p, i, h);
+    if state.used.full == 0 {
+        push_tracked(tables, state, name, p, i);
     }
-    push_tracked(tables, s, l, m, name, p, i)
 }
 
-fn join(
-    tables: &Tables,
-    s: &mut [u8],
-    clauses: &mut [u8],
-    l: Limits,
-    n: Counters,
-    r: Run,
-    name: u16,
-    p: u16,
-) -> Counters
-    requires fits { Fits l (length s.old) }
-    requires good_of { GoodOf tables.now.counts tables.now.area.now l n (held l s.old) clauses.old }
-    requires long_enough { LongEnough l (length clauses.old) 16384 }
-    requires can_join { CanJoin n (held l s.old) r }
+fn join(tables: &Tables, state: &mut State, clauses: &mut [u8], run: Run, name: u16, p: u16)
+    requires good_of { GoodOf tables.now.counts tables.now.area.now state.old clauses.old }
+    requires long_enough { LongEnough state.old.limits (length clauses.old) 16384 }
+    requires can_join { CanJoin state.old run }
     requires p_bound { (p < 1024) × (name < 64) × (part_name tables.now.counts tables.now.area.now p ≡ name) }
-    requires s_value { elem p (listed n.tracked 10 (held l s.old)) ≡ false }
-    ensures { MakesOf tables.now.counts tables.now.area.now l (join_step (run_of r) p) n (held l s.old) clauses.old result (held l s.new) clauses.new }
+    requires untracked { elem p (tracked_in state.old) ≡ false }
+    ensures { MakesOf tables.now.counts tables.now.area.now (join_step (run_of run) p) state.old clauses.old state.new clauses.new }
 {
-    let i = state::get(s, l, Region::TrackedCounts, name as usize);
+    let i = tracked_count(state, name);
     let h = tracking::helpers_for(i + 1);
-    let a = tracking::name_join(s, l, n, name, p, h);
-    if a.full != 0 {
-        return a;
+    tracking::name_join(state, name, p, h);
+    if state.used.full == 0 {
+        join_named(tables, state, clauses, run, name, p, i, h);
     }
-    join_named(tables, s, clauses, l, a, r, name, p, i, h)
 }
 
 // Part p joins if it is of this name and not tracked.
-fn join_if(
-    tables: &Tables,
-    s: &mut [u8],
-    clauses: &mut [u8],
-    l: Limits,
-    n: Counters,
-    r: Run,
-    name: u16,
-    p: u16,
-) -> Counters
+fn join_if(tables: &Tables, state: &mut State, clauses: &mut [u8], run: Run, name: u16, p: u16)
     requires names_low { NamesLow tables.now.counts tables.now.area.now }
-    requires fits { Fits l (length s.old) }
-    requires good_of { GoodOf tables.now.counts tables.now.area.now l n (held l s.old) clauses.old }
-    requires long_enough { LongEnough l (length clauses.old) 16384 }
-    requires can_join { CanJoin n (held l s.old) r }
+    requires good_of { GoodOf tables.now.counts tables.now.area.now state.old clauses.old }
+    requires long_enough { LongEnough state.old.limits (length clauses.old) 16384 }
+    requires can_join { CanJoin state.old run }
     requires p_bound { p < 1024 }
-    ensures { MakesOf tables.now.counts tables.now.area.now l (join_if (run_of r) name p) n (held l s.old) clauses.old result (held l s.new) clauses.new }
+    ensures { MakesOf tables.now.counts tables.now.area.now (join_if (run_of run) name p) state.old clauses.old state.new clauses.new }
 {
     if tables.part_name(p as usize) != name {
-        return n;
+        return;
     }
-    if marked::contains(s, l, MarkedList::Tracked, p) {
-        return n;
+    if state.lists(MarkedList::Tracked, p) {
+        return;
     }
-    join(tables, s, clauses, l, n, r, name, p)
+    join(tables, state, clauses, run, name, p);
 }
 
 // ---- all that join
 
 // The named parts of one name.
-fn join_name(
-    tables: &Tables,
-    s: &mut [u8],
-    clauses: &mut [u8],
-    l: Limits,
-    n: Counters,
-    r: Run,
-    name: u16,
-) -> Counters
+fn join_name(tables: &Tables, state: &mut State, clauses: &mut [u8], run: Run, name: u16)
     requires names_low { NamesLow tables.now.counts tables.now.area.now }
-    requires fits { Fits l (length s.old) }
-    requires good_of { GoodOf tables.now.counts tables.now.area.now l n (held l s.old) clauses.old }
-    requires long_enough { LongEnough l (length clauses.old) 16384 }
-    requires can_join { CanJoin n (held l s.old) r }
-    ensures { MakesOf tables.now.counts tables.now.area.now l (join_name (run_of r) name) n (held l s.old) clauses.old result (held l s.new) clauses.new }
+    requires good_of { GoodOf tables.now.counts tables.now.area.now state.old clauses.old }
+    requires long_enough { LongEnough state.old.limits (length clauses.old) 16384 }
+    requires can_join { CanJoin state.old run }
+    ensures { MakesOf tables.now.counts tables.now.area.now (join_name (run_of run) name) state.old clauses.old state.new clauses.new }
 {
-    let mut m = n;
-    for i in 0..n.named {
-        let p = marked::at(s, l, MarkedList::Named, n.named, i);
-        m = join_if(tables, s, clauses, l, m, r, name, p);
-        if m.full != 0 {
-            return m;
+    let named = state.used.named;
+    for i in 0..named {
+        let p = state.listed(MarkedList::Named, named, i);
+        join_if(tables, state, clauses, run, name, p);
+        if state.used.full != 0 {
+            return;
         }
     }
-    m
 }
 
 // The names at hand.
-fn join_names(
-    tables: &Tables,
-    s: &mut [u8],
-    clauses: &mut [u8],
-    l: Limits,
-    n: Counters,
-    r: Run,
-    names: usize,
-) -> Counters
+fn join_names(tables: &Tables, state: &mut State, clauses: &mut [u8], run: Run, names: usize)
     requires names_low { NamesLow tables.now.counts tables.now.area.now }
-    requires fits { Fits l (length s.old) }
-    requires good_of { GoodOf tables.now.counts tables.now.area.now l n (held l s.old) clauses.old }
-    requires long_enough { LongEnough l (length clauses.old) 16384 }
-    requires can_join { CanJoin n (held l s.old) r }
-    requires marked { Marked 14 15 names (held l s.old) }
-    ensures { MakesOf tables.now.counts tables.now.area.now l (join_names (run_of r) (listed names 14 (held l s.old))) n (held l s.old) clauses.old result (held l s.new) clauses.new }
+    requires good_of { GoodOf tables.now.counts tables.now.area.now state.old clauses.old }
+    requires long_enough { LongEnough state.old.limits (length clauses.old) 16384 }
+    requires can_join { CanJoin state.old run }
+    requires marked { Marked 14 15 names (regions_of state.old) }
+    ensures { MakesOf tables.now.counts tables.now.area.now (join_names (run_of run) (listed names 14 (regions_of state.old))) state.old clauses.old state.new clauses.new }
 {
-    let mut m = n;
     for i in 0..names {
-        let name = marked::at(s, l, MarkedList::Candidates, names, i);
-        m = join_name(tables, s, clauses, l, m, r, name);
-        if m.full != 0 {
-            return m;
+        let name = state.listed(MarkedList::Candidates, names, i);
+        join_name(tables, state, clauses, run, name);
+        if state.used.full != 0 {
+            return;
         }
     }
-    m
 }
 
 // The name of part p is flagged, if p is not tracked.
-fn note_joiner(tables: &Tables, s: &[u8], l: Limits, joiners: &mut [bool; 64], p: u16)
-    requires names_low { NamesLow tables.now.counts tables.now.area.now }
-    requires fits { Fits l (length s.now) }
-    ensures { NotesJoiner tables.now.counts tables.now.area.now (held l s.now) p joiners.old joiners.new }
+fn note_joiner(tables: &Tables, state: &State, joiners: &mut [bool; 64], p: u16)
+    requires { NamesLow tables.now.counts tables.now.area.now }
+    ensures { NotesJoiner tables.now.counts tables.now.area.now (regions_of state.now) p joiners.old joiners.new }
 {
-    if marked::contains(s, l, MarkedList::Tracked, p) {
+    if state.lists(MarkedList::Tracked, p) {
         return;
     }
     let name = tables.part_name(p as usize);
@@ -203,152 +168,118 @@ fn note_joiner(tables: &Tables, s: &[u8], l: Limits, joiners: &mut [bool; 64], p
 }
 
 // The names are flagged of which some named part is not tracked.
-fn note_joiners(tables: &Tables, s: &[u8], l: Limits, n: Counters, joiners: &mut [bool; 64])
-    requires names_low { NamesLow tables.now.counts tables.now.area.now }
-    requires fits { Fits l (length s.now) }
-    ensures { JoinersNoted tables.now.counts tables.now.area.now n.named (held l s.now) n.named joiners.new }
+fn note_joiners(tables: &Tables, state: &State, joiners: &mut [bool; 64])
+    requires { NamesLow tables.now.counts tables.now.area.now }
+    ensures { JoinersNoted tables.now.counts tables.now.area.now state.now.used.named (regions_of state.now) state.now.used.named joiners.new }
 {
-    for i in 0..n.named {
-        let p = marked::at(s, l, MarkedList::Named, n.named, i);
-        note_joiner(tables, s, l, joiners, p);
+    for i in 0..state.used.named {
+        let p = state.listed(MarkedList::Named, state.used.named, i);
+        note_joiner(tables, state, joiners, p);
     }
 }
 
 // A name is noted if it is flagged.
-fn note_name(s: &mut [u8], l: Limits, joiners: &[bool; 64], m: usize, name: u16) -> usize
-    requires fits { Fits l (length s.old) }
-    requires marked { Marked 14 15 m (held l s.old) × (name < 64) }
-    ensures { NotesIf (flagged joiners.now name) name m (held l s.old) result (held l s.new) }
+fn note_name(state: &mut State, joiners: &[bool; 64], count: usize, name: u16) -> usize
+    requires { Marked 14 15 count (regions_of state.old) × (name < 64) }
+    ensures { NotesIf (flagged joiners.now name) name count state.old result state.new }
 {
     if joiners[name as usize] {
-        return goals::note(s, l, m, name);
+        return goals::note(state, count, name);
     }
-    m
+    count
 }
 
 // The flagged names of the named parts, each once, become the list at hand.
-fn gather_names(
-    tables: &Tables,
-    s: &mut [u8],
-    l: Limits,
-    n: Counters,
-    joiners: &[bool; 64],
-) -> usize
+fn gather_names(tables: &Tables, state: &mut State, joiners: &[bool; 64]) -> usize
     requires names_low { NamesLow tables.now.counts tables.now.area.now }
-    requires fits { Fits l (length s.old) }
-    requires marked { Marked 8 9 n.named (held l s.old) }
-    requires marked_2 { Marked 14 15 0 (held l s.old) }
-    ensures { Gathers (flagged_names tables.now.counts tables.now.area.now joiners.now (listed n.named 8 (held l s.old))) (held l s.old) result (held l s.new) }
+    requires marked { Marked 8 9 state.old.used.named (regions_of state.old) }
+    requires marked_2 { Marked 14 15 0 (regions_of state.old) }
+    ensures { HandGathers (flagged_names tables.now.counts tables.now.area.now joiners.now (named_in state.old)) state.old result state.new }
 {
-    let mut m = 0;
-    for i in 0..n.named {
-        let p = marked::at(s, l, MarkedList::Named, n.named, i);
-        m = note_name(s, l, joiners, m, tables.part_name(p as usize));
+    let mut count = 0;
+    let named = state.used.named;
+    for i in 0..named {
+        let p = state.listed(MarkedList::Named, named, i);
+        count = note_name(state, joiners, count, tables.part_name(p as usize));
     }
-    m
+    count
 }
 
 // No part is named any more.
-fn forget_named(s: &mut [u8], l: Limits, n: Counters) -> Counters
-    requires fits { Fits l (length s.old) }
-    requires marked { Marked 8 9 n.named (held l s.old) }
-    ensures { Forgets l n (held l s.old) result (held l s.new) }
+fn forget_named(state: &mut State)
+    requires { Marked 8 9 state.old.used.named (regions_of state.old) }
+    ensures { Forgets state.old state.new }
 {
-    marked::clear(s, l, MarkedList::Named, n.named);
-    Counters { named: 0, ..n }
+    marked::clear(
+        state.area,
+        state.limits,
+        MarkedList::Named,
+        state.used.named,
+    );
+    state.used.named = 0;
 }
 
 // The named parts of the flagged names join, name by name as first named; then no part is named any more.
 fn join_flagged(
     catalogue: &Catalogue,
-    s: &mut [u8],
+    state: &mut State,
     clauses: &mut [u8],
-    l: Limits,
-    n: Counters,
-    r: Run,
+    run: Run,
     joiners: &[bool; 64],
-) -> Counters
-    requires fits { Fits l (length s.old) }
-    requires good { Good (catalogue_of catalogue.now) l n (held l s.old) clauses.old [] }
-    requires long_enough { LongEnough l (length clauses.old) 16384 }
-    requires can_join { CanJoin n (held l s.old) r }
-    requires marked { Marked 14 15 0 (held l s.old) }
-    requires joiners_noted { JoinersNoted (counts_of catalogue.now) catalogue.now.index.areas.tables.area.now n.named (held l s.old) n.named joiners.now }
-    ensures { ClausesDid (catalogue_of catalogue.now) l (λ v. join_all (catalogue_of catalogue.now) (run_of r)) n (held l s.old) clauses.old result (held l s.new) clauses.new }
+)
+    requires good { IsGoodWith (catalogue_of catalogue.now) state.old clauses.old [] }
+    requires long_enough { LongEnough state.old.limits (length clauses.old) 16384 }
+    requires can_join { CanJoin state.old run }
+    requires marked { Marked 14 15 0 (regions_of state.old) }
+    requires joiners_noted { JoinersNoted (counts_of catalogue.now) catalogue.now.index.areas.tables.area.now state.old.used.named (regions_of state.old) state.old.used.named joiners.now }
+    ensures { ClausesDoes (catalogue_of catalogue.now) (λ v. join_all (catalogue_of catalogue.now) (run_of run)) state.old clauses.old state.new clauses.new }
 {
-    let names = gather_names(&catalogue.index.areas.tables, s, l, n, joiners);
-    let a = join_names(&catalogue.index.areas.tables, s, clauses, l, n, r, names);
-    goals::release(s, l, names);
-    forget_named(s, l, a)
+    let tables = &catalogue.index.areas.tables;
+    let names = gather_names(tables, state, joiners);
+    join_names(tables, state, clauses, run, names);
+    goals::release(state, names);
+    forget_named(state);
 }
 
 // The named parts join, name by name as first named.
-pub fn join_all(
-    catalogue: &Catalogue,
-    s: &mut [u8],
-    clauses: &mut [u8],
-    l: Limits,
-    n: Counters,
-    r: Run,
-) -> Counters
-    requires fits { Fits l (length s.old) }
-    requires good { Good (catalogue_of catalogue.now) l n (held l s.old) clauses.old [] }
-    requires long_enough { LongEnough l (length clauses.old) 16384 }
-    requires can_join { CanJoin n (held l s.old) r }
-    requires marked { Marked 14 15 0 (held l s.old) }
-    ensures { ClausesDid (catalogue_of catalogue.now) l (λ v. join_all (catalogue_of catalogue.now) (run_of r)) n (held l s.old) clauses.old result (held l s.new) clauses.new }
+pub fn join_all(catalogue: &Catalogue, state: &mut State, clauses: &mut [u8], run: Run)
+    requires good { IsGoodWith (catalogue_of catalogue.now) state.old clauses.old [] }
+    requires long_enough { LongEnough state.old.limits (length clauses.old) 16384 }
+    requires can_join { CanJoin state.old run }
+    requires marked { Marked 14 15 0 (regions_of state.old) }
+    ensures { ClausesDoes (catalogue_of catalogue.now) (λ v. join_all (catalogue_of catalogue.now) (run_of run)) state.old clauses.old state.new clauses.new }
 {
     let mut joiners = [false; 64];
-    note_joiners(&catalogue.index.areas.tables, s, l, n, &mut joiners);
-    join_flagged(catalogue, s, clauses, l, n, r, &joiners)
+    note_joiners(&catalogue.index.areas.tables, state, &mut joiners);
+    join_flagged(catalogue, state, clauses, run, &joiners);
 }
 
 // ---- new one-of-name variables
 
 // Variable y is linked if it is one-of-name.
-fn link_if(
-    tables: &Tables,
-    s: &mut [u8],
-    clauses: &mut [u8],
-    l: Limits,
-    n: Counters,
-    r: Run,
-    y: usize,
-) -> Counters
-    requires fits { Fits l (length s.old) }
-    requires good_some { GoodSome l n (held l s.old) clauses.old }
-    requires long_enough { LongEnough l (length clauses.old) 16384 }
-    requires can_link { CanLink n (held l s.old) }
-    requires y_lt_variables { y < n.variables }
-    ensures { AddsAll l r (link_clauses tables.now.counts tables.now.area.now (variables n.variables (held l s.old)) y (listed n.tracked 10 (held l s.old))) n (held l s.old) clauses.old result (held l s.new) clauses.new }
+fn link_if(tables: &Tables, state: &mut State, clauses: &mut [u8], run: Run, y: usize)
+    requires good_some { GoodSome state.old clauses.old }
+    requires long_enough { LongEnough state.old.limits (length clauses.old) 16384 }
+    requires can_link { CanLink state.old }
+    requires y_lt_variables { y < state.old.used.variables }
+    ensures { AddsAll run (link_clauses tables.now.counts tables.now.area.now (variables_of state.old) y (tracked_in state.old)) state.old clauses.old state.new clauses.new }
 {
-    match variable_map::origin_at(s, l, n.variables, y) {
-        Origin::One(name) => tracking::any_clauses(tables, s, clauses, l, n, r, name, y as u16),
-        _ => n,
+    if let Origin::One(name) = state.origin_at(y) {
+        tracking::any_clauses(tables, state, clauses, run, name, y as u16);
     }
 }
 
 // The one-of-name variables that the run made, in order of making.
-pub fn link_all(
-    index: &Index,
-    s: &mut [u8],
-    clauses: &mut [u8],
-    l: Limits,
-    n: Counters,
-    r: Run,
-) -> Counters
-    requires fits { Fits l (length s.old) }
-    requires good { Good (catalogue_in index.now) l n (held l s.old) clauses.old [] }
-    requires long_enough { LongEnough l (length clauses.old) 16384 }
-    requires can_link { CanLink n (held l s.old) }
-    ensures { ClausesDid (catalogue_in index.now) l (λ v. link_all (catalogue_in index.now) (run_of r)) n (held l s.old) clauses.old result (held l s.new) clauses.new }
+pub fn link_all(index: &Index, state: &mut State, clauses: &mut [u8], run: Run)
+    requires good { IsGoodWith (catalogue_in index.now) state.old clauses.old [] }
+    requires long_enough { LongEnough state.old.limits (length clauses.old) 16384 }
+    requires can_link { CanLink state.old }
+    ensures { ClausesDoes (catalogue_in index.now) (λ v. link_all (catalogue_in index.now) (run_of run)) state.old clauses.old state.new clauses.new }
 {
-    let mut m = n;
-    for y in r.before..n.variables {
-        m = link_if(&index.areas.tables, s, clauses, l, m, r, y);
-        if m.full != 0 {
-            return m;
+    for y in run.before..state.used.variables {
+        link_if(&index.areas.tables, state, clauses, run, y);
+        if state.used.full != 0 {
+            return;
         }
     }
-    m
 }

@@ -13,11 +13,9 @@ use Rattle.conditions.specs.declared.Disjunct as code
 use Rattle.conditions.specs.Disjuncts.{Carries}
 use Rattle.marks.specs.Marks.{is_marked}
 use Rattle.cache.specs.Areas.{catalogue}
-use Rattle.state.specs.declared.Limits.{Limits}
-use Rattle.state.specs.Layout.{held, Fits}
-use Rattle.variable_map.specs.Mapping.{Mapped}
-use Rattle.decision_tracker.specs.Tracking.{Kept}
 use Rattle.entries.specs.Deferred.{is_held}
+use Rattle.encoder.specs.declared.State.{State}
+use Rattle.encoder.specs.Does.{IsMapped, IsTracked}
 use Rattle.blocking.specs.declared.Shared.{Shared}
 use Rattle.blocking.specs.declared.Listing.{Listing}
 use Rattle.blocking.specs.declared.Verdict.{Verdict}
@@ -77,11 +75,10 @@ pub record Blocked (c : Catalogue) (true? : ℕ → Bool) (s : Blocking) : Type 
   pub ranges : (r : ℕ) → range_blocked s r ≡ true → (r < length c.ranges) × (all_watched c s.watched r ≡ true)
   pub unmet : Unmet true? s.watched
 
--- the state is held, with n variables and d decisions
-pub record Sees (l : Limits) (n d : ℕ) (s : List ℕ) : Type 0 where
-  pub fits : Fits l (length s)
-  pub mapped : Mapped l n (held l s)
-  pub kept : Kept l d (held l s)
+-- each origin has one variable, and each variable one value at most
+pub record Sees (x : State) : Type 0 where
+  pub mapped : IsMapped x
+  pub kept : IsTracked x
 
 -- if b is true no disjunct of condition x holds; what is blocked stays so
 pub record Blocks (c : Catalogue) (true? : ℕ → Bool) (x : ℕ) (b : Bool) (s s' : Blocking) : Type 0 where

@@ -49,7 +49,7 @@ use Rattle.blocking.proofs.Judging.{blocks_known}
 use Rattle.blocking.proofs.Sharing.{shared_blocks}
 use Rattle.commands.specs.Commands.{Idle}
 use Rattle.commands.proofs.Idling.{idle_draw}
-use Rattle.carried.specs.Carrying.{Settled, Has, Guards, Idles, DrawIdles, IsFlagged, MakesTrue, Unblocks}
+use Rattle.carried.specs.Carrying.{Settled, Has, Guards, Idles, IsFlagged, MakesTrue, Unblocks}
 use Rattle.carried.proofs.Undoing.{decided_before}
 use Rattle.carried.proofs.Settling.{drawn_is, carried_is, settled_draw}
 
@@ -118,23 +118,16 @@ module _ {flags : List Bool} {blocking : Blocking} {listing : Listing} {conditio
   unfolding is_blocked
   blocked_in h e = record { is = λ _. inr (h, inl e) }
 
-module _ (j : Counts) (m u t : List ℕ) {vs : List Origin} {ds : List Decision} (k : ℕ) {flags : List Bool} {blocking : Blocking} where
-  pub passed_flagged : {listing : Listing} {b : Bool} → Listed (tables j t).conditions listing
-      → IsFlagged flags blocking listing j.conditions k b → b ≡ true → DrawIdles (catalogue j m u t) vs ds k flags blocking true blocking
-  passed_flagged {listing} y f q =
-      record {
-        idles = ⊎_elim (λ e. idles_settled k refl e) (λ e. ⊎_elim (λ z. idles_given j m u t k e.0 (blocks_known j m u t z)) (λ z. idles_given j m u t k e.0 (shared_blocks j m u t y z)) e.1) (f.is q);
-        keeps = λ w. w;
-      }
+pub idles_flagged : (j : Counts) (m u t : List ℕ) {vs : List Origin} {ds : List Decision} (k : ℕ) {flags : List Bool} {blocking : Blocking} {listing : Listing} {b : Bool}
+    → Listed (tables j t).conditions listing → IsFlagged flags blocking listing j.conditions k b → b ≡ true → Idles (catalogue j m u t) vs ds (Command.draw k) flags blocking true blocking
+idles_flagged j m u t k y f q =
+    ⊎_elim (λ e. idles_settled k refl e) (λ e. ⊎_elim (λ z. idles_given j m u t k e.0 (blocks_known j m u t z)) (λ z. idles_given j m u t k e.0 (shared_blocks j m u t y z)) e.1) (f.is q)
 
-  -- a range that they share is asked
-  pub passed_asked : {b : Bool} {blocking' : Blocking} → k < j.conditions → Blocks (catalogue j m u t) (true_of vs ds) k b blocking blocking'
-      → DrawIdles (catalogue j m u t) vs ds k flags blocking b blocking'
-  passed_asked h d = record { idles = idles_given j m u t k h d; keeps = d.keeps }
-
-  -- there is no such condition
-  pub passed_not : DrawIdles (catalogue j m u t) vs ds k flags blocking false blocking
-  passed_not = record { idles = idles_not k; keeps = λ w. w }
+-- the ranges that its disjuncts share were asked before
+pub idles_later : (j : Counts) (m u t : List ℕ) {vs : List Origin} {ds : List Decision} (k : ℕ) {flags : List Bool} {blocking blocking' blocking'' : Blocking} {a b : Bool} → k < j.conditions
+    → Blocks (catalogue j m u t) (true_of vs ds) k a blocking blocking' → Blocks (catalogue j m u t) (true_of vs ds) k b blocking' blocking''
+    → Idles (catalogue j m u t) vs ds (Command.draw k) flags blocking b blocking''
+idles_later j m u t k h d e = idles_given j m u t k h (record { none = λ q w. e.none q (d.keeps w); keeps = λ w. e.keeps (d.keeps w) })
 
 -- ---- the code's decision
 

@@ -4,6 +4,4 @@ pub mod Running
 pub mod Settling
 pub mod Blocking
 pub mod Records
-pub mod Taking
 pub mod Sheets
-pub mod Flags

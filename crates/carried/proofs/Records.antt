@@ -7,7 +7,7 @@ use native.Mathlib.Omega.{arith}
 use lib.Dec.{leb}
 use lib.ListN.{length, get_or, drop}
 use borrow.Author.Tests.{leb-true}
-use Rattle.std.specs.Prelude.{Result, Ok, Err}
+use Rattle.std.specs.Prelude.{Ok, Err}
 use Rattle.rules.specs.Compute.{computing}
 use Rattle.rules.specs.Lists.{all}
 use Rattle.rules.specs.Catalogue.{Catalogue}
@@ -31,14 +31,15 @@ use Rattle.state.specs.declared.Limits.{Limits}
 use Rattle.variable_map.specs.Mapping.{variables}
 use Rattle.decision_tracker.specs.Tracking.{decisions}
 use Rattle.encoder.specs.declared.Counters.{Counters}
+use Rattle.encoder.specs.declared.State as encoder
 use Rattle.encoder.specs.Held.{state_of}
+use Rattle.encoder.specs.Does.{variables_of, decisions_of}
 use Rattle.state.specs.Limits.{limits_of}
 use Rattle.blocking.specs.declared.Blocking.{Blocking}
 use Rattle.blocking.specs.Blocking.{Blocked}
-use Rattle.encoding.specs.Running.{Holds}
+use Rattle.encoding.specs.Running.{Holds, IsHolding}
 use Rattle.sheet.specs.Sheet.{CommandDid}
-use Rattle.carried.specs.declared.Next.{Next}
-use Rattle.carried.specs.Carrying.{end_from, Settled, Has, Idles, SettledDid, Passed, StepDid}
+use Rattle.carried.specs.Carrying.{end_from, Settled, Has, Idles, Notes, SettledDid, Passed, StepDid}
 
 -- ---- a sheet record has three bytes or more
 
@@ -103,30 +104,53 @@ has_held h =
     let is = h.is (record { truth = λ _. true; drawn = [] }) in
     record { variables = sym (ap (λ (u : State). u.variables) is); decisions = sym (ap (λ (u : State). u.decisions) is) }
 
-module _ {c : Catalogue} {flags : List Bool} {blocking : Blocking} {l : Limits} {o : Command} {n : Counters} {st : ℕ → List ℕ} {cl wt : List ℕ} {blocking' : Blocking} {b : Bool}
-    (d : Idles c (variables n.variables st) (decisions n.decisions st) o flags blocking b blocking') where
-  pub settled_passes : b ≡ true → SettledDid c flags blocking l o n st cl wt (Ok n) st cl wt blocking'
-  settled_passes e =
+module _ {c : Catalogue} {o : Command} {flags : List Bool} {blocking : Blocking} {x : encoder.State} {cl wt : List ℕ} {b : Bool} {blocking' : Blocking}
+    (d : Idles c (variables_of x) (decisions_of x) o flags blocking b blocking') where
+  pub settled_passes : {flags' : List Bool} → b ≡ true → Notes o flags flags' → SettledDid c o flags blocking x cl wt (Ok tt) flags' blocking' x cl wt
+  settled_passes e k =
       record {
-        carried = λ m q s g z h x w. let y : m ≡ n = cc in rw y (record { state = s; is = d.is e (limits_of l) s g z (has_held h) x w; holds = h; runs = omega arith });
+        limits = refl;
+        area = refl;
+        carried = λ _ s g z h y w. record { state = s; is = d.is e (limits_of x.limits) s g z (has_held h) y w; holds = h; runs = omega arith };
+        notes = λ _. k;
         guards = d.guards;
         refused = λ f q. absurd (not_one (cc));
       }
 
-  pub settled_carries : {r : Result Counters Refusal} {st' : ℕ → List ℕ} {cl' wt' : List ℕ} → CommandDid c l o n st cl wt r st' cl' wt'
-      → SettledDid c flags blocking l o n st cl wt r st' cl' wt' blocking'
-  settled_carries k = record { carried = λ m e s g z h _ _. k.carried m e s g z h; guards = d.guards; refused = k.refused }
+  module _ {x' : encoder.State} {cl' wt' : List ℕ} where
+    pub settled_carries : {flags' : List Bool} → CommandDid c o x cl wt (Ok tt) x' cl' wt' → Notes o flags flags' → SettledDid c o flags blocking x cl wt (Ok tt) flags' blocking' x' cl' wt'
+    settled_carries y k =
+        record {
+          limits = y.limits;
+          area = y.area;
+          carried = λ e s g z h _ _. y.carried e s g z h;
+          notes = λ _. k;
+          guards = d.guards;
+          refused = λ f q. absurd (not_one (cc));
+        }
+
+    pub settled_fails : {f : Refusal} → CommandDid c o x cl wt (Err f) x' cl' wt' → SettledDid c o flags blocking x cl wt (Err f) flags blocking' x' cl' wt'
+    settled_fails y =
+        record {
+          limits = y.limits;
+          area = y.area;
+          carried = λ e. absurd (not_one (cc));
+          notes = λ e. absurd (not_one (cc));
+          guards = d.guards;
+          refused = y.refused;
+        }
 
 -- ---- the code's record
 
-module _ {c : Catalogue} {flags : List Bool} {blocking : Blocking} {l : Limits} {job : List ℕ} {at : ℕ} {n : Counters} {st : ℕ → List ℕ} {cl wt : List ℕ} {st' : ℕ → List ℕ}
-    {cl' wt' : List ℕ} {blocking' : Blocking} where
-  refuses : (f : Refusal)
-      → ((s : State) → Given c → Reached (limits_of l) c s → Holds c l s n st cl wt → (t : Terms) → t.limits ≡ limits_of l
+module _ {c : Catalogue} {job : List ℕ} {at : ℕ} {flags flags' : List Bool} {blocking blocking' : Blocking} {x x' : encoder.State} {cl wt cl' wt' : List ℕ} where
+  refuses : (f : Refusal) → x'.limits ≡ x.limits → x'.area.ghost_name ≡ x.area.ghost_name
+      → ((s : State) → Given c → Reached (limits_of x.limits) c s → IsHolding c s x cl wt → (t : Terms) → t.limits ≡ limits_of x.limits
       → end_from t job at (carrying c s) ≡ refused (number_and_place (length job) at (refusal_of f)))
-      → StepDid c flags blocking l job at n st cl wt (Err f) st' cl' wt' blocking'
-  refuses f p =
+      → StepDid c job at flags blocking x cl wt (Err f) flags' blocking' x' cl' wt'
+  refuses f i j p =
       record {
+        limits = i;
+        area = j;
         next = λ y e. absurd (not_one (cc));
         refused = λ g e. let q : g ≡ f = cc in rw q p;
       }
@@ -138,57 +162,49 @@ module _ (job : List ℕ) (at next : ℕ) (k : code.Command) (e : result_of (dro
   unfolding result_of record_in
   is_read = sym e
 
-  pub sheet_onward : at + 3 ≤ next
+  sheet_onward : at + 3 ≤ next
   sheet_onward = omega (arith, b.0, sheet_body (get_or job at 0) (drop (at + 1) job) (command_of k) is_read)
 
-module _ {c : Catalogue} {flags : List Bool} {blocking : Blocking} {l : Limits} (job : List ℕ) (at : ℕ) {n : Counters} {st : ℕ → List ℕ} {cl wt : List ℕ} (h : at < length job) where
-  pub step_unread : (f : Refusal) → result_of (drop (at + 1) job) (Err f) ≡ read true (get_or job at 0) (drop (at + 1) job) → StepDid c flags blocking l job at n st cl wt (Err f) st cl wt blocking
+module _ {c : Catalogue} (job : List ℕ) (at : ℕ) {flags : List Bool} {blocking : Blocking} {x : encoder.State} {cl wt : List ℕ} (h : at < length job) where
+  pub step_unread : (f : Refusal) → result_of (drop (at + 1) job) (Err f) ≡ read true (get_or job at 0) (drop (at + 1) job) → StepDid c job at flags blocking x cl wt (Err f) flags blocking x cl wt
   unfolding result_of
-  step_unread f e = refuses f (λ s _ _ _ t p. unread l job at h c s t p (refusal_of f) (sym e))
+  step_unread f e = refuses f refl refl (λ s _ _ _ t p. unread x.limits job at h c s t p (refusal_of f) (sym e))
 
   -- after a sheet record nothing is read as an item
   pub step_item : (f : Refusal) (i : ItemKind) (next : ℕ) → result_of (drop (at + 1) job) (Ok (R.Item i, next)) ≡ read true (get_or job at 0) (drop (at + 1) job)
-      → StepDid c flags blocking l job at n st cl wt (Err f) st cl wt blocking
+      → StepDid c job at flags blocking x cl wt (Err f) flags blocking x cl wt
   unfolding result_of record_in
   step_item f i next e = absurd (no_item (get_or job at 0) (drop (at + 1) job) _ (sym e))
 
   module _ (next : ℕ) (k : code.Command) (e : result_of (drop (at + 1) job) (Ok (R.Sheet k, next)) ≡ read true (get_or job at 0) (drop (at + 1) job))
-      (b : (next ≡ next_of job at) × (next ≤ length job)) {st' : ℕ → List ℕ} {cl' wt' : List ℕ} {blocking' : Blocking} where
-    step_refused : (f : Refusal) → SettledDid c flags blocking l (command_of k) n st cl wt (Err f) st' cl' wt' blocking'
-        → (s : State) → Given c → Reached (limits_of l) c s → Holds c l s n st cl wt → (t : Terms) → t.limits ≡ limits_of l
-        → end_from t job at (carrying c s) ≡ refused (number_and_place (length job) at (refusal_of f))
-    step_refused f d s g z o t p = not_carried l job at h c s t p (command_of k) (is_read job at next k e b) (refusal_of f) (d.refused f refl s g z o)
-
-    pub step_carried : (m : Counters) → SettledDid c flags blocking l (command_of k) n st cl wt (Ok m) st' cl' wt' blocking'
-        → (s : State) → Given c → Reached (limits_of l) c s → Holds c l s n st cl wt → Settled c flags s
-        → Blocked c (decided_true s) blocking → Passed c l job at next (command_of k) s n m st' cl' wt' blocking'
-    step_carried m d s g z o x v =
-        let y = d.carried m refl s g z o x v in
+      (b : (next ≡ next_of job at) × (next ≤ length job)) {flags' : List Bool} {blocking' : Blocking} {x' : encoder.State} {cl' wt' : List ℕ} where
+    step_carried : SettledDid c (command_of k) flags blocking x cl wt (Ok tt) flags' blocking' x' cl' wt'
+        → (s : State) → Given c → Reached (limits_of x.limits) c s → IsHolding c s x cl wt → Settled c flags s
+        → Blocked c (decided_true s) blocking → Passed c job at next s x flags' blocking' x' cl' wt'
+    step_carried d s g z o i v =
+        let y = d.carried refl s g z o i v in
         record {
           onward = sheet_onward job at next k e b;
           inside = b.1;
           runs = y.runs;
           state = y.state;
-          is = y.is;
           reached = then_reached z (command_of k) y.is;
           holds = y.holds;
-          blocked = d.guards.is (limits_of l) s y.state z (has_held o) y.is v;
-          alike = λ t p. goes_on l job at h c s t p (command_of k) (is_read job at next k e b) y.state next b.0 y.is;
+          settled = (d.notes refl).is (limits_of x.limits) c s y.state z y.is i;
+          blocked = d.guards.is (limits_of x.limits) s y.state z (has_held o) y.is v;
+          alike = λ t p. goes_on x.limits job at h c s t p (command_of k) (is_read job at next k e b) y.state next b.0 y.is;
         }
 
     -- it was carried out or refused
-    pub step_done : {y : Next} → y.at ≡ next → y.command ≡ k → SettledDid c flags blocking l (command_of k) n st cl wt (Ok y.counters) st' cl' wt' blocking'
-        → StepDid c flags blocking l job at n st cl wt (Ok y) st' cl' wt' blocking'
-    step_done {y} i j d =
+    pub step_done : SettledDid c (command_of k) flags blocking x cl wt (Ok tt) flags' blocking' x' cl' wt' → StepDid c job at flags blocking x cl wt (Ok next) flags' blocking' x' cl' wt'
+    step_done d =
         record {
-          next = λ z v. let p : z ≡ y = cc in rw (p, i, j) (step_carried y.counters d);
+          limits = d.limits;
+          area = d.area;
+          next = λ y v. let p : y ≡ next = cc in rw p (step_carried d);
           refused = λ f v. absurd (not_one (cc));
         }
 
-    pub step_failed : {f : Refusal} → SettledDid c flags blocking l (command_of k) n st cl wt (Err f) st' cl' wt' blocking'
-        → StepDid c flags blocking l job at n st cl wt (Err f) st' cl' wt' blocking'
+    pub step_failed : {f : Refusal} → SettledDid c (command_of k) flags blocking x cl wt (Err f) flags' blocking' x' cl' wt' → StepDid c job at flags blocking x cl wt (Err f) flags' blocking' x' cl' wt'
     step_failed {f} d =
-        record {
-          next = λ y v. absurd (not_one (cc));
-          refused = λ g v. let p : g ≡ f = cc in rw p (step_refused f d);
-        }
+        refuses f d.limits d.area (λ s g z o t p. not_carried x.limits job at h c s t p (command_of k) (is_read job at next k e b) (refusal_of f) (d.refused f refl s g z o))

@@ -6,7 +6,7 @@ use mathlib.Core.Option.{Option, none, some}
 use Prim.Native.Nat.{ℕ, ◌+◌, ◌-◌, ◌*◌, ◌<◌, ◌≤◌}
 use native.Mathlib.Omega.{arith}
 use native.Mathlib.Decide.{dec_lt}
-use lib.ListN.{length, get_or, drop, replicate}
+use lib.ListN.{length, get_or, drop}
 use Rattle.std.specs.Prelude.{Result, Ok, Err, MatchResult, IsErrAnd, is_ok}
 use Rattle.rules.specs.Catalogue.{Catalogue}
 use Rattle.rules.specs.Records.{Kind, kind_of, of_sheet, read}
@@ -18,22 +18,21 @@ use Rattle.rules.proofs.WalkLaws.{walk_record, walk_end}
 use Rattle.rules.proofs.Reached.{Given, Reached}
 use Rattle.refusal.specs.declared.Refusal.{Refusal}
 use Rattle.refusal.specs.declared.RefusedAt.{RefusedAt}
-use Rattle.reader.specs.Reading.{command_of}
 use Rattle.tables.specs.declared.Counts.{Counts}
 use Rattle.cache.specs.Areas.{catalogue}
 use Rattle.catalogue.specs.Walking.{UpToSheet}
 use Rattle.state.specs.declared.Limits.{Limits}
+use Rattle.state.specs.Limits.{limits_of}
 use Rattle.state.specs.Layout.{held}
 use Rattle.encoder.specs.declared.Counters.{Counters}
-use Rattle.state.specs.Limits.{limits_of}
+use Rattle.encoder.specs.declared.State as encoder
 use Rattle.blocking.specs.declared.Blocking.{Blocking}
-use Rattle.blocking.specs.Blocking.{NothingBlocked, Blocked}
+use Rattle.blocking.specs.Blocking.{Blocked}
 use Rattle.blocking.proofs.Blocked.{blocked_none}
-use Rattle.encoding.specs.Running.{Holds}
+use Rattle.encoding.specs.Running.{Holds, IsHolding}
 use Rattle.sheet.proofs.Held.{held_runs}
-use Rattle.carried.specs.declared.Next.{Next}
-use Rattle.carried.specs.declared.Place.{Place}
-use Rattle.carried.specs.Carrying.{end_from, Settled, Notes, Passed, StepDid, counted, WentOn, Came, SheetDid}
+use Rattle.carried.specs.declared.Memory.{Memory}
+use Rattle.carried.specs.Carrying.{end_from, Settled, Fresh, Passed, StepDid, SheetDid}
 use Rattle.carried.proofs.Settling.{settled_none}
 
 -- ---- the first record
@@ -75,101 +74,99 @@ failed_before {r = Ok y} {m = Err z} P Q h v e = absurd (true≢false (sym v))
 failed_before {r = Err d} {m = Ok z} P Q h v e = absurd (true≢false v)
 failed_before {r = Err d} {m = Err z} P Q h v {f} e = let q : z ≡ f = cc in (d, refl, rw q at h)
 
+-- ---- the same limits
+
+module _ {l l' : Limits} (e : l' ≡ l) where
+  reached_within : {c : Catalogue} {s : State} → Reached (limits_of l) c s → Reached (limits_of l') c s
+  reached_within h = rw e h
+
+  holds_within : {c : Catalogue} {s : State} {n : Counters} (b : List ℕ) {cl wt : List ℕ} → Holds c l s n (held l b) cl wt → Holds c l' s n (held l' b) cl wt
+  holds_within b h = rw e h
+
 -- ---- the loop
 
 -- the records before `at` were carried out; a run takes three bytes or more
-pub record Left (c : Catalogue) (l : Limits) (job : List ℕ) (from : ℕ) (s₀ cl₀ wt₀ : List ℕ) (flags : List Bool) (blocking : Blocking) (at : ℕ) (m : Counters) (s cl wt : List ℕ) : Type 0 where
-  pub state_same : length s ≡ length s₀
+pub record Left (c : Catalogue) (job : List ℕ) (from : ℕ) (x₀ : encoder.State) (cl₀ wt₀ : List ℕ) (at : ℕ) (flags : List Bool) (blocking : Blocking) (x : encoder.State) (cl wt : List ℕ) : Type 0 where
+  pub limits : x.limits ≡ x₀.limits
+  pub area : x.area.ghost_name ≡ x₀.area.ghost_name
   pub clauses_same : length cl ≡ length cl₀
   pub waiting_same : length wt ≡ length wt₀
-  pub few : 3 * m.runs ≤ at
+  pub few : 3 * x.used.runs ≤ at
   pub state : State
-  pub reached : Reached (limits_of l) c state
-  pub holds : Holds c l state m (held l s) cl wt
+  pub reached : Reached (limits_of x.limits) c state
+  pub holds : IsHolding c state x cl wt
   pub settled : Settled c flags state
   pub guarded : Blocked c (decided_true state) blocking
-  pub alike : (t : Terms) → t.limits ≡ limits_of l → end_from t job from (reading c) ≡ end_from t job at (carrying c state)
+  pub alike : (t : Terms) → t.limits ≡ limits_of x.limits → end_from t job from (reading c) ≡ end_from t job at (carrying c state)
 
-pub left_start : (k : Counts) (u v w : List ℕ) (l : Limits) (job : List ℕ) (from : ℕ) (n : Counters) (s cl wt : List ℕ) (flags : List Bool) (blocking : Blocking) → UpToSheet job from k u v w
-    → Holds (catalogue k u v w) l start n (held l s) cl wt → flags ≡ replicate 256 false → NothingBlocked blocking
-    → Left (catalogue k u v w) l job from s cl wt flags blocking from n s cl wt
-left_start k u v w l job from n s cl wt flags blocking y h z b =
+pub left_start : (k : Counts) (u v w : List ℕ) (job : List ℕ) (from : ℕ) (x : encoder.State) (cl wt : List ℕ) {memory : Memory} → UpToSheet job from k u v w
+    → IsHolding (catalogue k u v w) start x cl wt → Fresh memory → Left (catalogue k u v w) job from x cl wt from memory.settled memory.blocking x cl wt
+left_start k u v w job from x cl wt y h z =
     record {
-      state_same = refl;
+      limits = refl;
+      area = refl;
       clauses_same = refl;
       waiting_same = refl;
       few = omega (arith, held_runs h);
       state = start;
       reached = Reached.begun;
       holds = h;
-      settled = rw z (settled_none (catalogue k u v w) 256 start);
-      guarded = blocked_none b;
+      settled = rw z.settled (settled_none (catalogue k u v w) 256 start);
+      guarded = blocked_none z.blocking;
       alike = λ t _. begins_alike job from (catalogue k u v w) y.starts t;
     }
 
-module _ {c : Catalogue} {l : Limits} {job : List ℕ} {from : ℕ} {s₀ cl₀ wt₀ : List ℕ} {flags : List Bool} {blocking : Blocking} {at : ℕ} {m : Counters} {s cl wt : List ℕ}
-    (x : Left c l job from s₀ cl₀ wt₀ flags blocking at m s cl wt) where
-  -- commands were taken
-  pub left_taken : Given c → {r : Place} (s' : List ℕ) {flags' : List Bool} {blocking' : Blocking} → WentOn c flags blocking l job at m (held l s) cl wt r (held l s') flags' blocking'
-      → length s' ≡ length s → Left c l job from s₀ cl₀ wt₀ flags' blocking' r.at (counted r m) s' cl wt
-  left_taken g s' d p =
-      let y = d.went x.state g x.reached x.holds x.settled x.guarded in
-      record {
-        state_same = p ∙ x.state_same;
-        clauses_same = x.clauses_same;
-        waiting_same = x.waiting_same;
-        few = omega (arith, x.few, d.onward);
-        state = y.state;
-        reached = y.reached;
-        holds = y.holds;
-        settled = y.settled;
-        guarded = y.blocked;
-        alike = λ t z. x.alike t z ∙ y.alike t z;
-      }
+module _ {c : Catalogue} {job : List ℕ} {from : ℕ} {x₀ : encoder.State} {cl₀ wt₀ : List ℕ} {at : ℕ} {flags : List Bool} {blocking : Blocking} {x : encoder.State} {cl wt : List ℕ}
+    (p : Left c job from x₀ cl₀ wt₀ at flags blocking x cl wt) where
+  module _ {r : Result ℕ Refusal} {flags' : List Bool} {blocking' : Blocking} {x' : encoder.State} {cl' wt' : List ℕ} (g : Given c)
+      (d : StepDid c job at flags blocking x cl wt r flags' blocking' x' cl' wt') where
+    module _ {next : ℕ} (e : r ≡ Ok next) where
+      passed : Passed c job at next p.state x flags' blocking' x' cl' wt'
+      passed = d.next next e p.state g p.reached p.holds p.settled p.guarded
 
-  module _ {r : Result Next Refusal} (s' : List ℕ) {cl' wt' : List ℕ} {blocking' : Blocking} (g : Given c)
-      (d : StepDid c flags blocking l job at m (held l s) cl wt r (held l s') cl' wt' blocking') where
-    module _ {o : Next} (e : r ≡ Ok o) where
-      abbrev passed : Passed c l job at o.at (command_of o.command) x.state m o.counters (held l s') cl' wt' blocking'
-      passed = d.next o e x.state g x.reached x.holds x.settled x.guarded
-
-      pub left_next : {flags' : List Bool} → Notes (command_of o.command) flags flags'
-          → length s' ≡ length s → length cl' ≡ length cl → length wt' ≡ length wt
-          → Left c l job from s₀ cl₀ wt₀ flags' blocking' o.at o.counters s' cl' wt'
-      left_next b p q v =
+      pub left_next : length cl' ≡ length cl → length wt' ≡ length wt → Left c job from x₀ cl₀ wt₀ next flags' blocking' x' cl' wt'
+      left_next i j =
           let y = passed in
           record {
-            state_same = p ∙ x.state_same;
-            clauses_same = q ∙ x.clauses_same;
-            waiting_same = v ∙ x.waiting_same;
-            few = omega (arith, x.few, y.runs, y.onward);
+            limits = d.limits ∙ p.limits;
+            area = d.area ∙ p.area;
+            clauses_same = i ∙ p.clauses_same;
+            waiting_same = j ∙ p.waiting_same;
+            few = omega (arith, p.few, y.runs, y.onward);
             state = y.state;
-            reached = y.reached;
-            holds = y.holds;
-            settled = b.is (limits_of l) c x.state y.state x.reached y.is x.settled;
+            reached = reached_within d.limits y.reached;
+            holds = holds_within d.limits _ y.holds;
+            settled = y.settled;
             guarded = y.blocked;
-            alike = λ t z. x.alike t z ∙ y.alike t z;
+            alike = λ t z. let z' = z ∙ ap limits_of d.limits in p.alike t z' ∙ y.alike t z';
           }
 
-      pub left_less : at < length job → length job - o.at < length job - at
+      pub left_less : at < length job → length job - next < length job - at
       left_less h = let y = passed in omega (arith, y.onward)
 
-    pub left_refused : {f : RefusedAt} → f.at ≡ at → r ≡ Err f.refusal → SheetDid c l job from (Err f) (held l s') cl' wt'
+    pub left_refused : {f : RefusedAt} → f.at ≡ at → r ≡ Err f.refusal → SheetDid c job from x₀ (Err f) x' cl' wt'
     left_refused {f} i e =
         record {
-          carried = λ m' y. absurd (not_one (cc));
-          refused = λ f' y t z. let j : f' ≡ f = cc in rw (j, i) (x.alike t z ∙ d.refused f.refusal e x.state g x.reached x.holds t z);
+          limits = d.limits ∙ p.limits;
+          area = d.area ∙ p.area;
+          carried = λ y. absurd (not_one (cc));
+          refused = λ f' y t z. let j : f' ≡ f = cc in let z' = z ∙ sym (ap limits_of p.limits) in rw (j, i) (p.alike t z' ∙ d.refused f.refusal e p.state g p.reached p.holds t z');
         }
 
-  pub left_end : length job ≤ at → SheetDid c l job from (Ok m) (held l s) cl wt
+  pub left_end : length job ≤ at → SheetDid c job from x₀ (Ok tt) x cl wt
   left_end h =
       record {
-        carried = λ m' y. let i : m' ≡ m = cc in rw i came;
+        limits = p.limits;
+        area = p.area;
+        carried = λ _.
+            record {
+              state = p.state;
+              reached = reached_within (sym p.limits) p.reached;
+              holds = holds_within (sym p.limits) _ p.holds;
+              alike = λ t z. p.alike t (z ∙ sym (ap limits_of p.limits)) ∙ over t;
+            };
         refused = λ f y. absurd (not_one (cc));
       }
     where
-      over : (t : Terms) → end_from t job at (carrying c x.state) ≡ ended t job (carrying c x.state)
-      over t = unfold end_from in ap (ended t job) (walk_end (run_step t job) job at (carrying c x.state) h)
-
-      came : Came c l job from m (held l s) cl wt
-      came = record { state = x.state; reached = x.reached; holds = x.holds; alike = λ t z. x.alike t z ∙ over t }
+      over : (t : Terms) → end_from t job at (carrying c p.state) ≡ ended t job (carrying c p.state)
+      over t = unfold end_from in ap (ended t job) (walk_end (run_step t job) job at (carrying c p.state) h)

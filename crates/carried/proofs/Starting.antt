@@ -27,6 +27,8 @@ use Rattle.solver.specs.declared.Clause.TheVariants.{Install}
 use Rattle.solver.specs.Rows.{no_row, row_of, rows}
 use Rattle.solver.specs.Clauses.{clause_row}
 use Rattle.encoder.specs.declared.Counters.{Counters}
+use Rattle.encoder.specs.declared.State as encoder
+use Rattle.encoder.specs.Does.{regions_of}
 use Rattle.encoder.specs.Held.{Reading, clause_in, clauses_in, conflict_if, conflicts_from, opening_of, state_of, GoodState, GoodClauses}
 use Rattle.carried.specs.Carrying.{Started}
 
@@ -100,16 +102,16 @@ only_row : (k : ℕ) (cl cl' : List ℕ) (x : Stored) → rows k cl' ≡ snoc (r
 unfolding rows tables.listed up_to snoc
 only_row k cl cl' x e q = rw q at e
 
-pub started : (l : Limits) (b b' cl cl' : List ℕ) (v k : ℕ) (install : Stored) → Fits l (length b) → Cleared (held l b) → 0 < l.clauses
-    → Grown l v start.variables (held l b) (held l b') → k ≡ 0 + 1 → rows k cl' ≡ snoc (rows 0 cl) (row_of install) → row_of install ≡ clause_row Install 0
-    → Started l (counters v k) (held l b') cl'
-started l b b' cl cl' v k install f z h g e r i =
+pub started : (x : encoder.State) (b cl : List ℕ) (install : Stored) {cl' : List ℕ} {v k : ℕ} → x.used ≡ counters v k → Fits x.limits (length b) → Cleared (held x.limits b) → 0 < x.limits.clauses
+    → Grown x.limits v start.variables (held x.limits b) (regions_of x) → k ≡ 0 + 1 → rows k cl' ≡ snoc (rows 0 cl) (row_of install) → row_of install ≡ clause_row Install 0
+    → Started x cl'
+started x b cl install {cl'} {v} {k} u f z h g e r i =
     let q = only_row k cl cl' install r (i ∙ unfold clause_row in refl) in
     record {
-      holds = λ c wt. record {
-        good = record { state = start_state l b v f z g c k; clauses = start_clauses l b v f z g k cl' q c (omega arith); entries = zero-le };
-        hand = start_hand l b v f z g;
+      holds = λ c wt. rw u (record {
+        good = record { state = start_state x.limits b v f z g c k; clauses = start_clauses x.limits b v f z g k cl' q c (omega arith); entries = zero-le };
+        hand = start_hand x.limits b v f z g;
         room = refl;
-        is = start_is l b v f z g k cl' q c wt;
-      };
+        is = start_is x.limits b v f z g k cl' q c wt;
+      });
     }

@@ -12,23 +12,23 @@ ghost use Rattle.text.specs.Text.{fields, literal_of};
 ghost use Rattle.text.specs.Writing.{Writes};
 ghost use Rattle.requirement.specs.Requirements.{goal_of};
 ghost use Rattle.cache.specs.Lists as lists;
-ghost use Rattle.state.specs.Layout.{held, Fits};
-ghost use Rattle.variable_map.specs.Mapping.{variables, Mapped, AllKnown};
+ghost use Rattle.variable_map.specs.Mapping.{AllKnown};
 ghost use Rattle.solver.specs.Rows.{row_of};
 ghost use Rattle.encoder.specs.Held.{literals_in, clause_in, Sound};
+ghost use Rattle.encoder.specs.Does.{regions_of, variables_of, IsMapped};
 ghost use Rattle.clause_lines.specs.Spans.{goal_text, Stand};
 ghost use Rattle.clause_lines.specs.Asserted.{asserted_by};
-ghost use Rattle.line_fields.specs.Listed.{texts, part_text, chosen_text, literal_text, clause_text, assertion_text, clauses_of, GoodRows};
+ghost use Rattle.line_fields.specs.Listed.{texts, part_text, chosen_text, literal_text, clause_text, assertion_text, clauses_stored, HasGoodRows};
 ghost use Rattle.index.specs.Views.{catalogue_of, counts_of};
 
 use cache::Choice;
 use clause::Literal;
-use encoder::Counters;
+use encoder::State;
 use index::Catalogue;
 use requirement::Requirement;
 use solver::{Clause, Stored};
 use spans::Spans;
-use state::{Limits, Region};
+use state::Region;
 use tables::Reason;
 use text::Writer;
 use variable_map::Origin;
@@ -39,21 +39,18 @@ use variable_map::Origin;
 fn chosen_literal(
     writer: &mut Writer,
     catalogue: &Catalogue,
-    s: &[u8],
-    l: Limits,
-    n: Counters,
+    state: &State,
     range: u16,
     choice: Choice,
     p: usize,
 )
-    requires fits { Fits l (length s.now) }
-    requires mapped { Mapped l n.variables (held l s.now) }
+    requires mapped { IsMapped state.now }
     requires p_lt_parts { p < (counts_of catalogue.now).parts }
-    requires all_known { AllKnown (variables n.variables (held l s.now)) (lists.choice (catalogue_of catalogue.now) range choice) }
-    ensures { Writes writer.old writer.new (chosen_text (catalogue_of catalogue.now) (variables n.variables (held l s.now)) range choice p) }
+    requires all_known { AllKnown (variables_of state.now) (lists.choice (catalogue_of catalogue.now) range choice) }
+    ensures { Writes writer.old writer.new (chosen_text (catalogue_of catalogue.now) (variables_of state.now) range choice p) }
 {
     if catalogue.index.areas.chosen(range as usize, choice, p) {
-        let x = opening::variable_of(s, l, n, Origin::Part(p as u16));
+        let x = opening::variable_of(state, Origin::Part(p as u16));
         writer.field_literal(x as usize, true);
     }
 }
@@ -62,39 +59,28 @@ fn chosen_literal(
 fn chosen_literals(
     writer: &mut Writer,
     catalogue: &Catalogue,
-    s: &[u8],
-    l: Limits,
-    n: Counters,
+    state: &State,
     range: u16,
     choice: Choice,
 )
-    requires fits { Fits l (length s.now) }
-    requires mapped { Mapped l n.variables (held l s.now) }
-    requires all_known { AllKnown (variables n.variables (held l s.now)) (lists.choice (catalogue_of catalogue.now) range choice) }
-    ensures { Writes writer.old writer.new (part_text (variables n.variables (held l s.now)) (lists.choice (catalogue_of catalogue.now) range choice)) }
+    requires mapped { IsMapped state.now }
+    requires all_known { AllKnown (variables_of state.now) (lists.choice (catalogue_of catalogue.now) range choice) }
+    ensures { Writes writer.old writer.new (part_text (variables_of state.now) (lists.choice (catalogue_of catalogue.now) range choice)) }
 {
     let mut p = catalogue.index.first_chosen(range as usize, choice);
     while p < catalogue.index.areas.tables.counts.parts {
-        chosen_literal(writer, catalogue, s, l, n, range, choice, p);
+        chosen_literal(writer, catalogue, state, range, choice, p);
         p = catalogue.index.next_chosen(range as usize, choice, p);
     }
 }
 
-fn range_literals(
-    writer: &mut Writer,
-    catalogue: &Catalogue,
-    s: &[u8],
-    l: Limits,
-    n: Counters,
-    range: u16,
-)
-    requires fits { Fits l (length s.now) }
-    requires mapped { Mapped l n.variables (held l s.now) }
-    requires all_known { AllKnown (variables n.variables (held l s.now)) (sorted (catalogue_of catalogue.now) range) }
-    ensures { Writes writer.old writer.new (part_text (variables n.variables (held l s.now)) (sorted (catalogue_of catalogue.now) range)) }
+fn range_literals(writer: &mut Writer, catalogue: &Catalogue, state: &State, range: u16)
+    requires mapped { IsMapped state.now }
+    requires all_known { AllKnown (variables_of state.now) (sorted (catalogue_of catalogue.now) range) }
+    ensures { Writes writer.old writer.new (part_text (variables_of state.now) (sorted (catalogue_of catalogue.now) range)) }
 {
-    chosen_literals(writer, catalogue, s, l, n, range, Choice::Favoured);
-    chosen_literals(writer, catalogue, s, l, n, range, Choice::Others);
+    chosen_literals(writer, catalogue, state, range, Choice::Favoured);
+    chosen_literals(writer, catalogue, state, range, Choice::Others);
 }
 
 // The literals of a range, copied if they stand in the listing already; where they stand is kept.
@@ -102,24 +88,21 @@ fn shared_range(
     writer: &mut Writer,
     spans: &mut Spans,
     catalogue: &Catalogue,
-    s: &[u8],
-    l: Limits,
-    n: Counters,
+    state: &State,
     range: u16,
 )
-    requires fits { Fits l (length s.now) }
-    requires mapped { Mapped l n.variables (held l s.now) }
-    requires all_known { AllKnown (variables n.variables (held l s.now)) (candidates (catalogue_of catalogue.now) (goal_of (Requirement.Single range))) }
-    requires spans { Stand (catalogue_of catalogue.now) (variables n.variables (held l s.now)) spans.old writer.old }
-    ensures wrote { Writes writer.old writer.new (goal_text (catalogue_of catalogue.now) (variables n.variables (held l s.now)) (Requirement.Single range)) }
-    ensures spans_2 { Stand (catalogue_of catalogue.now) (variables n.variables (held l s.now)) spans.new writer.new }
+    requires mapped { IsMapped state.now }
+    requires all_known { AllKnown (variables_of state.now) (candidates (catalogue_of catalogue.now) (goal_of (Requirement.Single range))) }
+    requires spans { Stand (catalogue_of catalogue.now) (variables_of state.now) spans.old writer.old }
+    ensures wrote { Writes writer.old writer.new (goal_text (catalogue_of catalogue.now) (variables_of state.now) (Requirement.Single range)) }
+    ensures spans_2 { Stand (catalogue_of catalogue.now) (variables_of state.now) spans.new writer.new }
 {
     let goal = Requirement::Single(range);
     if spans.again(writer, goal) {
         return;
     }
     let begin = writer.at;
-    range_literals(writer, catalogue, s, l, n, range);
+    range_literals(writer, catalogue, state, range);
     spans.keep(goal, begin, writer);
 }
 
@@ -128,17 +111,14 @@ fn union_literals(
     writer: &mut Writer,
     spans: &mut Spans,
     catalogue: &Catalogue,
-    s: &[u8],
-    l: Limits,
-    n: Counters,
+    state: &State,
     union: u16,
 )
-    requires fits { Fits l (length s.now) }
-    requires mapped { Mapped l n.variables (held l s.now) }
-    requires all_known { AllKnown (variables n.variables (held l s.now)) (candidates (catalogue_of catalogue.now) (goal_of (Requirement.Union union))) }
-    requires spans { Stand (catalogue_of catalogue.now) (variables n.variables (held l s.now)) spans.old writer.old }
-    ensures wrote { Writes writer.old writer.new (goal_text (catalogue_of catalogue.now) (variables n.variables (held l s.now)) (Requirement.Union union)) }
-    ensures spans_2 { Stand (catalogue_of catalogue.now) (variables n.variables (held l s.now)) spans.new writer.new }
+    requires mapped { IsMapped state.now }
+    requires all_known { AllKnown (variables_of state.now) (candidates (catalogue_of catalogue.now) (goal_of (Requirement.Union union))) }
+    requires spans { Stand (catalogue_of catalogue.now) (variables_of state.now) spans.old writer.old }
+    ensures wrote { Writes writer.old writer.new (goal_text (catalogue_of catalogue.now) (variables_of state.now) (Requirement.Union union)) }
+    ensures spans_2 { Stand (catalogue_of catalogue.now) (variables_of state.now) spans.new writer.new }
 {
     if no_candidate(catalogue, Requirement::Union(union)) {
         return;
@@ -149,7 +129,7 @@ fn union_literals(
             return;
         }
         let member = catalogue.index.areas.as_members().at(i);
-        shared_range(writer, spans, catalogue, s, l, n, member.range);
+        shared_range(writer, spans, catalogue, state, member.range);
         i = catalogue.index.areas.as_members().next_of(union, i + 1);
     }
 }
@@ -159,24 +139,21 @@ fn shared_union(
     writer: &mut Writer,
     spans: &mut Spans,
     catalogue: &Catalogue,
-    s: &[u8],
-    l: Limits,
-    n: Counters,
+    state: &State,
     union: u16,
 )
-    requires fits { Fits l (length s.now) }
-    requires mapped { Mapped l n.variables (held l s.now) }
-    requires all_known { AllKnown (variables n.variables (held l s.now)) (candidates (catalogue_of catalogue.now) (goal_of (Requirement.Union union))) }
-    requires spans { Stand (catalogue_of catalogue.now) (variables n.variables (held l s.now)) spans.old writer.old }
-    ensures wrote { Writes writer.old writer.new (goal_text (catalogue_of catalogue.now) (variables n.variables (held l s.now)) (Requirement.Union union)) }
-    ensures spans_2 { Stand (catalogue_of catalogue.now) (variables n.variables (held l s.now)) spans.new writer.new }
+    requires mapped { IsMapped state.now }
+    requires all_known { AllKnown (variables_of state.now) (candidates (catalogue_of catalogue.now) (goal_of (Requirement.Union union))) }
+    requires spans { Stand (catalogue_of catalogue.now) (variables_of state.now) spans.old writer.old }
+    ensures wrote { Writes writer.old writer.new (goal_text (catalogue_of catalogue.now) (variables_of state.now) (Requirement.Union union)) }
+    ensures spans_2 { Stand (catalogue_of catalogue.now) (variables_of state.now) spans.new writer.new }
 {
     let goal = Requirement::Union(union);
     if spans.again(writer, goal) {
         return;
     }
     let begin = writer.at;
-    union_literals(writer, spans, catalogue, s, l, n, union);
+    union_literals(writer, spans, catalogue, state, union);
     spans.keep(goal, begin, writer);
 }
 
@@ -184,60 +161,47 @@ fn candidate_literals(
     writer: &mut Writer,
     spans: &mut Spans,
     catalogue: &Catalogue,
-    s: &[u8],
-    l: Limits,
-    n: Counters,
+    state: &State,
     goal: Requirement,
 )
-    requires fits { Fits l (length s.now) }
-    requires mapped { Mapped l n.variables (held l s.now) }
-    requires all_known { AllKnown (variables n.variables (held l s.now)) (candidates (catalogue_of catalogue.now) (goal_of goal)) }
-    requires spans { Stand (catalogue_of catalogue.now) (variables n.variables (held l s.now)) spans.old writer.old }
-    ensures wrote { Writes writer.old writer.new (goal_text (catalogue_of catalogue.now) (variables n.variables (held l s.now)) goal) }
-    ensures spans_2 { Stand (catalogue_of catalogue.now) (variables n.variables (held l s.now)) spans.new writer.new }
+    requires mapped { IsMapped state.now }
+    requires all_known { AllKnown (variables_of state.now) (candidates (catalogue_of catalogue.now) (goal_of goal)) }
+    requires spans { Stand (catalogue_of catalogue.now) (variables_of state.now) spans.old writer.old }
+    ensures wrote { Writes writer.old writer.new (goal_text (catalogue_of catalogue.now) (variables_of state.now) goal) }
+    ensures spans_2 { Stand (catalogue_of catalogue.now) (variables_of state.now) spans.new writer.new }
 {
     match goal {
-        Requirement::Single(range) => shared_range(writer, spans, catalogue, s, l, n, range),
-        Requirement::Union(union) => shared_union(writer, spans, catalogue, s, l, n, union),
+        Requirement::Single(range) => shared_range(writer, spans, catalogue, state, range),
+        Requirement::Union(union) => shared_union(writer, spans, catalogue, state, union),
     }
 }
 
 // The j-th condition literal from `start` on.
-fn condition_literal(writer: &mut Writer, s: &[u8], l: Limits, start: usize, j: usize)
-    requires fits { Fits l (length s.now) }
-    requires j_bound { start + j < l.literals }
-    ensures { Writes writer.old writer.new (literal_text ((held l s.now) 19) start j) }
+fn condition_literal(writer: &mut Writer, state: &State, start: usize, j: usize)
+    requires { start + j < state.now.limits.literals }
+    ensures { Writes writer.old writer.new (literal_text (regions_of state.now 19) start j) }
 {
-    let code = state::get(s, l, Region::Literals, start + j);
+    let code = state::get(state.area, state.limits, Region::Literals, start + j);
     let literal = Literal { code };
     writer.field_literal(literal.variable() as usize, literal.positive());
 }
 
-fn condition_literals(writer: &mut Writer, s: &[u8], l: Limits, start: usize, count: usize)
-    requires fits { Fits l (length s.now) }
-    requires count_bound { start + count ≤ l.literals }
-    ensures { Writes writer.old writer.new (fields (map signed (literals_in ((held l s.now) 19) start count))) }
+fn condition_literals(writer: &mut Writer, state: &State, start: usize, count: usize)
+    requires { start + count ≤ state.now.limits.literals }
+    ensures { Writes writer.old writer.new (fields (map signed (literals_in (regions_of state.now 19) start count))) }
 {
     for j in 0..count {
-        condition_literal(writer, s, l, start, j);
+        condition_literal(writer, state, start, j);
     }
 }
 
 // The word, the literal of the owner, and the condition literals.
-fn conditional_head(
-    writer: &mut Writer,
-    s: &[u8],
-    l: Limits,
-    owner: u16,
-    start: usize,
-    count: usize,
-)
-    requires fits { Fits l (length s.now) }
-    requires count_bound { start + count ≤ l.literals }
-    ensures { Writes writer.old writer.new (fields (ascii "requires" ∷ signed (literal_of owner false) ∷ map signed (literals_in ((held l s.now) 19) start count))) }
+fn conditional_head(writer: &mut Writer, state: &State, owner: u16, start: usize, count: usize)
+    requires { start + count ≤ state.now.limits.literals }
+    ensures { Writes writer.old writer.new (fields (ascii "requires" ∷ signed (literal_of owner false) ∷ map signed (literals_in (regions_of state.now 19) start count))) }
 {
     line_fields::requires_head(writer, owner);
-    condition_literals(writer, s, l, start, count);
+    condition_literals(writer, state, start, count);
 }
 
 // The fields of a stored clause.
@@ -245,18 +209,15 @@ fn clause_fields(
     writer: &mut Writer,
     spans: &mut Spans,
     catalogue: &Catalogue,
-    s: &[u8],
-    l: Limits,
-    n: Counters,
+    state: &State,
     row: Stored,
 )
-    requires fits { Fits l (length s.now) }
-    requires mapped { Mapped l n.variables (held l s.now) }
-    requires sound { Sound (catalogue_of catalogue.now) (variables n.variables (held l s.now)) n.literals (row_of row) }
-    requires literals_le_literals { n.literals ≤ l.literals }
-    requires spans { Stand (catalogue_of catalogue.now) (variables n.variables (held l s.now)) spans.old writer.old }
-    ensures wrote { Writes writer.old writer.new (fields (clause_fields (catalogue_of catalogue.now) (clause_in (catalogue_of catalogue.now) (variables n.variables (held l s.now)) ((held l s.now) 19) (row_of row)))) }
-    ensures spans_2 { Stand (catalogue_of catalogue.now) (variables n.variables (held l s.now)) spans.new writer.new }
+    requires mapped { IsMapped state.now }
+    requires sound { Sound (catalogue_of catalogue.now) (variables_of state.now) state.now.used.literals (row_of row) }
+    requires literals_le_literals { state.now.used.literals ≤ state.now.limits.literals }
+    requires spans { Stand (catalogue_of catalogue.now) (variables_of state.now) spans.old writer.old }
+    ensures wrote { Writes writer.old writer.new (fields (clause_fields (catalogue_of catalogue.now) (clause_in (catalogue_of catalogue.now) (variables_of state.now) (regions_of state.now 19) (row_of row)))) }
+    ensures spans_2 { Stand (catalogue_of catalogue.now) (variables_of state.now) spans.new writer.new }
 {
     match row.clause() {
         Clause::Install => {
@@ -269,12 +230,12 @@ fn clause_fields(
             count,
             goal,
         } => {
-            conditional_head(writer, s, l, owner, start as usize, count as usize);
-            candidate_literals(writer, spans, catalogue, s, l, n, goal);
+            conditional_head(writer, state, owner, start as usize, count as usize);
+            candidate_literals(writer, spans, catalogue, state, goal);
         }
         Clause::Gated { gate, goal } => {
             line_fields::requires_head(writer, gate);
-            candidate_literals(writer, spans, catalogue, s, l, n, goal);
+            candidate_literals(writer, spans, catalogue, state, goal);
         }
         Clause::Excluded { variable, part } => {
             let reason = catalogue
@@ -330,68 +291,54 @@ fn row_fields(
     writer: &mut Writer,
     spans: &mut Spans,
     catalogue: &Catalogue,
-    s: &[u8],
-    l: Limits,
-    n: Counters,
+    state: &State,
     clauses: &[u8],
     i: usize,
 )
-    requires fits { Fits l (length s.now) }
-    requires mapped { Mapped l n.variables (held l s.now) }
-    requires good_rows { GoodRows (catalogue_of catalogue.now) l n (held l s.now) clauses.now }
-    requires i_lt_clauses { i < n.clauses }
-    requires spans { Stand (catalogue_of catalogue.now) (variables n.variables (held l s.now)) spans.old writer.old }
-    ensures wrote { Writes writer.old writer.new (fields (clause_fields (catalogue_of catalogue.now) (get_or (clauses_of (catalogue_of catalogue.now) n (held l s.now) clauses.now) i install))) }
-    ensures spans_2 { Stand (catalogue_of catalogue.now) (variables n.variables (held l s.now)) spans.new writer.new }
+    requires mapped { IsMapped state.now }
+    requires good_rows { HasGoodRows (catalogue_of catalogue.now) state.now clauses.now }
+    requires i_lt_clauses { i < state.now.used.clauses }
+    requires spans { Stand (catalogue_of catalogue.now) (variables_of state.now) spans.old writer.old }
+    ensures wrote { Writes writer.old writer.new (fields (clause_fields (catalogue_of catalogue.now) (get_or (clauses_stored (catalogue_of catalogue.now) state.now clauses.now) i install))) }
+    ensures spans_2 { Stand (catalogue_of catalogue.now) (variables_of state.now) spans.new writer.new }
 {
-    let row = solver::row_at(clauses, n.clauses, i);
-    clause_fields(writer, spans, catalogue, s, l, n, row);
+    let row = solver::row_at(clauses, state.used.clauses, i);
+    clause_fields(writer, spans, catalogue, state, row);
 }
 
 fn clause_line(
     writer: &mut Writer,
     spans: &mut Spans,
     catalogue: &Catalogue,
-    s: &[u8],
-    l: Limits,
-    n: Counters,
+    state: &State,
     clauses: &[u8],
     i: usize,
 )
-    requires fits { Fits l (length s.now) }
-    requires mapped { Mapped l n.variables (held l s.now) }
-    requires good_rows { GoodRows (catalogue_of catalogue.now) l n (held l s.now) clauses.now }
-    requires i_lt_clauses { i < n.clauses }
-    requires spans { Stand (catalogue_of catalogue.now) (variables n.variables (held l s.now)) spans.old writer.old }
-    ensures wrote { Writes writer.old writer.new (clause_text (catalogue_of catalogue.now) (clauses_of (catalogue_of catalogue.now) n (held l s.now) clauses.now) i) }
-    ensures spans_2 { Stand (catalogue_of catalogue.now) (variables n.variables (held l s.now)) spans.new writer.new }
+    requires mapped { IsMapped state.now }
+    requires good_rows { HasGoodRows (catalogue_of catalogue.now) state.now clauses.now }
+    requires i_lt_clauses { i < state.now.used.clauses }
+    requires spans { Stand (catalogue_of catalogue.now) (variables_of state.now) spans.old writer.old }
+    ensures wrote { Writes writer.old writer.new (clause_text (catalogue_of catalogue.now) (clauses_stored (catalogue_of catalogue.now) state.now clauses.now) i) }
+    ensures spans_2 { Stand (catalogue_of catalogue.now) (variables_of state.now) spans.new writer.new }
 {
     writer.put(b'c');
     writer.field_number(i);
-    row_fields(writer, spans, catalogue, s, l, n, clauses, i);
+    row_fields(writer, spans, catalogue, state, clauses, i);
     writer.line_feed();
 }
 
 // A line for each clause; at first no literals stand anywhere.
-pub fn clause_lines(
-    writer: &mut Writer,
-    catalogue: &Catalogue,
-    s: &[u8],
-    l: Limits,
-    n: Counters,
-    clauses: &[u8],
-)
-    requires fits { Fits l (length s.now) }
-    requires mapped { Mapped l n.variables (held l s.now) }
-    requires good_rows { GoodRows (catalogue_of catalogue.now) l n (held l s.now) clauses.now }
-    ensures { Writes writer.old writer.new (texts (clause_text (catalogue_of catalogue.now) (clauses_of (catalogue_of catalogue.now) n (held l s.now) clauses.now)) n.clauses) }
+pub fn clause_lines(writer: &mut Writer, catalogue: &Catalogue, state: &State, clauses: &[u8])
+    requires mapped { IsMapped state.now }
+    requires good_rows { HasGoodRows (catalogue_of catalogue.now) state.now clauses.now }
+    ensures { Writes writer.old writer.new (texts (clause_text (catalogue_of catalogue.now) (clauses_stored (catalogue_of catalogue.now) state.now clauses.now)) state.now.used.clauses) }
 {
     let mut spans = Spans::new();
-    for i in 0..n.clauses {
+    for i in 0..state.used.clauses {
         if writer.is_over() {
             return;
         }
-        clause_line(writer, &mut spans, catalogue, s, l, n, clauses, i);
+        clause_line(writer, &mut spans, catalogue, state, clauses, i);
     }
 }
 
@@ -430,36 +377,25 @@ fn asserted(catalogue: &Catalogue, clause: Clause) -> Option<u16>
 fn assertion_line(
     writer: &mut Writer,
     catalogue: &Catalogue,
-    s: &[u8],
-    l: Limits,
-    n: Counters,
+    state: &State,
     clauses: &[u8],
     i: usize,
 )
-    requires fits { Fits l (length s.now) }
-    requires good_rows { GoodRows (catalogue_of catalogue.now) l n (held l s.now) clauses.now }
-    requires i_lt_clauses { i < n.clauses }
-    ensures { Writes writer.old writer.new (assertion_text (clauses_of (catalogue_of catalogue.now) n (held l s.now) clauses.now) i) }
+    requires good_rows { HasGoodRows (catalogue_of catalogue.now) state.now clauses.now }
+    requires i_lt_clauses { i < state.now.used.clauses }
+    ensures { Writes writer.old writer.new (assertion_text (clauses_stored (catalogue_of catalogue.now) state.now clauses.now) i) }
 {
-    let row = solver::row_at(clauses, n.clauses, i);
+    let row = solver::row_at(clauses, state.used.clauses, i);
     if let Some(variable) = asserted(catalogue, row.clause()) {
         state_lines::pair_line(writer, b'n', variable as usize, i);
     }
 }
 
-pub fn assertion_lines(
-    writer: &mut Writer,
-    catalogue: &Catalogue,
-    s: &[u8],
-    l: Limits,
-    n: Counters,
-    clauses: &[u8],
-)
-    requires fits { Fits l (length s.now) }
-    requires good_rows { GoodRows (catalogue_of catalogue.now) l n (held l s.now) clauses.now }
-    ensures { Writes writer.old writer.new (texts (assertion_text (clauses_of (catalogue_of catalogue.now) n (held l s.now) clauses.now)) n.clauses) }
+pub fn assertion_lines(writer: &mut Writer, catalogue: &Catalogue, state: &State, clauses: &[u8])
+    requires { HasGoodRows (catalogue_of catalogue.now) state.now clauses.now }
+    ensures { Writes writer.old writer.new (texts (assertion_text (clauses_stored (catalogue_of catalogue.now) state.now clauses.now)) state.now.used.clauses) }
 {
-    for i in 0..n.clauses {
-        assertion_line(writer, catalogue, s, l, n, clauses, i);
+    for i in 0..state.used.clauses {
+        assertion_line(writer, catalogue, state, clauses, i);
     }
 }

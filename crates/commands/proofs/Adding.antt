@@ -1,5 +1,5 @@
 -- An owner is added, unless it is already.
-use mathlib.Core.Path.{◌≡◌, refl, sym}
+use mathlib.Core.Path.{◌≡◌, refl}
 use mathlib.Core.Bool.{Bool, true, false, not, ◌&&◌}
 use mathlib.Core.List.{List}
 use Prim.Native.Nat.{ℕ, ◌<◌, ◌≤◌}
@@ -7,7 +7,7 @@ use native.Mathlib.Omega.{arith}
 use lib.Dec.{eqb, leb}
 use lib.ListN.{length}
 use borrow.Author.Tests.{ne_eqb, le-leb, lt-leb}
-use Rattle.std.specs.Prelude.{Result, Ok, Err}
+use Rattle.std.specs.Prelude.{Ok, Err}
 use Rattle.rules.specs.Lists.{any, snoc, unless}
 use Rattle.rules.specs.Catalogue.{Catalogue, root, part}
 use Rattle.rules.specs.Records.{Command}
@@ -15,10 +15,8 @@ use Rattle.rules.specs.Refusals.{ok, refuse, unless_any}
 use Rattle.rules.specs.Items as items
 use Rattle.rules.specs.Items.{given, absent, owner_absent}
 use Rattle.rules.specs.Opening.{Opening, set_added, add}
-use Rattle.rules.specs.State.{State}
+use Rattle.rules.specs.State as rules
 use Rattle.rules.specs.Sheet.{command_refusals, carried_out, carry_out}
-use Rattle.rules.proofs.Member.{not_one}
-use Rattle.refusal.specs.declared.Refusal.{Refusal}
 use Rattle.refusal.specs.declared.Refusal.TheVariants.{Missing}
 use Rattle.refusal.specs.declared.Thing.TheVariants.{Part}
 use Rattle.refusal.specs.Refusing.{thing_of, refusal_of}
@@ -32,11 +30,13 @@ use Rattle.marked.specs.Marked.{is_marked, owner_of, Marked, Free, Pushed}
 use Rattle.marked.proofs.Laws.{free_after, mark_room, marked_same}
 use Rattle.marked.proofs.Owners.{root_is, part_is, owners_snoc, owner_after}
 use Rattle.encoder.specs.declared.Counters.{Counters}
+use Rattle.encoder.specs.declared.State.{State}
 use Rattle.encoder.specs.Held.{Reading, opening_of, state_of, Good}
 use Rattle.encoder.specs.Did.{on_opening}
+use Rattle.encoder.specs.Does.{regions_of}
 use Rattle.state.specs.Limits.{limits_of}
 use Rattle.encoder.proofs.Frames.{good_kept, list_kept, line_kept}
-use Rattle.commands.specs.Commands.{ChangesOf, Changes, with_added, AddsOwner, PartOutcomes, Adds}
+use Rattle.commands.specs.Commands.{ChangesOf, Changes, with_added, AddsOwner, Adds}
 use Rattle.commands.proofs.Outcomes.{unchanged, changes_as, outcome_carried, outcome_refused}
 
 pub added_free : (l : Limits) (b : List ℕ) (n o : ℕ) (f : Bool) → Fits l (length b) → Marked 6 7 n (held l b) → o < 1025 → f ≡ is_marked 7 o (held l b)
@@ -70,20 +70,16 @@ module _ (l : Limits) (n : Counters) where
         idle : (c : Catalogue) (cl wt : List ℕ) (v : Reading) → state_of c l v n st cl wt ≡ on_opening (add (owner_of o)) (state_of c l v n st cl wt)
         idle c cl wt v = unfold on_opening add state_of opening_of unless in rw (← owner_after o b m e, t)
 
-    new_owner : b ≡ false → {count : ℕ} {st' : ℕ → List ℕ} → Pushed 6 7 n.added o st count st' → Changes l (on_opening (add (owner_of o))) n st (with_added count n) st'
+    pub new_owner : b ≡ false → {count : ℕ} {st' : ℕ → List ℕ} → Pushed 6 7 n.added o st count st' → Changes l (on_opening (add (owner_of o))) n st (with_added count n) st'
     new_owner t p = record { is = λ c cl wt. changes_as (added_changes p c cl wt) (new c cl wt) }
       where
         new : (c : Catalogue) (cl wt : List ℕ) (v : Reading)
             → on_opening (add_owner o) (state_of c l v n st cl wt) ≡ on_opening (add (owner_of o)) (state_of c l v n st cl wt)
         new c cl wt v = unfold on_opening add_owner add state_of opening_of unless in rw (← owner_after o b m e, t)
 
--- of whatever counters have this number
-module _ (l : Limits) (o : ℕ) {k : ℕ} {b : Bool} {st : ℕ → List ℕ} (m : Marked 6 7 k st) (e : b ≡ is_marked 7 o st) where
-  pub add_again : b ≡ true → AddsOwner l (owner_of o) k st k st
-  add_again t = record { changes = λ n z. let same : with_added k n ≡ n = rw (← z) in rw same (again l n o (rw z m) e t) }
-
-  pub add_new : b ≡ false → {count : ℕ} {st' : ℕ → List ℕ} → Pushed 6 7 k o st count st' → AddsOwner l (owner_of o) k st count st'
-  add_new t p = record { changes = λ n z. new_owner l n o (rw z m) e t (rw z p) }
+-- it was added before
+pub add_again : (o : ℕ) {x : State} {b : Bool} → Marked 6 7 x.used.added (regions_of x) → b ≡ is_marked 7 o (regions_of x) → b ≡ true → AddsOwner (owner_of o) x x
+add_again o {x} m e t = record { changes = record { limits = refl; area = refl; changes = again x.limits x.used o m e t }; counters = refl }
 
 -- ---- the command
 
@@ -92,7 +88,7 @@ unfolding items.owner_of
 not_root owner p e z = let root_too : part p ≡ root = rw z at e in cc
 
 -- by the definitions, if the owner is there
-carried : (l : Limits) (c : Catalogue) (o owner : ℕ) (s : State) → owner_absent c owner ≡ false → owner_of o ≡ items.owner_of owner
+carried : (l : Limits) (c : Catalogue) (o owner : ℕ) (s : rules.State) → owner_absent c owner ≡ false → owner_of o ≡ items.owner_of owner
     → carry_out (limits_of l) c (Command.add owner) s ≡ ok (on_opening (add (owner_of o)) s)
 unfolding carry_out command_refusals carried_out unless_any on_opening
 carried l c o owner s a e = rw (a, e)
@@ -109,57 +105,29 @@ missing_part : (c : Catalogue) (owner : ℕ) → (owner ≡ 65535 → ⊥) → l
 unfolding owner_absent absent given
 missing_part c owner n h = rw (ne_eqb owner 65535 n, le-leb (length c.parts) owner h)
 
-module _ {l : Limits} {n : Counters} {st : ℕ → List ℕ} (parts owner : ℕ) where
-  root_added : {m : Counters} {st' : ℕ → List ℕ} → owner ≡ 65535 → Changes l (on_opening (add (owner_of 1024))) n st m st' → PartOutcomes parts l (Command.add owner) n st (Ok m) st'
-  root_added e h =
-      record { is = λ c _. outcome_carried h (λ cl wt v. carried l c 1024 owner _ (unfold owner_absent in rw e) (unfold items.owner_of in rw e root_is)) }
+module _ {parts owner : ℕ} where
+  pub add_root : {x x' : State} → OwnerOf owner owners.Root → AddsOwner (owner_of 1024) x x' → Adds parts (Command.add owner) x (Ok tt) x'
+  add_root e h =
+      record {
+        outcomes = record { is = λ c _. outcome_carried h.changes (λ cl wt v. carried _ c 1024 owner _ (unfold owner_absent in rw (← e.number)) (unfold items.owner_of in rw (← e.number) root_is)) };
+        counters = h.counters;
+      }
 
-  part_added : {m : Counters} {st' : ℕ → List ℕ} → parts ≤ 1024 → owner < parts → Changes l (on_opening (add (owner_of owner))) n st m st'
-      → PartOutcomes parts l (Command.add owner) n st (Ok m) st'
-  part_added a b h =
-      record { is = λ c e. outcome_carried h (λ cl wt v. carried l c owner owner _ (present c owner (rw e b)) (part_owner (omega arith))) }
+  pub add_part : {p : ℕ} {x x' : State} → OwnerOf owner (owners.Part p) → parts ≤ 1024 → p < parts → AddsOwner (owner_of p) x x' → Adds parts (Command.add owner) x (Ok tt) x'
+  add_part {p} e a b h =
+      let same : p ≡ owner = e.number in
+      record { outcomes = record { is = λ c i. outcome_carried (rw same at h).changes (λ cl wt v. carried _ c owner owner _ (present c owner (rw (i, ← same) b)) (part_owner (omega (arith, same)))) }; counters = h.counters }
     where
       part_owner : owner < 1024 → owner_of owner ≡ items.owner_of owner
       part_owner d = unfold items.owner_of in rw (ne_eqb owner 65535 (λ q. omega arith)) (part_is owner d)
 
-  none_added_law : (owner ≡ 65535 → ⊥) → parts ≤ owner → PartOutcomes parts l (Command.add owner) n st (Err (Missing Part 1)) st
-  none_added_law q h =
-      record { is = λ c e. outcome_refused (λ cl wt v. refused c (missing_part c owner q (rw e h)) (state_of c l v n st cl wt)) }
-    where
-      refused : (c : Catalogue) → owner_absent c owner ≡ true → (s : State) → carry_out (limits_of l) c (Command.add owner) s ≡ refuse (refusal_of (Missing Part 1))
-      refused c a s = unfold carry_out command_refusals unless_any refusal_of thing_of in rw a
-
-module _ {l : Limits} {k : ℕ} {st : ℕ → List ℕ} (parts owner : ℕ) where
-  to_count : {d : ℕ} {st' : ℕ → List ℕ} → ((n : Counters) → n.added ≡ k → PartOutcomes parts l (Command.add owner) n st (Ok (with_added d n)) st')
-      → Adds parts l (Command.add owner) k st (Ok d) st'
-  to_count {d} h =
-      record {
-        to = λ d' q. let p : d' ≡ d = cc in rw p h;
-        refused = λ f q. absurd (not_one (cc));
-        same = λ f q. absurd (not_one (cc));
-      }
-
-  pub add_root : {d : ℕ} {st' : ℕ → List ℕ} → OwnerOf owner owners.Root → AddsOwner l (owner_of 1024) k st d st' → Adds parts l (Command.add owner) k st (Ok d) st'
-  add_root e h = to_count (λ n z. root_added parts owner (sym e.number) (h.changes n z))
-
-  pub add_part : {p d : ℕ} {st' : ℕ → List ℕ} → OwnerOf owner (owners.Part p) → parts ≤ 1024 → p < parts → AddsOwner l (owner_of p) k st d st'
-      → Adds parts l (Command.add owner) k st (Ok d) st'
-  add_part {p} e a b h = let same : p ≡ owner = e.number in to_count (λ n z. part_added parts owner a (rw same at b) ((rw same at h).changes n z))
-
-  pub add_missing : {p : ℕ} → OwnerOf owner (owners.Part p) → parts ≤ p → Adds parts l (Command.add owner) k st (Err (Missing Part 1)) st
+  pub add_missing : {p : ℕ} {x : State} → OwnerOf owner (owners.Part p) → parts ≤ p → Adds parts (Command.add owner) x (Err (Missing Part 1)) x
   add_missing {p} e h =
       let same : p ≡ owner = e.number in
-      let past : parts ≤ owner = rw same at h in
       record {
-        to = λ d q. absurd (not_one (cc));
-        refused = λ f q n z. let i : f ≡ Missing Part 1 = cc in rw i (none_added_law parts owner (not_root owner p e.is) past);
-        same = λ f q. refl;
+        outcomes = record { is = λ c i. outcome_refused (λ cl wt v. refused _ c (missing_part c owner (not_root owner p e.is) (rw (i, ← same) h)) _) };
+        counters = refl;
       }
-
--- of counters that have it
-module _ {parts : ℕ} {l : Limits} {o : Command} (n : Counters) {st st' : ℕ → List ℕ} {r : Result ℕ Refusal} (h : Adds parts l o n.added st r st') where
-  pub added_to : {d : ℕ} → r ≡ Ok d → PartOutcomes parts l o n st (Ok (with_added d n)) st'
-  added_to q = h.to _ q n refl
-
-  pub added_refused : {f : Refusal} → r ≡ Err f → PartOutcomes parts l o n st (Err f) st'
-  added_refused q = h.refused _ q n refl
+    where
+      refused : (l : Limits) (c : Catalogue) → owner_absent c owner ≡ true → (s : rules.State) → carry_out (limits_of l) c (Command.add owner) s ≡ refuse (refusal_of (Missing Part 1))
+      refused l c a s = unfold carry_out command_refusals unless_any refusal_of thing_of in rw a

@@ -6,7 +6,7 @@ use Rattle.std.specs.Prelude.{Result, Ok, Err}
 use Rattle.rules.specs.Catalogue.{Catalogue}
 use Rattle.rules.specs.Refusals.{ok, refuse}
 use Rattle.rules.specs.Records.{Command}
-use Rattle.rules.specs.State.{State}
+use Rattle.rules.specs.State as rules
 use Rattle.rules.specs.Sheet.{carry_out}
 use Rattle.rules.proofs.Member.{not_one}
 use Rattle.refusal.specs.declared.Refusal.{Refusal}
@@ -16,9 +16,11 @@ use Rattle.tables.specs.declared.Counts.{Counts}
 use Rattle.cache.specs.Areas.{catalogue}
 use Rattle.cache.proofs.Laws.{parts_held}
 use Rattle.encoder.specs.declared.Counters.{Counters}
+use Rattle.encoder.specs.declared.State.{State}
 use Rattle.encoder.specs.Held.{Reading, state_of}
+use Rattle.encoder.specs.Does.{regions_of}
 use Rattle.state.specs.Limits.{limits_of}
-use Rattle.commands.specs.Commands.{ChangesOf, Changes, CarriedOut, Outcomes, PartOutcomes}
+use Rattle.commands.specs.Commands.{ChangesOf, StateChanges, CarriedOut, Outcomes, PartOutcomes}
 
 -- ---- changes
 
@@ -27,35 +29,43 @@ pub unchanged : {c : Catalogue} {l : Limits} {n : Counters} {st : ℕ → List �
 unchanged = record { good = λ g. g; hand = λ h. h; full = refl; runs = refl; is = λ v. refl }
 
 -- the same by another name
-pub changes_as : {c : Catalogue} {l : Limits} {F G : State → State} {n n' : Counters} {st st' : ℕ → List ℕ} {cl wt : List ℕ} → ChangesOf c l F n st cl wt n' st'
+pub changes_as : {c : Catalogue} {l : Limits} {F G : rules.State → rules.State} {n n' : Counters} {st st' : ℕ → List ℕ} {cl wt : List ℕ} → ChangesOf c l F n st cl wt n' st'
     → ((v : Reading) → F (state_of c l v n st cl wt) ≡ G (state_of c l v n st cl wt)) → ChangesOf c l G n st cl wt n' st'
 changes_as h e = record { good = h.good; hand = h.hand; full = h.full; runs = h.runs; is = λ v. h.is v ∙ e v }
 
 -- ---- outcomes
 
-pub carried_out_law : {c : Catalogue} {l : Limits} {o : Command} {F : State → State} {n m : Counters} {st st' : ℕ → List ℕ} {cl wt : List ℕ} → ChangesOf c l F n st cl wt m st'
+pub carried_out_law : {c : Catalogue} {l : Limits} {o : Command} {F : rules.State → rules.State} {n m : Counters} {st st' : ℕ → List ℕ} {cl wt : List ℕ} → ChangesOf c l F n st cl wt m st'
     → ((v : Reading) → carry_out (limits_of l) c o (state_of c l v n st cl wt) ≡ ok (F (state_of c l v n st cl wt))) → CarriedOut c l o n st cl wt m st'
 carried_out_law h e = record { good = h.good; hand = h.hand; full = h.full; runs = h.runs; is = λ v. e v ∙ ap ok (sym (h.is v)) }
 
-module _ {c : Catalogue} {l : Limits} {o : Command} {n : Counters} {st st' : ℕ → List ℕ} where
-  pub outcome_carried : {F : State → State} {m : Counters} → Changes l F n st m st'
-      → ((cl wt : List ℕ) (v : Reading) → carry_out (limits_of l) c o (state_of c l v n st cl wt) ≡ ok (F (state_of c l v n st cl wt))) → Outcomes c l o n st (Ok m) st'
-  outcome_carried {F} {m} h p =
+module _ {c : Catalogue} {o : Command} {x : State} where
+  pub outcome_carried : {F : rules.State → rules.State} {x' : State} → StateChanges F x x'
+      → ((cl wt : List ℕ) (v : Reading) → carry_out (limits_of x.limits) c o (state_of c x.limits v x.used (regions_of x) cl wt) ≡ ok (F (state_of c x.limits v x.used (regions_of x) cl wt)))
+      → Outcomes c o x (Ok tt) x'
+  outcome_carried h p =
       record {
-        carried = λ m' e cl wt. let q : m' ≡ m = cc in rw q (carried_out_law (h.is c cl wt) (p cl wt));
+        limits = h.limits;
+        area = h.area;
+        carried = λ e cl wt. carried_out_law (h.changes.is c cl wt) (p cl wt);
         refused = λ f e. absurd (not_one (cc));
+        same = λ f e. absurd (not_one (cc));
       }
 
-  pub outcome_refused : {f : Refusal} → ((cl wt : List ℕ) (v : Reading) → carry_out (limits_of l) c o (state_of c l v n st cl wt) ≡ refuse (refusal_of f))
-      → Outcomes c l o n st (Err f) st'
+  pub outcome_refused : {f : Refusal}
+      → ((cl wt : List ℕ) (v : Reading) → carry_out (limits_of x.limits) c o (state_of c x.limits v x.used (regions_of x) cl wt) ≡ refuse (refusal_of f))
+      → Outcomes c o x (Err f) x
   outcome_refused {f} p =
       record {
-        carried = λ m e. absurd (not_one (cc));
+        limits = refl;
+        area = refl;
+        carried = λ e. absurd (not_one (cc));
         refused = λ g e cl wt v. let q : g ≡ f = cc in rw q (p cl wt v);
+        same = λ g e. refl;
       }
 
 -- ---- for callers: of the catalogue that the areas hold
 
-pub part_outcome : (k : Counts) (m u t : List ℕ) {l : Limits} {o : Command} {n : Counters} {st st' : ℕ → List ℕ} {r : Result Counters Refusal}
-    → PartOutcomes k.parts l o n st r st' → Outcomes (catalogue k m u t) l o n st r st'
+pub part_outcome : (k : Counts) (m u t : List ℕ) {o : Command} {x x' : State} {r : Result (Unit {0}) Refusal}
+    → PartOutcomes k.parts o x r x' → Outcomes (catalogue k m u t) o x r x'
 part_outcome k m u t h = h.is (catalogue k m u t) (parts_held k m u t)

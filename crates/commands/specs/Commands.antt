@@ -9,23 +9,26 @@ use Rattle.rules.specs.Refusals.{ok, refuse}
 use Rattle.rules.specs.Records.{Command}
 use Rattle.rules.specs.Decisions.{evaluate, is_falsified, is_undecided}
 use Rattle.rules.specs.Opening as opening
-use Rattle.rules.specs.State.{State, set_decisions, decided_true}
+use Rattle.rules.specs.State as rules
+use Rattle.rules.specs.State.{set_decisions, decided_true}
 use Rattle.rules.specs.Sheet.{carry_out}
 use Rattle.rules.proofs.Each.{Each}
 use Rattle.refusal.specs.declared.Refusal.{Refusal}
 use Rattle.refusal.specs.declared.Refusal.TheVariants.{DecidedAgainst}
 use Rattle.refusal.specs.Refusing.{refusal_of}
 use Rattle.state.specs.declared.Limits.{Limits}
-use Rattle.decision_tracker.specs.Tracking.{decisions}
+use Rattle.state.specs.Layout.{held}
 use Rattle.marked.specs.Marked.{Marked}
 use Rattle.encoder.specs.declared.Counters.{Counters}
+use Rattle.encoder.specs.declared.State.{State}
 use Rattle.encoder.specs.Held.{Reading, state_of, Good}
 use Rattle.encoder.specs.Did.{on_opening, is_full}
+use Rattle.encoder.specs.Does.{regions_of, decisions_of}
 use Rattle.state.specs.Limits.{limits_of}
 use Rattle.encoder.proofs.Counted.{with_decisions}
 
 -- between two records the state area changed from st to st', and the state by F
-pub record ChangesOf (c : Catalogue) (l : Limits) (F : State → State) (n : Counters) (st : ℕ → List ℕ) (cl wt : List ℕ) (n' : Counters) (st' : ℕ → List ℕ) : Type 0 where
+pub record ChangesOf (c : Catalogue) (l : Limits) (F : rules.State → rules.State) (n : Counters) (st : ℕ → List ℕ) (cl wt : List ℕ) (n' : Counters) (st' : ℕ → List ℕ) : Type 0 where
   pub good : Good c l n st cl wt → Good c l n' st' cl wt
   pub hand : Marked 14 15 0 st → Marked 14 15 0 st'
   pub full : is_full n' ≡ is_full n
@@ -33,8 +36,14 @@ pub record ChangesOf (c : Catalogue) (l : Limits) (F : State → State) (n : Cou
   pub is : (v : Reading) → state_of c l v n' st' cl wt ≡ F (state_of c l v n st cl wt)
 
 -- whatever the catalogue and the other areas
-pub record Changes (l : Limits) (F : State → State) (n : Counters) (st : ℕ → List ℕ) (n' : Counters) (st' : ℕ → List ℕ) : Type 0 where
+pub record Changes (l : Limits) (F : rules.State → rules.State) (n : Counters) (st : ℕ → List ℕ) (n' : Counters) (st' : ℕ → List ℕ) : Type 0 where
   pub is : (c : Catalogue) (cl wt : List ℕ) → ChangesOf c l F n st cl wt n' st'
+
+-- of the encoder's state, in the same area and within the same limits
+pub record StateChanges (F : rules.State → rules.State) (x x' : State) : Type 0 where
+  pub limits : x'.limits ≡ x.limits
+  pub area : x'.area.ghost_name ≡ x.area.ghost_name
+  pub changes : Changes x.limits F x.used (regions_of x) x'.used (held x.limits x'.area.now)
 
 -- ---- an added owner
 
@@ -60,9 +69,10 @@ with_added x n =
       full = n.full;
     }
 
--- owner o is added where there were k, and there are k'; no other counter changes
-pub record AddsOwner (l : Limits) (o : Owner) (k : ℕ) (st : ℕ → List ℕ) (k' : ℕ) (st' : ℕ → List ℕ) : Type 0 where
-  pub changes : (n : Counters) → n.added ≡ k → Changes l (on_opening (opening.add o)) n st (with_added k' n) st'
+-- owner o is added; no other counter changes
+pub record AddsOwner (o : Owner) (x x' : State) : Type 0 where
+  pub changes : StateChanges (on_opening (opening.add o)) x x'
+  pub counters : x'.used ≡ with_added x'.used.added x.used
 
 -- ---- a draw
 
@@ -86,18 +96,30 @@ pub record Draws (c : Catalogue) (l : Limits) (k : ℕ) (n : Counters) (st : ℕ
   pub is : (cl : List ℕ) (v : Reading)
       → state_of c l v n' st cl wt' ≡ on_opening (opening.draw c (decided_true (state_of c l v n st cl wt)) k) (state_of c l v n st cl wt)
 
+-- the same of the encoder's state, whose area stays as it is
+pub record DrawDoes (c : Catalogue) (k : ℕ) (x : State) (wt : List ℕ) (x' : State) (wt' : List ℕ) : Type 0 where
+  pub limits : x'.limits ≡ x.limits
+  pub area : x'.area.ghost_name ≡ x.area.ghost_name
+  pub bytes : x'.area.now ≡ x.area.now
+  pub draws : Draws c x.limits k x.used (regions_of x) wt x'.used wt'
+
+-- ---- a decision
+
 -- a literal is decided true at this level, unless it is decided
-unfoldable pub decided_to : Literal → ℕ → State → State
+unfoldable pub decided_to : Literal → ℕ → rules.State → rules.State
 decided_to x level s =
     when (is_undecided (evaluate s.decisions x))
-    (λ (u : State). set_decisions (snoc u.decisions (record { variable = x.variable; value = x.positive; level = level; clause = none })) u) s
+    (λ (u : rules.State). set_decisions (snoc u.decisions (record { variable = x.variable; value = x.positive; level = level; clause = none })) u) s
 
--- the same, where there are k decisions, or refused where it is decided false; no other counter changes
-pub record DecidesLiteral (l : Limits) (x : Literal) (level k : ℕ) (st : ℕ → List ℕ) (r : Result ℕ Refusal) (st' : ℕ → List ℕ) : Type 0 where
-  pub to : (d : ℕ) → r ≡ Ok d → is_falsified (evaluate (decisions k st) x) ≡ false
-  pub changes : (d : ℕ) → r ≡ Ok d → (n : Counters) → n.decisions ≡ k → Changes l (decided_to x level) n st (with_decisions d n) st'
-  pub refused : (f : Refusal) → r ≡ Err f → (f ≡ DecidedAgainst) × (is_falsified (evaluate (decisions k st) x) ≡ true)
-  pub same : (f : Refusal) → r ≡ Err f → st' ≡ st
+-- the same, or refused where it is decided false, and then nothing changes; no other counter does
+pub record DecidesLiteral (y : Literal) (level : ℕ) (x : State) (r : Result (Unit {0}) Refusal) (x' : State) : Type 0 where
+  pub to : r ≡ Ok tt → is_falsified (evaluate (decisions_of x) y) ≡ false
+  pub changes : r ≡ Ok tt → StateChanges (decided_to y level) x x'
+  pub refused : (f : Refusal) → r ≡ Err f → (f ≡ DecidedAgainst) × (is_falsified (evaluate (decisions_of x) y) ≡ true)
+  pub same : (f : Refusal) → r ≡ Err f → x' ≡ x
+  pub counters : x'.used ≡ with_decisions x'.used.decisions x.used
+
+-- ---- a command
 
 -- carried out
 pub record CarriedOut (c : Catalogue) (l : Limits) (o : Command) (n : Counters) (st : ℕ → List ℕ) (cl wt : List ℕ) (m : Counters) (st' : ℕ → List ℕ) : Type 0 where
@@ -107,28 +129,29 @@ pub record CarriedOut (c : Catalogue) (l : Limits) (o : Command) (n : Counters) 
   pub runs : m.runs ≡ n.runs
   pub is : (v : Reading) → carry_out (limits_of l) c o (state_of c l v n st cl wt) ≡ ok (state_of c l v m st' cl wt)
 
--- the command, of the state area alone: carried out as the definition says, or refused with its refusal
-pub record Outcomes (c : Catalogue) (l : Limits) (o : Command) (n : Counters) (st : ℕ → List ℕ) (r : Result Counters Refusal) (st' : ℕ → List ℕ) : Type 0 where
-  pub carried : (m : Counters) → r ≡ Ok m → (cl wt : List ℕ) → CarriedOut c l o n st cl wt m st'
+-- the command, of the state alone: carried out as the definition says, or refused with its refusal, and then nothing changes
+pub record Outcomes (c : Catalogue) (o : Command) (x : State) (r : Result (Unit {0}) Refusal) (x' : State) : Type 0 where
+  pub limits : x'.limits ≡ x.limits
+  pub area : x'.area.ghost_name ≡ x.area.ghost_name
+  pub carried : r ≡ Ok tt → (cl wt : List ℕ) → CarriedOut c x.limits o x.used (regions_of x) cl wt x'.used (held x.limits x'.area.now)
   pub refused : (f : Refusal) → r ≡ Err f → (cl wt : List ℕ) (v : Reading)
-      → carry_out (limits_of l) c o (state_of c l v n st cl wt) ≡ refuse (refusal_of f)
+      → carry_out (limits_of x.limits) c o (state_of c x.limits v x.used (regions_of x) cl wt) ≡ refuse (refusal_of f)
+  pub same : (f : Refusal) → r ≡ Err f → x' ≡ x
 
 -- the same of one that does not read the catalogue
-pub record PlainOutcomes (l : Limits) (o : Command) (n : Counters) (st : ℕ → List ℕ) (r : Result Counters Refusal) (st' : ℕ → List ℕ) : Type 0 where
-  pub is : (c : Catalogue) → Outcomes c l o n st r st'
+pub record PlainOutcomes (o : Command) (x : State) (r : Result (Unit {0}) Refusal) (x' : State) : Type 0 where
+  pub is : (c : Catalogue) → Outcomes c o x r x'
 
 -- of one that reads only how many parts it has
-pub record PartOutcomes (parts : ℕ) (l : Limits) (o : Command) (n : Counters) (st : ℕ → List ℕ) (r : Result Counters Refusal) (st' : ℕ → List ℕ) : Type 0 where
-  pub is : (c : Catalogue) → length c.parts ≡ parts → Outcomes c l o n st r st'
+pub record PartOutcomes (parts : ℕ) (o : Command) (x : State) (r : Result (Unit {0}) Refusal) (x' : State) : Type 0 where
+  pub is : (c : Catalogue) → length c.parts ≡ parts → Outcomes c o x r x'
 
--- of one that changes added owners alone, where there are k; what is refused changes nothing
-pub record Adds (parts : ℕ) (l : Limits) (o : Command) (k : ℕ) (st : ℕ → List ℕ) (r : Result ℕ Refusal) (st' : ℕ → List ℕ) : Type 0 where
-  pub to : (d : ℕ) → r ≡ Ok d → (n : Counters) → n.added ≡ k → PartOutcomes parts l o n st (Ok (with_added d n)) st'
-  pub refused : (f : Refusal) → r ≡ Err f → (n : Counters) → n.added ≡ k → PartOutcomes parts l o n st (Err f) st'
-  pub same : (f : Refusal) → r ≡ Err f → st' ≡ st
+-- of one that changes added owners and their number alone
+pub record Adds (parts : ℕ) (o : Command) (x : State) (r : Result (Unit {0}) Refusal) (x' : State) : Type 0 where
+  pub outcomes : PartOutcomes parts o x r x'
+  pub counters : x'.used ≡ with_added x'.used.added x.used
 
--- of one that changes decisions alone, where there are v variables and k decisions; likewise
-pub record Decides (l : Limits) (o : Command) (v k : ℕ) (st : ℕ → List ℕ) (r : Result ℕ Refusal) (st' : ℕ → List ℕ) : Type 0 where
-  pub to : (d : ℕ) → r ≡ Ok d → (n : Counters) → n.variables ≡ v → n.decisions ≡ k → PlainOutcomes l o n st (Ok (with_decisions d n)) st'
-  pub refused : (f : Refusal) → r ≡ Err f → (n : Counters) → n.variables ≡ v → n.decisions ≡ k → PlainOutcomes l o n st (Err f) st'
-  pub same : (f : Refusal) → r ≡ Err f → st' ≡ st
+-- of one that changes decisions and their number alone
+pub record Decides (o : Command) (x : State) (r : Result (Unit {0}) Refusal) (x' : State) : Type 0 where
+  pub outcomes : PlainOutcomes o x r x'
+  pub counters : x'.used ≡ with_decisions x'.used.decisions x.used

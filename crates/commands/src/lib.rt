@@ -7,22 +7,20 @@ ghost use Rattle.rules.specs.Decisions.{last_level};
 ghost use Rattle.rules.specs.Records.{Command};
 ghost use Rattle.rules.proofs.Levels.{Rising};
 ghost use Rattle.clause.specs.Literals.{literal_of};
-ghost use Rattle.state.specs.Layout.{held, Fits};
-ghost use Rattle.variable_map.specs.Mapping.{Mapped};
-ghost use Rattle.decision_tracker.specs.Tracking.{decisions, Kept};
 ghost use Rattle.marked.specs.Marked.{owner_of, Marked};
 ghost use Rattle.entries.specs.Entries.{no_entry, waiting_in, Long};
 ghost use Rattle.entries.specs.Deferred.{Flags};
+ghost use Rattle.encoder.specs.Does.{regions_of, decisions_of, IsMapped, IsTracked};
 ghost use Rattle.goals.specs.Goals.{AllGiven};
-ghost use Rattle.commands.specs.Commands.{AddsOwner, Adds, is_flagged, Draws, DecidesLiteral, Decides, PlainOutcomes, PartOutcomes};
+ghost use Rattle.commands.specs.Commands.{AddsOwner, Adds, is_flagged, DrawDoes, DecidesLiteral, Decides};
 ghost use Rattle.index.specs.Views.{catalogue_of, counts_of};
 ghost use Rattle.tables.specs.Views.{tables_of};
 
 use clause::Literal;
 use decision_tracker::Decision;
-use encoder::Counters;
+use encoder::State;
 use index::Catalogue;
-use marked::MarkedList;
+use marked::{MarkedList, ROOT};
 use refusal::{Contradiction, Refusal, Thing};
 use requirement::Owner;
 use state::Limits;
@@ -30,53 +28,39 @@ use tables::{Counts, Tables};
 
 // ---- add
 
-// The number that stands for the root in the state area.
-const ROOT: u16 = 1024;
-
-// Owner o is added, unless it is already: how many are then.
-fn push_added(s: &mut [u8], l: Limits, count: usize, o: u16) -> usize
-    requires fits { Fits l (length s.old) }
-    requires marked { Marked 6 7 count (held l s.old) × (o < 1025) }
-    ensures { AddsOwner l (owner_of o) count (held l s.old) result (held l s.new) }
+// Owner o is added, unless it is already.
+fn push_added(state: &mut State, o: u16)
+    requires marked { Marked 6 7 state.old.used.added (regions_of state.old) × (o < 1025) }
+    ensures { AddsOwner (owner_of o) state.old state.new }
 {
-    if marked::contains(s, l, MarkedList::Added, o) {
-        return count;
+    if state.lists(MarkedList::Added, o) {
+        return;
     }
-    marked::push(s, l, MarkedList::Added, count, o)
+    state.used.added = marked::push(
+        state.area,
+        state.limits,
+        MarkedList::Added,
+        state.used.added,
+        o,
+    );
 }
 
-// An owner is added where so many are: how many are then. It changes no other counter, and needs none.
-pub fn add_to(
-    k: Counts,
-    s: &mut [u8],
-    l: Limits,
-    count: usize,
-    owner: u16,
-) -> Result<usize, Refusal>
-    requires parts_bound { k.parts ≤ 1024 }
-    requires fits { Fits l (length s.old) }
-    requires marked { Marked 6 7 count (held l s.old) }
-    ensures { Adds k.parts l (Command.add owner) count (held l s.old) result (held l s.new) }
+// An owner is added where there are so many parts.
+pub fn add(counts: Counts, state: &mut State, owner: u16) -> Result<(), Refusal>
+    requires parts_bound { counts.parts ≤ 1024 }
+    requires marked { Marked 6 7 state.old.used.added (regions_of state.old) }
+    ensures { Adds counts.parts (Command.add owner) state.old result state.new }
 {
     match Owner::from(owner) {
-        Owner::Root => Ok(push_added(s, l, count, ROOT)),
+        Owner::Root => push_added(state, ROOT),
         Owner::Part(part) => {
-            if (part as usize) < k.parts {
-                return Ok(push_added(s, l, count, part));
+            if part as usize >= counts.parts {
+                return Err(Refusal::Missing(Thing::Part, 1));
             }
-            Err(Refusal::Missing(Thing::Part, 1))
+            push_added(state, part);
         }
     }
-}
-
-pub fn add(k: Counts, s: &mut [u8], l: Limits, n: Counters, owner: u16) -> Result<Counters, Refusal>
-    requires parts_bound { k.parts ≤ 1024 }
-    requires fits { Fits l (length s.old) }
-    requires marked { Marked 6 7 n.added (held l s.old) }
-    ensures { PartOutcomes k.parts l (Command.add owner) n (held l s.old) result (held l s.new) }
-{
-    let added = add_to(k, s, l, n.added, owner)?;
-    Ok(Counters { added, ..n })
+    Ok(())
 }
 
 // ---- draw
@@ -133,59 +117,47 @@ fn held_flags(
 }
 
 // The entries of condition c that hold are drawn, in order. Each disjunct of c is judged once.
-pub fn draw(
-    catalogue: &Catalogue,
-    s: &[u8],
-    w: &mut [u8],
-    l: Limits,
-    n: Counters,
-    c: u16,
-) -> Counters
-    requires fits { Fits l (length s.now) }
-    requires mapped { Mapped l n.variables (held l s.now) × Kept l n.decisions (held l s.now) }
-    requires long { Long l (length w.old) × (n.waiting + n.drawn ≤ l.waiting) }
-    requires all_given { AllGiven (catalogue_of catalogue.now) (waiting_in l n.waiting w.old) }
+pub fn draw(catalogue: &Catalogue, state: &mut State, w: &mut [u8], c: u16)
+    requires mapped { IsMapped state.old × IsTracked state.old }
+    requires long { Long state.old.limits (length w.old) × (state.old.used.waiting + state.old.used.drawn ≤ state.old.limits.waiting) }
+    requires all_given { AllGiven (catalogue_of catalogue.now) (waiting_in state.old.limits state.old.used.waiting w.old) }
     requires c_lt_conditions { c < (counts_of catalogue.now).conditions }
-    ensures { Draws (catalogue_of catalogue.now) l c n (held l s.now) w.old result w.new }
+    ensures { DrawDoes (catalogue_of catalogue.now) c state.old w.old state.new w.new }
 {
-    let judged = judging::holding(catalogue, s, l, n, c as usize);
+    let judged = judging::holding(catalogue, state, c as usize);
     if none_set(&judged) {
-        return n;
+        return;
     }
-    let flags = held_flags(&catalogue.index.areas.tables, w, l, n.waiting, &judged, c);
-    let counts = entries::draw(w, &flags, l, n.waiting, n.drawn);
-    Counters {
-        waiting: counts.kept,
-        drawn: counts.drawn,
-        ..n
-    }
+    let tables = &catalogue.index.areas.tables;
+    let flags = held_flags(tables, w, state.limits, state.used.waiting, &judged, c);
+    let counts = entries::draw(
+        w,
+        &flags,
+        state.limits,
+        state.used.waiting,
+        state.used.drawn,
+    );
+    state.used.waiting = counts.kept;
+    state.used.drawn = counts.drawn;
 }
 
 // ---- decide and undo
 
 // A level is 0 or below the last decision's.
-pub fn too_low(s: &[u8], l: Limits, count: usize, level: u16) -> bool
-    requires fits { Fits l (length s.now) }
-    requires count_le_variables { count ≤ l.variables }
-    ensures { result ≡ (eqb level 0 || ltb level (last_level (decisions count (held l s.now)))) }
+pub fn too_low(state: &State, level: u16) -> bool
+    requires { state.now.used.decisions ≤ state.now.limits.variables }
+    ensures { result ≡ (eqb level 0 || ltb level (last_level (decisions_of state.now))) }
 {
-    level == 0 || level < decision_tracker::last_level(s, l, count)
+    level == 0 || level < state.last_level()
 }
 
-// A variable gets a value, unless it has the other: how many decisions there are then.
-fn decide_literal(
-    s: &mut [u8],
-    l: Limits,
-    count: usize,
-    literal: Literal,
-    level: u16,
-) -> Result<usize, Refusal>
-    requires fits { Fits l (length s.old) }
-    requires kept { Kept l count (held l s.old) × ((literal_of literal).variable < l.variables) }
-    ensures { DecidesLiteral l (literal_of literal) level count (held l s.old) result (held l s.new) }
+// A variable gets a value, unless it has the other.
+fn decide_literal(state: &mut State, literal: Literal, level: u16) -> Result<(), Refusal>
+    requires kept { IsTracked state.old × ((literal_of literal).variable < state.old.limits.variables) }
+    ensures { DecidesLiteral (literal_of literal) level state.old result state.new }
 {
-    match decision_tracker::eval(s, l, count, literal) {
-        Some(true) => Ok(count),
+    match state.eval(literal) {
+        Some(true) => Ok(()),
         Some(false) => Err(Refusal::DecidedAgainst),
         None => {
             let new = Decision {
@@ -194,59 +166,42 @@ fn decide_literal(
                 level,
                 clause: None,
             };
-            Ok(decision_tracker::decide(s, l, count, new))
+            state.used.decisions = decision_tracker::decide(
+                state.area,
+                state.limits,
+                state.used.decisions,
+                new,
+            );
+            Ok(())
         }
     }
 }
 
-// A decision, where there are so many variables and decisions: how many decisions there are then. It changes no other counter, and needs none.
-pub fn decide_to(
-    s: &mut [u8],
-    l: Limits,
-    variables: usize,
-    count: usize,
-    variable: u16,
-    value: u8,
-    level: u16,
-) -> Result<usize, Refusal>
-    requires fits { Fits l (length s.old) }
-    requires kept { Kept l count (held l s.old) × (variables ≤ l.variables) }
-    ensures { Decides l (Command.decide variable value level) variables count (held l s.old) result (held l s.new) }
+pub fn decide(state: &mut State, variable: u16, value: u8, level: u16) -> Result<(), Refusal>
+    requires kept { IsTracked state.old × (state.old.used.variables ≤ state.old.limits.variables) }
+    ensures { Decides (Command.decide variable value level) state.old result state.new }
 {
-    if variable as usize >= variables {
+    if variable as usize >= state.used.variables {
         return Err(Refusal::MissingVariable(1));
     }
     if value > 1 {
         return Err(Refusal::Contradicts(Contradiction::OtherValue));
     }
-    if too_low(s, l, count, level) {
+    if too_low(state, level) {
         return Err(Refusal::LevelLow);
     }
-    decide_literal(s, l, count, Literal::new(variable, value == 1), level)
-}
-
-pub fn decide(
-    s: &mut [u8],
-    l: Limits,
-    n: Counters,
-    variable: u16,
-    value: u8,
-    level: u16,
-) -> Result<Counters, Refusal>
-    requires fits { Fits l (length s.old) }
-    requires kept { Kept l n.decisions (held l s.old) × (n.variables ≤ l.variables) }
-    ensures { PlainOutcomes l (Command.decide variable value level) n (held l s.old) result (held l s.new) }
-{
-    let decisions = decide_to(s, l, n.variables, n.decisions, variable, value, level)?;
-    Ok(Counters { decisions, ..n })
+    decide_literal(state, Literal::new(variable, value == 1), level)
 }
 
 // The decisions above this level are removed.
-pub fn undo(s: &mut [u8], l: Limits, n: Counters, level: u16) -> Counters
-    requires fits { Fits l (length s.old) }
-    requires kept { Kept l n.decisions (held l s.old) × Rising (decisions n.decisions (held l s.old)) }
-    ensures { PlainOutcomes l (Command.undo level) n (held l s.old) (Ok result) (held l s.new) }
+pub fn undo(state: &mut State, level: u16)
+    requires kept { IsTracked state.old × Rising (decisions_of state.old) }
+    ensures { Decides (Command.undo level) state.old (Ok tt) state.new }
 {
-    let decisions = decision_tracker::undo(s, l, n.decisions, level);
-    Counters { decisions, ..n }
+    state.used.decisions = decision_tracker::undo(
+        state.area,
+        state.limits,
+        state.used.decisions,
+        level,
+    );
 }

@@ -24,32 +24,32 @@ use Rattle.rules.proofs.DistinctEnough.{distinct_out, all_same}
 use Rattle.rules.proofs.ListLaws.{no_element}
 use Rattle.clause.specs.Literals.{literal_of}
 use Rattle.regions.specs.Regions.{size_of}
-use Rattle.state.specs.declared.Limits.{Limits}
-use Rattle.state.specs.Layout.{sizes, held, Fits}
+use Rattle.state.specs.Layout.{sizes}
 use Rattle.state.proofs.Changed.{length_held}
 use Rattle.variable_map.specs.Mapping.{AllKnown}
 use Rattle.marked.specs.Marked.{listed}
+use Rattle.encoder.specs.declared.State.{State}
 use Rattle.encoder.specs.Held.{literal_in, literals_in}
+use Rattle.encoder.specs.Does.{regions_of}
 use Rattle.goals.specs.Goals.{false_of}
 use Rattle.goals.proofs.Parts.{all_both}
 use Rattle.condition_literals.specs.Literals.{literal_false, Named, AtHand}
 
 -- ---- the literals at hand
 
-pub literals_long : {l : Limits} (b : List ℕ) → Fits l (length b) → length (held l b 19) ≡ l.literals
-literals_long {l} b f = length_held l b 19 f ∙ unfold size_of sizes in refl
+literals_long : (x : State) → length (regions_of x 19) ≡ x.limits.literals
+literals_long x = length_held x.limits x.area.now 19 x.fits ∙ unfold size_of sizes in refl
 
 -- the loop at place j: those passed are decided false
 pub record Falsifying (ds : List Decision) (w : List ℕ) (a count j : ℕ) : Type 0 where
   pub room : a + count ≤ length w
   pub is : all (literal_false ds) (literals_in w (a + j) (count - j)) ≡ all (literal_false ds) (literals_in w a count)
 
-pub falsify_start : (ds : List Decision) {l : Limits} (b : List ℕ) {a count : ℕ} → Fits l (length b) → a + count ≤ l.literals
-    → Falsifying ds (held l b 19) a count 0
-falsify_start ds b {a} {count} f h =
+pub falsify_start : (ds : List Decision) (x : State) {a count : ℕ} → a + count ≤ x.limits.literals → Falsifying ds (regions_of x 19) a count 0
+falsify_start ds x {a} {count} h =
     let e : a + 0 ≡ a = omega arith in
     let d : count - 0 ≡ count = omega arith in
-    record { room = omega (arith, literals_long b f); is = rw (e, d) }
+    record { room = omega (arith, literals_long x); is = rw (e, d) }
 
 module _ {ds : List Decision} {w : List ℕ} {a count j : ℕ} (x : Falsifying ds w a count j) where
   module _ (h : j < count) {v : ℕ} (e : v ≡ get_or w (a + j) 0) {b : Bool} (d : b ≡ is_falsified (evaluate ds (literal_of (record { code = v })))) where
@@ -181,7 +181,7 @@ module _ {c : Catalogue} {q ranges : ℕ} {st : ℕ → List ℕ} (a : AtHand c 
       ) (f ∙ all_same (false_of vs ds) (hand_within a) (hand_all a))
 
   -- the condition has literals
-  pub rest_long : start + count ≤ length w → (count ≡ 0 → ⊥) → (y z : Bool) → y ≡ all (literal_false ds) (literals_in w start count) → y ≡ true
+  rest_long : start + count ≤ length w → (count ≡ 0 → ⊥) → (y z : Bool) → y ≡ all (literal_false ds) (literals_in w start count) → y ≡ true
       → z ≡ all (false_of vs ds) (concat_map (matching c) (listed ranges 14 st)) → z ≡ all_false ds literals_of
   rest_long h n = rest_is (some_left (literals_in w start count) _ long)
     where
@@ -217,9 +217,9 @@ module _ {c : Catalogue} {q ranges : ℕ} {st : ℕ → List ℕ} (a : AtHand c 
       let b = not (eqb (length (concat_map (matching c) (listed ranges 14 st))) 0) in
       by_cases b (λ y. sym t ∙ rest_short b z refl y k f) (λ y. rest_none b refl y k)
 
--- the same of the code's area
-pub rest_held : {c : Catalogue} {q ranges : ℕ} {l : Limits} (b : List ℕ) → AtHand c q ranges (held l b) → (ds : List Decision) (vs : List Origin) (start count : ℕ) → Fits l (length b)
-    → start + count ≤ l.literals → (count ≡ 0 → ⊥) → (y z : Bool) → y ≡ all (literal_false ds) (literals_in (held l b 19) start count) → y ≡ true
-    → z ≡ all (false_of vs ds) (concat_map (matching c) (listed ranges 14 (held l b)))
-    → z ≡ all_false ds (literals_in (held l b 19) start count ++ map pos (map (part_variable vs) (candidates c (goal_at c q))))
-rest_held b a ds vs start count f h = rest_long a ds vs (held _ b 19) start count (omega (arith, literals_long b f))
+-- the same of the encoder's state
+pub rest_held : {c : Catalogue} {q ranges : ℕ} (x : State) → AtHand c q ranges (regions_of x) → (ds : List Decision) (vs : List Origin) (start count : ℕ)
+    → start + count ≤ x.limits.literals → (count ≡ 0 → ⊥) → (y z : Bool) → y ≡ all (literal_false ds) (literals_in (regions_of x 19) start count) → y ≡ true
+    → z ≡ all (false_of vs ds) (concat_map (matching c) (listed ranges 14 (regions_of x)))
+    → z ≡ all_false ds (literals_in (regions_of x 19) start count ++ map pos (map (part_variable vs) (candidates c (goal_at c q))))
+rest_held x a ds vs start count h = rest_long a ds vs (regions_of x 19) start count (omega (arith, literals_long x))

@@ -35,21 +35,19 @@ use Rattle.cache.specs.Lists.{asked, chosen}
 use Rattle.cache.proofs.Laws.{parts_held, ranges_held, range_name_held}
 use Rattle.index.specs.Chains.{Skips}
 use Rattle.index.proofs.Walking.{walk}
-use Rattle.state.specs.declared.Limits.{Limits}
-use Rattle.state.specs.Layout.{held, Fits}
 use Rattle.variable_map.specs.declared.Origin as Origins
-use Rattle.variable_map.specs.Mapping.{origin_of, variables, Mapped, AllKnown}
+use Rattle.variable_map.specs.Mapping.{origin_of, AllKnown}
 use Rattle.variable_map.proofs.Laws as variables
-use Rattle.encoder.specs.declared.Counters.{Counters}
-use Rattle.encoder.specs.Held.{GoodState}
+use Rattle.encoder.specs.declared.State.{State}
+use Rattle.encoder.specs.Does.{regions_of, variables_of, IsMapped, IsGoodState}
 use Rattle.encoder.specs.Did.{Looked}
 use Rattle.std.specs.Prelude.{Some}
 use Rattle.index.specs.Catalogued.{Catalogued}
 use Rattle.goals.proofs.Parts.{both_here, both_past}
 use Rattle.firing.proofs.Required.{condition_given, its_disjuncts}
 use Rattle.firing.proofs.Given.{range_given}
-use Rattle.condition_literals.specs.Literals.{Pushes, part_literals, RangeKnown, DisjunctKnown}
-use Rattle.condition_literals.proofs.Pushing.{push_none, push_then, push_good, push_variables}
+use Rattle.condition_literals.specs.Literals.{StatePushes, part_literals, RangeKnown, DisjunctKnown}
+use Rattle.condition_literals.proofs.Pushing.{pushes_none, pushes_then, pushes_good, pushes_variables}
 use Rattle.condition_literals.proofs.Known.{range_in, range_one}
 
 literals_both : (vs : List Origin) (ps qs : List ℕ) → part_literals vs (ps ++ qs) ≡ part_literals vs ps ++ part_literals vs qs
@@ -66,12 +64,8 @@ literals_none vs = refl
 
 -- ---- a literal by its origin
 
-module _ (n : ℕ) (st : ℕ → List ℕ) {x : ℕ} (o : Origins.Origin) (k : known (variables n st) (origin_of o) ≡ true) (y : Looked (variables n st) (origin_of o) x) where
-  pub looked_low : {l : Limits} {b : ℕ} → Fits l b → Mapped l n st → x < 32768
-  looked_low f m = omega (arith, y.below k, variables.count n st, m.room, f.variables)
-
-  pub looked_literal : (i : code.Literal) (b : Bool) → literal_of i ≡ signed x b → literal_of i ≡ signed (variable_of (variables n st) (origin_of o)) b
-  looked_literal i b e = rw (← y.is k) e
+pub looked_low : (a : State) {x : ℕ} (o : Origins.Origin) → known (variables_of a) (origin_of o) ≡ true → Looked (variables_of a) (origin_of o) x → IsMapped a → x < 32768
+looked_low a o k y m = omega (arith, y.below k, variables.count a.used.variables (regions_of a), m.room, a.fits.variables)
 
 -- ---- a part, if it is asked for
 
@@ -83,17 +77,17 @@ module _ (c : Catalogue) (r p : ℕ) (b : Bool) (vs : List Origin) where
   unfolding list_if
   if_known e q a = only (rw (sym e ∙ q) at a.known)
 
-  pub if_pushed : {l : Limits} {n : Counters} {st st' : ℕ → List ℕ} {count m : ℕ} (y : code.Literal)
-      → Pushes l n st count (literal_of y ∷ []) m st' → literal_of y ≡ signed (variable_of vs (part_origin p)) true
+  pub if_pushed : {a a' : State} {count m : ℕ} (y : code.Literal)
+      → StatePushes a count (literal_of y ∷ []) m a' → literal_of y ≡ signed (variable_of vs (part_origin p)) true
       → b ≡ chosen c r NonMatching p → b ≡ true
-      → Pushes l n st count (part_literals vs (list_if (chosen c r NonMatching p) (p ∷ []))) m st'
+      → StatePushes a count (part_literals vs (list_if (chosen c r NonMatching p) (p ∷ []))) m a'
   unfolding list_if signed part_literals
   if_pushed y h d e q = rw (sym e ∙ q, ← d) h
 
 pub if_not : (c : Catalogue) (r p : ℕ) (b : Bool) → b ≡ chosen c r NonMatching p → b ≡ false → (vs : List Origin)
-    {l : Limits} {n : Counters} {st : ℕ → List ℕ} {count : ℕ} → Pushes l n st count (part_literals vs (list_if (chosen c r NonMatching p) (p ∷ []))) count st
+    {a : State} {count : ℕ} → StatePushes a count (part_literals vs (list_if (chosen c r NonMatching p) (p ∷ []))) count a
 unfolding list_if part_literals
-if_not c r p b e q vs = rw (sym e ∙ q) push_none
+if_not c r p b e q vs = rw (sym e ∙ q) pushes_none
 
 -- ---- the non-matching parts from part p on
 
@@ -130,77 +124,67 @@ module _ (k : Counts) (m u t : List ℕ) (r : ℕ) where
 -- ---- all of a range's
 
 -- the loop at part p
-pub record Going (c : Catalogue) (r : ℕ) (l : Limits) (n : Counters) (count : ℕ) (b₀ b : List ℕ) (m p : ℕ) : Type 0 where
-  pub fits : Fits l (length b)
-  pub same : length b ≡ length b₀
-  pub good : GoodState c l n (held l b)
+pub record Going (c : Catalogue) (r count : ℕ) (x₀ x : State) (m p : ℕ) : Type 0 where
+  pub good : IsGoodState c x
   pub few : m ≤ count + p
-  pub known : AllKnown (variables n.variables (held l b₀)) (non_matching c r)
+  pub known : AllKnown (variables_of x₀) (non_matching c r)
   pub done : List ℕ
   pub all : done ++ rest c r p ≡ non_matching c r
-  pub pushed : Pushes l n (held l b₀) count (part_literals (variables n.variables (held l b₀)) done) m (held l b)
+  pub pushed : StatePushes x₀ count (part_literals (variables_of x₀) done) m x
 
-module _ (k : Counts) (m u t : List ℕ) (r : ℕ) {l : Limits} {n : Counters} {count : ℕ} where
-  going_start : (b : List ℕ) → Fits l (length b) → GoodState (catalogue k m u t) l n (held l b)
-      → AllKnown (variables n.variables (held l b)) (non_matching (catalogue k m u t) r) → Going (catalogue k m u t) r l n count b b count 0
-  going_start b f g a =
-      record { fits = f; same = refl; good = g; few = omega arith; known = a; done = []; all = rest_start k m u t r; pushed = rw literals_none push_none }
+module _ (k : Counts) (m u t : List ℕ) (r : ℕ) {count : ℕ} where
+  going_start : (x : State) → IsGoodState (catalogue k m u t) x → AllKnown (variables_of x) (non_matching (catalogue k m u t) r) → Going (catalogue k m u t) r count x x count 0
+  going_start x g a =
+      record { good = g; few = omega arith; known = a; done = []; all = rest_start k m u t r; pushed = rw literals_none pushes_none }
 
-  module _ {b₀ b : List ℕ} {now p : ℕ} (x : Going (catalogue k m u t) r l n count b₀ b now p) where
+  module _ {x₀ x : State} {now p : ℕ} (y : Going (catalogue k m u t) r count x₀ x now p) where
     abbrev here : List ℕ
     here = list_if (chosen (catalogue k m u t) r NonMatching p) (p ∷ [])
 
-    split : p < k.parts → (x.done ++ here) ++ rest (catalogue k m u t) r (p + 1) ≡ non_matching (catalogue k m u t) r
-    split h = append_assoc x.done here (rest (catalogue k m u t) r (p + 1)) ∙ (ap (λ ps. x.done ++ ps) (sym (rest_step k m u t r p h)) ∙ x.all)
+    split : p < k.parts → (y.done ++ here) ++ rest (catalogue k m u t) r (p + 1) ≡ non_matching (catalogue k m u t) r
+    split h = append_assoc y.done here (rest (catalogue k m u t) r (p + 1)) ∙ (ap (λ ps. y.done ++ ps) (sym (rest_step k m u t r p h)) ∙ y.all)
 
-    pub going_known : p < k.parts → AllKnown (variables n.variables (held l b)) here
+    pub going_known : p < k.parts → AllKnown (variables_of x) here
     going_known h =
-        let whole : Each (λ q. known (variables n.variables (held l b₀)) (part_origin q) ≡ true) ((x.done ++ here) ++ rest (catalogue k m u t) r (p + 1)) = rw (split h) x.known.known in
-        record { known = rw (push_variables x.pushed) (each_right x.done (each_left (x.done ++ here) (rest (catalogue k m u t) r (p + 1)) whole)) }
+        let whole : Each (λ q. known (variables_of x₀) (part_origin q) ≡ true) ((y.done ++ here) ++ rest (catalogue k m u t) r (p + 1)) = rw (split h) y.known.known in
+        record { known = rw (pushes_variables y.pushed) (each_right y.done (each_left (y.done ++ here) (rest (catalogue k m u t) r (p + 1)) whole)) }
 
-    going_step : {now' : ℕ} (b' : List ℕ) → p < k.parts → length b' ≡ length b
-        → Pushes l n (held l b) now (part_literals (variables n.variables (held l b)) here) now' (held l b')
-        → Going (catalogue k m u t) r l n count b₀ b' now' (p + 1)
-    going_step {now'} b' h s q =
-        let vs = variables n.variables (held l b₀) in
-        let one_more = literals_count (variables n.variables (held l b)) here in
-        let q' : Pushes l n (held l b) now (part_literals vs here) now' (held l b') = rw (push_variables x.pushed) at q in
+    going_step : {now' : ℕ} (x' : State) → p < k.parts → StatePushes x now (part_literals (variables_of x) here) now' x' → Going (catalogue k m u t) r count x₀ x' now' (p + 1)
+    going_step {now'} x' h q =
+        let one_more = literals_count (variables_of x) here in
+        let q' : StatePushes x now (part_literals (variables_of x₀) here) now' x' = rw (pushes_variables y.pushed) at q in
         record {
-          fits = rw s x.fits;
-          same = s ∙ x.same;
-          good = push_good q x.good;
-          few = omega (arith, q.more_counted, one_more, at_most (chosen (catalogue k m u t) r NonMatching p), x.few);
-          known = x.known;
-          done = x.done ++ here;
+          good = pushes_good q y.good;
+          few = omega (arith, q.pushes.more_counted, one_more, at_most (chosen (catalogue k m u t) r NonMatching p), y.few);
+          known = y.known;
+          done = y.done ++ here;
           all = split h;
-          pushed = rw (literals_both vs x.done here) (push_then x.pushed q');
+          pushed = rw (literals_both (variables_of x₀) y.done here) (pushes_then y.pushed q');
         }
       where
-        at_most : (y : Bool) → length (list_if y (p ∷ [])) ≤ 1
+        at_most : (z : Bool) → length (list_if z (p ∷ [])) ≤ 1
         at_most true = unfold list_if in omega arith
         at_most false = unfold list_if in omega arith
 
-    pub going_end : k.parts ≤ p
-        → Pushes l n (held l b₀) count (part_literals (variables n.variables (held l b₀)) (non_matching (catalogue k m u t) r)) now (held l b)
+    pub going_end : k.parts ≤ p → StatePushes x₀ count (part_literals (variables_of x₀) (non_matching (catalogue k m u t) r)) now x
     going_end h =
-        let e : x.done ≡ non_matching (catalogue k m u t) r = sym (append-nil x.done) ∙ (ap (λ ps. x.done ++ ps) (sym (rest_end k m u t r p h)) ∙ x.all) in
-        rw (← e) x.pushed
+        let e : y.done ≡ non_matching (catalogue k m u t) r = sym (append-nil y.done) ∙ (ap (λ ps. y.done ++ ps) (sym (rest_end k m u t r p h)) ∙ y.all) in
+        rw (← e) y.pushed
 
-  going_on : {b₀ b : List ℕ} {now p x : ℕ} → Skips k.parts (chosen (catalogue k m u t) r NonMatching) p x
-      → Going (catalogue k m u t) r l n count b₀ b now p → Going (catalogue k m u t) r l n count b₀ b now x
-  going_on {b₀} {b} {now} s y =
-      walk (Going (catalogue k m u t) r l n count b₀ b now)
-      (λ i h e z. going_step z b h refl (if_not (catalogue k m u t) r i (chosen (catalogue k m u t) r NonMatching i) refl e (variables n.variables (held l b)))) s y
+  going_on : {x₀ x : State} {now p p' : ℕ} → Skips k.parts (chosen (catalogue k m u t) r NonMatching) p p'
+      → Going (catalogue k m u t) r count x₀ x now p → Going (catalogue k m u t) r count x₀ x now p'
+  going_on {x₀} {x} {now} s y =
+      walk (Going (catalogue k m u t) r count x₀ x now)
+      (λ i h e z. going_step z x h (if_not (catalogue k m u t) r i (chosen (catalogue k m u t) r NonMatching i) refl e (variables_of x))) s y
 
-  pub going_first : {x : ℕ} (b : List ℕ) → Fits l (length b) → GoodState (catalogue k m u t) l n (held l b)
-      → AllKnown (variables n.variables (held l b)) (non_matching (catalogue k m u t) r) → Skips k.parts (chosen (catalogue k m u t) r NonMatching) 0 x
-      → Going (catalogue k m u t) r l n count b b count x
-  going_first b f g a s = going_on s (going_start b f g a)
+  pub going_first : {p : ℕ} (x : State) → IsGoodState (catalogue k m u t) x → AllKnown (variables_of x) (non_matching (catalogue k m u t) r)
+      → Skips k.parts (chosen (catalogue k m u t) r NonMatching) 0 p → Going (catalogue k m u t) r count x x count p
+  going_first x g a s = going_on s (going_start x g a)
 
-  pub going_next : {b₀ b : List ℕ} {now p now' x : ℕ} (b' : List ℕ) → Going (catalogue k m u t) r l n count b₀ b now p → p < k.parts → length b' ≡ length b
-      → Pushes l n (held l b) now (part_literals (variables n.variables (held l b)) (list_if (chosen (catalogue k m u t) r NonMatching p) (p ∷ []))) now' (held l b')
-      → Skips k.parts (chosen (catalogue k m u t) r NonMatching) (p + 1) x → Going (catalogue k m u t) r l n count b₀ b' now' x
-  going_next b' y h i q s = going_on s (going_step y b' h i q)
+  pub going_next : {x₀ x : State} {now p now' p' : ℕ} (x' : State) → Going (catalogue k m u t) r count x₀ x now p → p < k.parts
+      → StatePushes x now (part_literals (variables_of x) (list_if (chosen (catalogue k m u t) r NonMatching p) (p ∷ []))) now' x'
+      → Skips k.parts (chosen (catalogue k m u t) r NonMatching) (p + 1) p' → Going (catalogue k m u t) r count x₀ x' now' p'
+  going_next x' y h q s = going_on s (going_step y x' h q)
 
 -- ---- a range
 
@@ -220,15 +204,15 @@ module _ (k : Counts) (m u t : List ℕ) (r : ℕ) where
       pub one_known : {vs : List Origin} → RangeKnown (catalogue k m u t) vs r → known vs (one x) ≡ true
       one_known h = rw named (range_one h no_parts)
 
-      pub one_pushed : (vs : List Origin) {l : Limits} {c : Counters} {st st' : ℕ → List ℕ} {a b : ℕ} (y : code.Literal)
-          → literal_of y ≡ signed (variable_of vs (one x)) false → Pushes l c st a (literal_of y ∷ []) b st'
-          → Pushes l c st a (range_literals vs (range_name (catalogue k m u t) r) (non_matching (catalogue k m u t) r)) b st'
+      pub one_pushed : (vs : List Origin) {s s' : State} {a b : ℕ} (y : code.Literal)
+          → literal_of y ≡ signed (variable_of vs (one x)) false → StatePushes s a (literal_of y ∷ []) b s'
+          → StatePushes s a (range_literals vs (range_name (catalogue k m u t) r) (non_matching (catalogue k m u t) r)) b s'
       unfolding range_literals signed
       one_pushed vs y g h = rw (no_parts, ← named, ← g) h
 
-  pub parts_pushed : (b : Bool) → b ≡ ltb 0 (length (non_matching (catalogue k m u t) r)) → b ≡ true → (vs : List Origin) {l : Limits} {c : Counters} {st st' : ℕ → List ℕ} {a b : ℕ}
-      → Pushes l c st a (part_literals vs (non_matching (catalogue k m u t) r)) b st'
-      → Pushes l c st a (range_literals vs (range_name (catalogue k m u t) r) (non_matching (catalogue k m u t) r)) b st'
+  pub parts_pushed : (b : Bool) → b ≡ ltb 0 (length (non_matching (catalogue k m u t) r)) → b ≡ true → (vs : List Origin) {s s' : State} {a b : ℕ}
+      → StatePushes s a (part_literals vs (non_matching (catalogue k m u t) r)) b s'
+      → StatePushes s a (range_literals vs (range_name (catalogue k m u t) r) (non_matching (catalogue k m u t) r)) b s'
   parts_pushed b d z vs h = rw (same (non_matching (catalogue k m u t) r) (ltb-true 0 (length (non_matching (catalogue k m u t) r)) (sym d ∙ z))) h
     where
       same : (ps : List ℕ) → 0 < length ps → range_literals vs (range_name (catalogue k m u t) r) ps ≡ part_literals vs ps
@@ -265,16 +249,14 @@ pub few_carried : {d : D.Disjunct} {rs xs : Disjunct} → rs ≡ ranges_of d →
 few_carried e k = rw (e, k.is) (omega (arith, k.len, k.room))
 
 -- the loop at range j
-pub record Collecting (c : Catalogue) (rs : Disjunct) (l : Limits) (n : Counters) (b₀ b : List ℕ) (m j : ℕ) : Type 0 where
+pub record Collecting (c : Catalogue) (rs : Disjunct) (x₀ x : State) (m j : ℕ) : Type 0 where
   pub given : (i : ℕ) → i < length rs → get_or rs i 0 < length c.ranges
   pub few_ranges : length rs ≤ 16
   pub parts : length c.parts ≤ 1024
-  pub fits : Fits l (length b)
-  pub same : length b ≡ length b₀
-  pub good : GoodState c l n (held l b)
+  pub good : IsGoodState c x
   pub few : m ≤ 1024 * j
-  pub known : DisjunctKnown c (variables n.variables (held l b₀)) rs
-  pub pushed : Pushes l n (held l b₀) 0 (disjunct_literals c (variables n.variables (held l b₀)) (take j rs)) m (held l b)
+  pub known : DisjunctKnown c (variables_of x₀) rs
+  pub pushed : StatePushes x₀ 0 (disjunct_literals c (variables_of x₀) (take j rs)) m x
 
 module _ (k : Counts) (m u t : List ℕ) (q i : ℕ) (it : ConditionalRequirement) (e : requirement_is it ≡ get_or (tables k t).requirements q no_requirement)
     (w : Catalogued k m u t) (h : q < k.requirements) (f : unconditional (catalogue k m u t) q ≡ false) (x : ℕ) (z : it.condition ≡ Some x) where
@@ -286,49 +268,41 @@ module _ (k : Counts) (m u t : List ℕ) (q i : ℕ) (it : ConditionalRequiremen
     unfolding disjunct_at
     ranges_are = rw (its_disjuncts k m u t q it e w h f x z) c
 
-    pub collect_start : {l : Limits} {n : Counters} (b : List ℕ) → length rs ≤ 16
-        → i < length (disjuncts_of (catalogue k m u t) q) → Fits l (length b) → GoodState (catalogue k m u t) l n (held l b)
-        → DisjunctKnown (catalogue k m u t) (variables n.variables (held l b)) (disjunct_at (catalogue k m u t) q i)
-        → Collecting (catalogue k m u t) rs l n b b 0 0
-    collect_start b y o g s a =
+    pub collect_start : (s : State) → length rs ≤ 16 → i < length (disjuncts_of (catalogue k m u t) q) → IsGoodState (catalogue k m u t) s
+        → DisjunctKnown (catalogue k m u t) (variables_of s) (disjunct_at (catalogue k m u t) q i) → Collecting (catalogue k m u t) rs s s 0 0
+    collect_start s y o g a =
         record {
           given = λ j v. rw ranges_held (range_given k m u t x i w (condition_given k m u t q it e w h f x z) (disjunct_there o) c j v);
           few_ranges = y;
           parts = unfold ceiling in w.formed.ceilings.parts;
-          fits = g;
-          same = refl;
-          good = s;
+          good = g;
           few = omega arith;
           known = rw ranges_are a;
-          pushed = unfold disjunct_literals concat_map in push_none;
+          pushed = unfold disjunct_literals concat_map in pushes_none;
         }
 
-module _ {c : Catalogue} {rs : Disjunct} {l : Limits} {n : Counters} {b₀ b : List ℕ} {m j : ℕ} (x : Collecting c rs l n b₀ b m j) where
-  pub collect_known : j < length rs → RangeKnown c (variables n.variables (held l b)) (get_or rs j 0)
-  collect_known h = rw (push_variables x.pushed) (range_in x.known (at_member rs j 0 h))
+module _ {c : Catalogue} {rs : Disjunct} {x₀ x : State} {m j : ℕ} (y : Collecting c rs x₀ x m j) where
+  pub collect_known : j < length rs → RangeKnown c (variables_of x) (get_or rs j 0)
+  collect_known h = rw (pushes_variables y.pushed) (range_in y.known (at_member rs j 0 h))
 
-  pub collect_step : {m' : ℕ} (b' : List ℕ) → j < length rs → length b' ≡ length b
-      → Pushes l n (held l b) m (range_literals (variables n.variables (held l b)) (range_name c (get_or rs j 0)) (non_matching c (get_or rs j 0))) m' (held l b')
-      → Collecting c rs l n b₀ b' m' (j + 1)
-  collect_step {m'} b' h s q =
-      let vs = variables n.variables (held l b₀) in
+  pub collect_step : {m' : ℕ} (x' : State) → j < length rs → StatePushes x m (range_literals (variables_of x) (range_name c (get_or rs j 0)) (non_matching c (get_or rs j 0))) m' x'
+      → Collecting c rs x₀ x' m' (j + 1)
+  collect_step {m'} x' h q =
+      let vs = variables_of x₀ in
       let r = get_or rs j 0 in
-      let q' : Pushes l n (held l b) m (range_literals vs (range_name c r) (non_matching c r)) m' (held l b') = rw (push_variables x.pushed) at q in
+      let q' : StatePushes x m (range_literals vs (range_name c r) (non_matching c r)) m' x' = rw (pushes_variables y.pushed) at q in
       record {
-        given = x.given;
-        few_ranges = x.few_ranges;
-        parts = x.parts;
-        fits = rw s x.fits;
-        same = s ∙ x.same;
-        good = push_good q x.good;
-        few = omega (arith, q'.more_counted, range_few c vs r x.parts, x.few);
-        known = x.known;
-        pushed = rw (add-one j, take-suc rs j 0 h, literals_more c vs (take j rs) r) (push_then x.pushed q');
+        given = y.given;
+        few_ranges = y.few_ranges;
+        parts = y.parts;
+        good = pushes_good q y.good;
+        few = omega (arith, q'.pushes.more_counted, range_few c vs r y.parts, y.few);
+        known = y.known;
+        pushed = rw (add-one j, take-suc rs j 0 h, literals_more c vs (take j rs) r) (pushes_then y.pushed q');
       }
 
-  pub collect_end : {xs : Disjunct} → rs ≡ xs → length rs ≤ j → Pushes l n (held l b₀) 0 (disjunct_literals c (variables n.variables (held l b₀)) xs) m (held l b)
-  collect_end e h = rw (take_all j rs h, e) at x.pushed
+  pub collect_end : {xs : Disjunct} → rs ≡ xs → length rs ≤ j → StatePushes x₀ 0 (disjunct_literals c (variables_of x₀) xs) m x
+  collect_end e h = rw (take_all j rs h, e) at y.pushed
 
-pub collect_given : (k : Counts) (m u t : List ℕ) {rs : Disjunct} {l : Limits} {n : Counters} {b₀ b : List ℕ} {a j : ℕ}
-    → Collecting (catalogue k m u t) rs l n b₀ b a j → j < length rs → get_or rs j 0 < k.ranges
-collect_given k m u t {j = j} x h = rw ranges_held at (x.given j h)
+pub collect_given : (k : Counts) (m u t : List ℕ) {rs : Disjunct} {x₀ x : State} {a j : ℕ} → Collecting (catalogue k m u t) rs x₀ x a j → j < length rs → get_or rs j 0 < k.ranges
+collect_given k m u t {j = j} y h = rw ranges_held at (y.given j h)

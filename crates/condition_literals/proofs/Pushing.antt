@@ -26,10 +26,13 @@ use Rattle.decision_tracker.proofs.Laws.{decisions_kept}
 use Rattle.solver.specs.Rows.{Row}
 use Rattle.encoder.specs.declared.Counters.{Counters}
 use Rattle.encoder.specs.Held.{Reading, state_of, opening_of, literal_in, literals_in, clause_in, clauses_in, Sound, GoodState, Good}
+use Rattle.encoder.specs.declared.State as encoder
 use Rattle.encoder.specs.Did.{StateDid}
+use Rattle.encoder.specs.Does.{StateDoes, IsGoodState, regions_of, variables_of}
+use Rattle.goals.proofs.Hand.{written_same, written_then}
 use Rattle.encoder.proofs.Frames.{state_kept, list_kept, line_kept}
 use Rattle.encoder.proofs.Did.{widens_same, did_made, beside_kept}
-use Rattle.condition_literals.specs.Literals.{Pending, Pushes}
+use Rattle.condition_literals.specs.Literals.{Pending, Pushes, StatePushes}
 
 -- ---- one
 
@@ -72,11 +75,11 @@ push_one {l} n b b' count x f e =
 
 -- ---- none, and more
 
-pub push_none : {l : Limits} {n : Counters} {st : ℕ → List ℕ} {count : ℕ} → Pushes l n st count [] count st
+push_none : {l : Limits} {n : Counters} {st : ℕ → List ℕ} {count : ℕ} → Pushes l n st count [] count st
 push_none {l} {n} {st} {count} =
     record { others = changed_none (19 ∷ []) st; same = λ start size h. refl; more_counted = omega arith; pending = λ ks p. rw (append-nil ks) p }
 
-pub push_then : {l : Limits} {n : Counters} {st st' st'' : ℕ → List ℕ} {a b d : ℕ} {us vs : List Literal}
+push_then : {l : Limits} {n : Counters} {st st' st'' : ℕ → List ℕ} {a b d : ℕ} {us vs : List Literal}
     → Pushes l n st a us b st' → Pushes l n st' b vs d st'' → Pushes l n st a (us ++ vs) d st''
 push_then {us = us} {vs = vs} p q =
     record {
@@ -88,7 +91,7 @@ push_then {us = us} {vs = vs} p q =
 
 -- ---- what is behind the stored ones then
 
-pub pending_none : {l : Limits} {n : Counters} {st : ℕ → List ℕ} → Pending l n st [] 0
+pending_none : {l : Limits} {n : Counters} {st : ℕ → List ℕ} → Pending l n st [] 0
 unfolding literals_in
 pending_none = record { counted = refl; stored = λ h. refl }
 
@@ -97,7 +100,7 @@ module _ {l : Limits} {n : Counters} {st st' : ℕ → List ℕ} {m : ℕ} {ks :
   pub pushed_count : m ≡ length ks
   pushed_count = omega (arith, p.more_counted)
 
-  pub pushed_are : n.literals + m ≤ l.literals → literals_in (st' 19) n.literals m ≡ ks
+  pushed_are : n.literals + m ≤ l.literals → literals_in (st' 19) n.literals m ≡ ks
   pushed_are h = (p.pending [] pending_none).stored h
 
 -- ---- the state is as it was
@@ -106,7 +109,7 @@ cond_same : {A : Type 0} (b : Bool) {x x' : A} (y : A) → (b ≡ true → x ≡
 cond_same true y f = f refl
 cond_same false y f = refl
 
-pub push_variables : {l : Limits} {n : Counters} {st st' : ℕ → List ℕ} {a b : ℕ} {us : List Literal} → Pushes l n st a us b st'
+push_variables : {l : Limits} {n : Counters} {st st' : ℕ → List ℕ} {a b : ℕ} {us : List Literal} → Pushes l n st a us b st'
     → variables n.variables st' ≡ variables n.variables st
 push_variables {n = n} p = variables_kept p.others n.variables (unfold any in refl)
 
@@ -120,7 +123,7 @@ module _ {c : Catalogue} {l : Limits} {n : Counters} {st st' : ℕ → List ℕ}
   clauses_same vs Each.nil = refl
   clauses_same vs (Each.cons s ss) = rw (clause_same vs s, clauses_same vs ss)
 
-  pub push_good : GoodState c l n st → GoodState c l n st'
+  push_good : GoodState c l n st → GoodState c l n st'
   unfolding any
   push_good g = state_kept p.others (search) g
 
@@ -144,8 +147,32 @@ module _ {c : Catalogue} {l : Limits} {n : Counters} {st st' : ℕ → List ℕ}
       simp (list_kept ch, line_kept ch, variables_kept ch, decisions_kept ch, k)
 
   -- a step that does nothing
-  pub push_did : StateDid c l (λ v s. s) n st n st'
+  push_did : StateDid c l (λ v s. s) n st n st'
   push_did =
       record {
         is = λ cl wt. did_made (λ v s. widens_same) refl (λ g. beside_kept p.others (unfold any in refl) (unfold any in refl) (unfold any in refl)) refl refl (λ k. refl) good_pushed state_pushed;
       }
+
+-- ---- of the encoder's state
+
+pub pushes_none : {x : encoder.State} {count : ℕ} → StatePushes x count [] count x
+pushes_none = record { written = written_same; pushes = push_none }
+
+pub pushes_then : {x x' x'' : encoder.State} {a b d : ℕ} {us vs : List Literal} → StatePushes x a us b x' → StatePushes x' b vs d x'' → StatePushes x a (us ++ vs) d x''
+pushes_then p q = record { written = written_then p.written q.written; pushes = push_then p.pushes (rw (p.written.limits, p.written.used) at q.pushes) }
+
+module _ {x x' : encoder.State} {a b : ℕ} {us : List Literal} (p : StatePushes x a us b x') where
+  pub pushes_variables : variables_of x' ≡ variables_of x
+  pushes_variables = rw (p.written.limits, p.written.used) (push_variables p.pushes)
+
+  pub pushes_good : {c : Catalogue} → IsGoodState c x → IsGoodState c x'
+  pushes_good g = rw (p.written.limits, p.written.used) (push_good p.pushes g)
+
+  -- a step that does nothing
+  pub pushes_do : {c : Catalogue} → StateDoes c (λ v s. s) x x'
+  pushes_do = record { limits = p.written.limits; area = p.written.area; did = rw p.written.used (push_did p.pushes) }
+
+-- pushed from the start on, with room for them
+pub pushes_are : {x x' : encoder.State} {m : ℕ} {ks : List Literal} → StatePushes x 0 ks m x' → x'.used.literals + m ≤ x'.limits.literals
+    → literals_in (regions_of x' 19) x'.used.literals m ≡ ks
+pushes_are p = rw (p.written.limits, p.written.used) (pushed_are p.pushes)

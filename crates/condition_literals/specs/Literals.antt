@@ -12,8 +12,12 @@ use Rattle.rules.proofs.Each.{Each}
 use Rattle.state.specs.declared.Limits.{Limits}
 use Rattle.state.specs.Changed.{Changed}
 use Rattle.marked.specs.Marked.{listed, Marked}
+use Rattle.state.specs.Layout.{held}
 use Rattle.encoder.specs.declared.Counters.{Counters}
+use Rattle.encoder.specs.declared.State.{State}
 use Rattle.encoder.specs.Held.{literals_in}
+use Rattle.encoder.specs.Does.{regions_of}
+use Rattle.goals.specs.Goals.{Written}
 
 -- ---- what has variables, and what is at hand
 
@@ -57,6 +61,11 @@ pub record Pushes (l : Limits) (n : Counters) (st : ℕ → List ℕ) (count : �
   pub same : (start size : ℕ) → start + size ≤ n.literals → literals_in (st' 19) start size ≡ literals_in (st 19) start size
   pub more_counted : count' ≡ count + length more
   pub pending : (ks : List Literal) → Pending l n st ks count → Pending l n st' (ks ++ more) count'
+
+-- the same of the encoder's state, of which the area alone was written
+pub record StatePushes (x : State) (count : ℕ) (more : List Literal) (count' : ℕ) (x' : State) : Type 0 where
+  pub written : Written x x'
+  pub pushes : Pushes x.limits x.used (regions_of x) count more count' (held x.limits x'.area.now)
 
 -- these parts, each as a literal
 unfoldable pub part_literals : List Origin → List ℕ → List Literal

@@ -26,13 +26,12 @@ use Rattle.tables.specs.declared.Constraint as code
 use Rattle.tables.specs.Tables.{tables, constraint_is}
 use Rattle.cache.specs.Areas.{catalogue}
 use Rattle.cache.specs.Lists.{Counted}
-use Rattle.state.specs.declared.Limits.{Limits}
 use Rattle.variable_map.specs.declared.Origin as variable_map
 use Rattle.variable_map.specs.Mapping.{origin_of}
 use Rattle.variable_map.proofs.Places.{known_after}
-use Rattle.encoder.specs.declared.Counters.{Counters}
-use Rattle.encoder.specs.Did.{ClausesDid, PlainDid}
-use Rattle.encoder.proofs.Steps.{clauses_none, state_then_clauses}
+use Rattle.encoder.specs.declared.State as encoder
+use Rattle.encoder.specs.Does.{PlainDoes, ClausesDoes}
+use Rattle.encoder.proofs.Does.{at_catalogue, clauses_do_none, state_then_clauses_do}
 use Rattle.parts.specs.declared.Naming.TheVariants.{Variable}
 use Rattle.parts.specs.declared.Adding.TheVariants.{Constrains, AuxOut}
 use Rattle.parts.specs.Parts.{naming_of, clause_for, adding_of}
@@ -59,8 +58,8 @@ module _ (c : Catalogue) (run : Run) (o : Owner) (r : ℕ) where
   unfolding constrain_few fold
   nothing e s = rw e
 
-  pub none_constrained : {x : ℕ} {l : Limits} {n : Counters} {st : ℕ → List ℕ} {cl : List ℕ} → Counted x (non_matching c r) → x ≡ 0 → ClausesDid c l (λ v. constrain_few c run o r) n st cl n st cl
-  none_constrained k h = clauses_none (λ v s. nothing (none_of (non_matching c r) (omega (arith, k.is))) s)
+  pub none_constrained : {x : ℕ} {z : encoder.State} {cl : List ℕ} → Counted x (non_matching c r) → x ≡ 0 → ClausesDoes c (λ v. constrain_few c run o r) z cl z cl
+  none_constrained k h = clauses_do_none (λ v s. nothing (none_of (non_matching c r) (omega (arith, k.is))) s)
     where
       none_of : (xs : List ℕ) → length xs ≡ 0 → xs ≡ []
       none_of [] e = refl
@@ -157,22 +156,22 @@ module _ (c : Catalogue) (run : Run) (i : ℕ) where
 
 module _ (k : Counts) (m u t : List ℕ) (i : ℕ) (it : code.Constraint) (e : constraint_is it ≡ get_or (tables k t).constraints i no_constraint)
     (w : variable_map.Origin) (g : origin_of w ≡ chosen (owner_is it.owner)) (run : Run)
-    {l : Limits} {n n' n'' : Counters} {st st' st'' : ℕ → List ℕ} {cl cl' : List ℕ} (d : PlainDid l (λ c v. add_variable (origin_of w)) n st n' st') {y : ℕ}
+    {x x' x'' : encoder.State} {cl cl' : List ℕ} (d : PlainDoes (λ c v. add_variable (origin_of w)) x x') {y : ℕ}
     (a : Counted y (non_matching (catalogue k m u t) it.range)) where
-  pub few_served : y < 4 → ClausesDid (catalogue k m u t) l (λ v. constrain_few (catalogue k m u t) run (owner_is it.owner) it.range) n' st' cl n'' st'' cl'
-      → ClausesDid (catalogue k m u t) l (λ v. serving (catalogue k m u t) run (constraint i)) n st cl n'' st'' cl'
+  pub few_served : y < 4 → ClausesDoes (catalogue k m u t) (λ v. constrain_few (catalogue k m u t) run (owner_is it.owner) it.range) x' cl x'' cl'
+      → ClausesDoes (catalogue k m u t) (λ v. serving (catalogue k m u t) run (constraint i)) x cl x'' cl'
   unfolding serving
   few_served h b =
       let held : Catalogue = catalogue k m u t in
       let q : few (non_matching held (constraint_at held i).range) ≡ true = rw (range_at k m u t i it e) (is_few held it.range a h) in
-      task_served held run (constraint i) (λ p z. unfold serve in refl) (state_then_clauses (d.is held) b)
+      task_served held run (constraint i) (λ p z. unfold serve in refl) (state_then_clauses_do (at_catalogue d) b)
       (λ v s. rw (g, ← owner_at_law k m u t i it e, ← range_at k m u t i it e) (few_serves held run i q s))
 
-  pub many_served : 4 ≤ y → ClausesDid (catalogue k m u t) l (λ v. constrain_many (catalogue k m u t) run (owner_is it.owner) it.range) n' st' cl n'' st'' cl'
-      → ClausesDid (catalogue k m u t) l (λ v. serving (catalogue k m u t) run (constraint i)) n st cl n'' st'' cl'
+  pub many_served : 4 ≤ y → ClausesDoes (catalogue k m u t) (λ v. constrain_many (catalogue k m u t) run (owner_is it.owner) it.range) x' cl x'' cl'
+      → ClausesDoes (catalogue k m u t) (λ v. serving (catalogue k m u t) run (constraint i)) x cl x'' cl'
   unfolding serving
   many_served h b =
       let held : Catalogue = catalogue k m u t in
       let q : few (non_matching held (constraint_at held i).range) ≡ false = rw (range_at k m u t i it e) (is_many held it.range a h) in
-      task_served held run (constraint i) (λ p z. unfold serve in refl) (state_then_clauses (d.is held) b)
+      task_served held run (constraint i) (λ p z. unfold serve in refl) (state_then_clauses_do (at_catalogue d) b)
       (λ v s. rw (g, ← owner_at_law k m u t i it e, ← range_at k m u t i it e) (many_serves held run i q s))

@@ -1,16 +1,14 @@
 -- The parts outside a range, its non-matching parts, gone through with few numbers.
-use Rattle.std.specs.Prelude.{◌≡◌, Bool, true, not, ◌&&◌, Option, None, Some, List, ℕ, ◌<◌}
+use Rattle.std.specs.Prelude.{◌≡◌, Bool, true, false, not, ◌&&◌, List, ℕ, ◌<◌}
 use Rattle.rules.specs.Lists.{when}
 use Rattle.rules.specs.Catalogue.{Catalogue}
 use Rattle.rules.specs.Variables.{Origin, known, part_origin}
 use Rattle.cache.specs.declared.Choice.TheVariants.{NonMatching}
 use Rattle.index.specs.Chains.{Skips}
-use Rattle.state.specs.declared.Limits.{Limits}
-use Rattle.encoder.specs.declared.Counters.{Counters}
 use Rattle.encoder.specs.declared.Run.{Run}
+use Rattle.encoder.specs.declared.State as encoder
 use Rattle.encoder.specs.Held.{run_of}
-use Rattle.encoder.specs.Did.{ClausesDid}
-use Rattle.storing.proofs.Storing.{counting}
+use Rattle.encoder.specs.Does.{ClausesDoes}
 use Rattle.parts.specs.declared.Parts.{Parts}
 use Rattle.parts.specs.declared.Parts.TheVariants.{Chosen}
 use Rattle.parts.specs.declared.Adding.TheVariants.{AuxOut}
@@ -28,12 +26,8 @@ pub record Finds (n : ℕ) (selected : ℕ → Bool) (from x : ℕ) : Type 0 whe
   pub skips : Skips n selected from x
   pub here : x < n → selected x ≡ true
 
--- counters with another number of clauses, and no literals more
-abbrev pub with_clauses : ℕ → Counters → Counters
-with_clauses x n = counting x n.literals n
-
--- y is the violation of range r. Behind `count` clauses that of part p is stored, if p is outside r; or it is left, and nothing is stored.
-pub record Appends (c : Catalogue) (l : Limits) (r y : ℕ) (n : Counters) (st : ℕ → List ℕ) (count p : ℕ) (cl : List ℕ) (x : Option ℕ) (cl' : List ℕ) : Type 0 where
-  pub to : (m : ℕ) → x ≡ Some m → (run : Run)
-      → ClausesDid c l (λ v. when (selected_of c (outside r) p) (adding_of (run_of run) (AuxOut y) p)) (with_clauses count n) st cl (with_clauses m n) st cl'
-  pub left : x ≡ None → cl' ≡ cl
+-- y is the violation of range r. The clause of part p is stored, if p is outside r; or the part is left, and nothing was done.
+pub record Appends (c : Catalogue) (r y p : ℕ) (x : encoder.State) (cl : List ℕ) (stored : Bool) (x' : encoder.State) (cl' : List ℕ) : Type 0 where
+  pub does : stored ≡ true → (run : Run) → ClausesDoes c (λ v. when (selected_of c (outside r) p) (adding_of (run_of run) (AuxOut y) p)) x cl x' cl'
+  pub state : stored ≡ false → x' ≡ x
+  pub clauses : stored ≡ false → cl' ≡ cl

@@ -1,46 +1,42 @@
-// The parts outside a range, its non-matching parts: their variables and the clauses of a violation. What is asked of each part takes few numbers;
-// all counters are taken only where a variable is new, or a clause may set its violation or is one too many.
+// The parts outside a range, its non-matching parts: their variables and the clauses of a violation. A part that has its variable is passed by a look at its slot,
+// and the clause of a part that is not true is stored where there is room; what is left is added as any other.
 ghost use Rattle.std.specs.Prelude.{◌≡◌, [], ◌<◌, ◌≤◌, length};
-ghost use Rattle.rules.specs.Lists.{fold, when};
-ghost use Rattle.state.specs.Layout.{held, Fits};
-ghost use Rattle.variable_map.specs.Mapping.{variables, Mapped};
-ghost use Rattle.encoder.specs.Held.{run_of, LongEnough, Good, GoodAlone, KnownUnlessFull};
-ghost use Rattle.encoder.specs.Did.{StateDid, ClausesDid, is_full};
+ghost use Rattle.rules.specs.Lists.{fold};
+ghost use Rattle.encoder.specs.Held.{run_of, LongEnough, KnownUnlessFull};
+ghost use Rattle.encoder.specs.Did.{is_full};
+ghost use Rattle.encoder.specs.Does.{StateDoes, ClausesDoes, IsGood, IsGoodWith, IsMapped, variables_of};
 ghost use Rattle.parts.specs.declared.Naming.TheVariants.{Variable};
 ghost use Rattle.parts.specs.declared.Adding.TheVariants.{AuxOut};
-ghost use Rattle.parts.specs.Parts.{selected_of, parts_for, naming_of, adding_of};
-ghost use Rattle.constraints.specs.Outside.{outside, lacks, Finds, with_clauses, Appends};
+ghost use Rattle.parts.specs.Parts.{parts_for, naming_of, adding_of};
+ghost use Rattle.constraints.specs.Outside.{outside, lacks, Finds, Appends};
 ghost use Rattle.index.specs.Views.{catalogue_in, counts_in};
 
 use cache::Choice;
-use encoder::{Counters, Run};
+use encoder::{Run, State};
 use index::Index;
 use parts::{Adding, Parts};
 use solver::Clause;
-use state::Limits;
 use variable_map::Origin;
 
 // ---- variables
 
 // Is part p outside range r, and without a variable?
-fn lacks_variable(index: &Index, s: &[u8], l: Limits, n: usize, r: usize, p: usize) -> bool
-    requires fits { Fits l (length s.now) }
-    requires mapped { Mapped l n (held l s.now) × (p < (counts_in index.now).parts) }
-    ensures { result ≡ lacks (catalogue_in index.now) (variables n (held l s.now)) r p }
+fn lacks_variable(index: &Index, state: &State, r: usize, p: usize) -> bool
+    requires mapped { IsMapped state.now × (p < (counts_in index.now).parts) }
+    ensures { result ≡ lacks (catalogue_in index.now) (variables_of state.now) r p }
 {
-    variable_map::variable(s, l, n, Origin::Part(p as u16)).is_none()
+    state.variable(Origin::Part(p as u16)).is_none()
         && index.areas.chosen(r, Choice::NonMatching, p)
 }
 
 // From part `from` on, the first one outside range r that has no variable; or how many parts there are.
-fn next_unnamed(index: &Index, s: &[u8], l: Limits, n: usize, r: usize, from: usize) -> usize
-    requires fits { Fits l (length s.now) }
-    requires mapped { Mapped l n (held l s.now) × (r < (counts_in index.now).ranges) × (from ≤ (counts_in index.now).parts) }
-    ensures { Finds (counts_in index.now).parts (lacks (catalogue_in index.now) (variables n (held l s.now)) r) from result }
+fn next_unnamed(index: &Index, state: &State, r: usize, from: usize) -> usize
+    requires mapped { IsMapped state.now × (r < (counts_in index.now).ranges) × (from ≤ (counts_in index.now).parts) }
+    ensures { Finds (counts_in index.now).parts (lacks (catalogue_in index.now) (variables_of state.now) r) from result }
 {
     let mut p = from;
     while p < index.areas.tables.counts.parts {
-        if lacks_variable(index, s, l, n, r, p) {
+        if lacks_variable(index, state, r, p) {
             return p;
         }
         p = index.next_outside(r, p);
@@ -49,137 +45,83 @@ fn next_unnamed(index: &Index, s: &[u8], l: Limits, n: usize, r: usize, from: us
 }
 
 // Each part outside range r gets its variable.
-pub fn name_outside(index: &Index, s: &mut [u8], l: Limits, n: Counters, r: usize) -> Counters
-    requires fits { Fits l (length s.old) }
-    requires good_alone { GoodAlone (catalogue_in index.now) l n (held l s.old) }
+pub fn name_outside(index: &Index, state: &mut State, r: usize)
+    requires good { IsGood (catalogue_in index.now) state.old }
     requires r_lt_ranges { r < (counts_in index.now).ranges }
-    ensures { StateDid (catalogue_in index.now) l (λ v. fold (naming_of (catalogue_in index.now) Variable) (parts_for (catalogue_in index.now) (outside r))) n (held l s.old) result (held l s.new) }
+    ensures { StateDoes (catalogue_in index.now) (λ v. fold (naming_of (catalogue_in index.now) Variable) (parts_for (catalogue_in index.now) (outside r))) state.old state.new }
 {
-    let mut m = n;
     let first = index.first_chosen(r, Choice::NonMatching);
-    let mut p = next_unnamed(index, s, l, n.variables, r, first);
+    let mut p = next_unnamed(index, state, r, first);
     while p < index.areas.tables.counts.parts {
-        m = opening::name_variable(s, l, m, Origin::Part(p as u16));
+        opening::name_variable(state, Origin::Part(p as u16));
         let next = index.next_outside(r, p);
-        p = next_unnamed(index, s, l, m.variables, r, next);
+        p = next_unnamed(index, state, r, next);
     }
-    m
 }
 
 // ---- clauses
 
-// The aux-out clause of part p, if it is outside range r: behind the `count` that are stored, where there is room and the part is not true.
-// How many are stored with it; none where it is left to be added with all counters.
+// The aux-out clause of part p, if it is outside range r, is stored where there is room and the part is not true; y is the violation.
+// False where the part is left, and nothing was done.
 fn append_next(
     index: &Index,
-    s: &[u8],
+    state: &mut State,
     clauses: &mut [u8],
-    l: Limits,
-    n: Counters,
     r: usize,
     y: u16,
-    count: usize,
     p: usize,
-) -> Option<usize>
-    requires fits { Fits l (length s.now) }
-    requires good { Good (catalogue_in index.now) l (with_clauses count n) (held l s.now) clauses.old [] }
-    requires long_enough { LongEnough l (length clauses.old) 16384 }
+) -> bool
+    requires good { IsGoodWith (catalogue_in index.now) state.old clauses.old [] }
+    requires long_enough { LongEnough state.old.limits (length clauses.old) 16384 }
     requires p_lt_parts { p < (counts_in index.now).parts }
-    requires known_unless_full { KnownUnlessFull (is_full n) (variables n.variables (held l s.now)) (parts_for (catalogue_in index.now) (outside r)) }
-    ensures { Appends (catalogue_in index.now) l r y n (held l s.now) count p clauses.old result clauses.new }
+    requires known_unless_full { KnownUnlessFull (is_full state.old.used) (variables_of state.old) (parts_for (catalogue_in index.now) (outside r)) }
+    ensures { Appends (catalogue_in index.now) r y p state.old clauses.old result state.new clauses.new }
 {
     if !index.areas.chosen(r, Choice::NonMatching, p) {
-        return Some(count);
+        return true;
     }
-    if n.full != 0 {
-        return None;
+    if state.used.full != 0 {
+        return false;
     }
-    let x = opening::variable_of(s, l, n, Origin::Part(p as u16));
-    if decision_tracker::is_true(s, l, n.decisions, x) {
-        return None;
+    let x = opening::variable_of(state, Origin::Part(p as u16));
+    if state.is_true(x) {
+        return false;
     }
-    if count < l.clauses {
+    if state.used.clauses < state.limits.clauses {
         let clause = Clause::AuxOut {
             variable: x,
             violation: y,
         };
-        return Some(solver::append(clauses, count, clause.row(None)));
+        state.used.clauses = solver::append(clauses, state.used.clauses, clause.row(None));
+        return true;
     }
-    None
-}
-
-// The same with all counters, of which `count` is the number of clauses.
-fn add_left(
-    index: &Index,
-    s: &mut [u8],
-    clauses: &mut [u8],
-    l: Limits,
-    n: Counters,
-    run: Run,
-    r: usize,
-    y: u16,
-    count: usize,
-    p: usize,
-) -> Counters
-    requires fits { Fits l (length s.old) }
-    requires good { Good (catalogue_in index.now) l (with_clauses count n) (held l s.old) clauses.old [] }
-    requires long_enough { LongEnough l (length clauses.old) 16384 }
-    requires number_nonzero { (0 < run.number) × (y < l.variables) × (p < (counts_in index.now).parts) }
-    requires known_unless_full { KnownUnlessFull (is_full n) (variables n.variables (held l s.old)) (parts_for (catalogue_in index.now) (outside r)) }
-    ensures { ClausesDid (catalogue_in index.now) l (λ v. when (selected_of (catalogue_in index.now) (outside r) p) (adding_of (run_of run) (AuxOut y) p)) (with_clauses count n) (held l s.old) clauses.old result (held l s.new) clauses.new }
-{
-    parts::add_if(
-        index,
-        s,
-        clauses,
-        l,
-        Counters {
-            clauses: count,
-            ..n
-        },
-        run,
-        Parts::Chosen {
-            range: r,
-            choice: Choice::NonMatching,
-        },
-        Adding::AuxOut(y),
-        p,
-    )
+    false
 }
 
 // The aux-out clause of each part outside range r, whose violation is y.
-pub fn add_outs(
-    index: &Index,
-    s: &mut [u8],
-    clauses: &mut [u8],
-    l: Limits,
-    n: Counters,
-    run: Run,
-    r: usize,
-    y: u16,
-) -> Counters
-    requires fits { Fits l (length s.old) }
-    requires good { Good (catalogue_in index.now) l n (held l s.old) clauses.old [] }
-    requires long_enough { LongEnough l (length clauses.old) 16384 }
-    requires number_nonzero { (0 < run.number) × (y < l.variables) × (r < (counts_in index.now).ranges) }
-    requires known_unless_full { KnownUnlessFull (is_full n) (variables n.variables (held l s.old)) (parts_for (catalogue_in index.now) (outside r)) }
-    ensures { ClausesDid (catalogue_in index.now) l (λ v. fold (adding_of (run_of run) (AuxOut y)) (parts_for (catalogue_in index.now) (outside r))) n (held l s.old) clauses.old result (held l s.new) clauses.new }
+pub fn add_outs(index: &Index, state: &mut State, clauses: &mut [u8], run: Run, r: usize, y: u16)
+    requires good { IsGoodWith (catalogue_in index.now) state.old clauses.old [] }
+    requires long_enough { LongEnough state.old.limits (length clauses.old) 16384 }
+    requires number_nonzero { (0 < run.number) × (y < state.old.limits.variables) × (r < (counts_in index.now).ranges) }
+    requires known_unless_full { KnownUnlessFull (is_full state.old.used) (variables_of state.old) (parts_for (catalogue_in index.now) (outside r)) }
+    ensures { ClausesDoes (catalogue_in index.now) (λ v. fold (adding_of (run_of run) (AuxOut y)) (parts_for (catalogue_in index.now) (outside r))) state.old clauses.old state.new clauses.new }
 {
-    let mut m = n;
-    let mut count = n.clauses;
     let mut p = index.first_chosen(r, Choice::NonMatching);
     while p < index.areas.tables.counts.parts {
-        match append_next(index, s, clauses, l, m, r, y, count, p) {
-            Some(more) => count = more,
-            None => {
-                m = add_left(index, s, clauses, l, m, run, r, y, count, p);
-                count = m.clauses;
-            }
+        if !append_next(index, state, clauses, r, y, p) {
+            parts::add_if(
+                index,
+                state,
+                clauses,
+                run,
+                Parts::Chosen {
+                    range: r,
+                    choice: Choice::NonMatching,
+                },
+                Adding::AuxOut(y),
+                p,
+            );
         }
         p = index.next_outside(r, p);
-    }
-    Counters {
-        clauses: count,
-        ..m
     }
 }

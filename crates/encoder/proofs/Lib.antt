@@ -4,3 +4,4 @@ pub mod Counted
 pub mod Frames
 pub mod Widening
 pub mod Clauses
+pub mod Does

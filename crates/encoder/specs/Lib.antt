@@ -1,3 +1,4 @@
 pub mod Held
 pub mod Did
 pub mod Clauses
+pub mod Does

@@ -21,13 +21,14 @@ use Rattle.rules.proofs.Line.{join_all_opening, link_all_opening}
 use Rattle.rules.proofs.Forgotten.{forget}
 use Rattle.state.specs.declared.Limits.{Limits}
 use Rattle.encoder.specs.declared.Counters.{Counters}
-use Rattle.encoder.specs.Held.{Good}
-use Rattle.encoder.specs.Did.{ClausesDid}
+use Rattle.encoder.specs.declared.State as encoder
+use Rattle.encoder.specs.Does.{ClausesDoes, IsGoodWith}
+use Rattle.encoder.proofs.Does.{clauses_do_all}
 use Rattle.naming.specs.Settled.{Noted, AllSettled, Settles}
 use Rattle.naming.proofs.Settled.{Stands, settled_stands, other_areas}
-use Rattle.naming.proofs.AlikeDid.{did_alike, settles_by}
-use Rattle.beginning.specs.Beginning.{reading_of, Reaches, Begins}
-use Rattle.serving.specs.Flags.{Flagged}
+use Rattle.naming.proofs.AlikeDid.{does_alike, settled_by}
+use Rattle.beginning.specs.Beginning.{reading_of, Reaches, Begins, IsReached, RunBegins}
+use Rattle.serving.specs.Flags.{AreFlagged}
 use Rattle.serving.proofs.Stands.{then, each_stands, open_owner_stands, fire_stands}
 
 -- ---- a run begins
@@ -51,8 +52,8 @@ module _ {c : Catalogue} {l : Limits} {n a : Counters} {st st₁ : ℕ → List 
             other_areas l (reading_of s) v a st₁ cl wt cl' wt' (rw (x.done s h.given h.reached h.holds f) now);
       }
 
-  pub begun_flagged : {flags : List Bool} → Flagged c l flags n st → Flagged c l flags a st₁
-  begun_flagged k = record { settles = λ i z. begun_settles (k.settles i z) }
+pub begun_flagged : {c : Catalogue} {x a : encoder.State} {cl wt : List ℕ} {flags : List Bool} → RunBegins c x cl wt a → IsReached c x cl wt → AreFlagged c flags x → AreFlagged c flags a
+begun_flagged d h k = rw d.limits (record { settles = λ i z. begun_settles d.did h (k.settles i z) })
 
 -- ---- the named parts join
 
@@ -104,9 +105,11 @@ module _ (c : Catalogue) where
               };
         }
 
-module _ {c : Catalogue} {l : Limits} (r : Run) {n n' : Counters} {st st' : ℕ → List ℕ} {cl cl' : List ℕ} {flags : List Bool} (g : Good c l n st cl []) where
-  pub joined_flagged : ClausesDid c l (λ v. join_all c r) n st cl n' st' cl' → Flagged c l flags n st → Flagged c l flags n' st'
-  joined_flagged d f = record { settles = λ i z. settles_by (did_alike (d.is [])) g (λ v e. joined_settled c r _ ((f.settles i z).held e v cl [])) }
+module _ {c : Catalogue} (r : Run) {x x' : encoder.State} {cl cl' : List ℕ} {flags : List Bool} (g : IsGoodWith c x cl []) where
+  pub joined_flagged : ClausesDoes c (λ v. join_all c r) x cl x' cl' → AreFlagged c flags x → AreFlagged c flags x'
+  joined_flagged d f =
+      record { settles = λ i z. settled_by (does_alike (clauses_do_all {wt = []} d)) g (λ v e. joined_settled c r _ ((f.settles i z).held e v cl [])) }
 
-  pub linked_flagged : ClausesDid c l (λ v. link_all c r) n st cl n' st' cl' → Flagged c l flags n st → Flagged c l flags n' st'
-  linked_flagged d f = record { settles = λ i z. settles_by (did_alike (d.is [])) g (λ v e. linked_settled c r _ ((f.settles i z).held e v cl [])) }
+  pub linked_flagged : ClausesDoes c (λ v. link_all c r) x cl x' cl' → AreFlagged c flags x → AreFlagged c flags x'
+  linked_flagged d f =
+      record { settles = λ i z. settled_by (does_alike (clauses_do_all {wt = []} d)) g (λ v e. linked_settled c r _ ((f.settles i z).held e v cl [])) }

@@ -1,7 +1,7 @@
 -- A run: begun, its line served, the named parts joined, the new one-of-name variables linked.
 use mathlib.Core.Path.{◌≡◌, refl, sym, ◌∙◌, ap}
 use mathlib.Core.Bool.{true, false, true≢false}
-use mathlib.Core.List.{List}
+use mathlib.Core.List.{List, []}
 use Prim.Native.Nat.{ℕ, ◌+◌, ◌≤◌}
 use native.Mathlib.Omega.{arith}
 use lib.ListN.{length}
@@ -18,31 +18,30 @@ use Rattle.rules.proofs.Line.{run_from}
 use Rattle.rules.proofs.Grows.{prefix_length}
 use Rattle.rules.proofs.Forgotten.{forget}
 use Rattle.state.specs.declared.Limits.{Limits}
+use Rattle.state.specs.Layout.{held}
+use Rattle.state.proofs.Sizes.{length_line}
 use Rattle.variable_map.specs.Mapping.{variables, AllKnown}
 use Rattle.variable_map.proofs.Laws.{count}
 use Rattle.marked.specs.Marked.{listed}
 use Rattle.encoder.specs.declared.Counters.{Counters}
 use Rattle.encoder.specs.declared.Run.{Run}
-use Rattle.encoder.specs.Held.{Reading, run_of, opening_of, state_of, LongEnough, Good}
+use Rattle.encoder.specs.declared.State as encoder
+use Rattle.encoder.specs.Held.{Reading, run_of, opening_of, state_of, Good}
 use Rattle.encoder.specs.Did.{room_of, ClausesDid, is_full}
+use Rattle.encoder.specs.Does.{ClausesDoes, IsGoodWith}
 use Rattle.state.specs.Limits.{limits_of}
-use Rattle.encoder.proofs.Steps.{long_same}
+use Rattle.encoder.proofs.Steps.{good_waiting}
 use Rattle.naming.specs.Alike.{AlikeIn}
 use Rattle.naming.proofs.Alike.{in_same}
 use Rattle.tracking.specs.Joining.{CanJoin, CanLink}
-use Rattle.serving.specs.Line.{taken, Point, Begun, LineServed}
+use Rattle.serving.specs.Line.{taken, Point, Begun, LineServed, IsBegun, ServesLine}
 use Rattle.beginning.specs.Beginning.{reading_of}
 use Rattle.serving.proofs.Point.{taken_none}
-use Rattle.serving.proofs.Tasks.{long_most}
-use Rattle.beginning.specs.Beginning.{Holds, Reaches, Begins}
-use Rattle.encoding.specs.Running.{RunDid}
+use Rattle.beginning.specs.Beginning.{Holds, Reaches, Begins, IsReached, RunBegins}
+use Rattle.encoding.specs.Running.{RunDid, RunsOnce}
 use Rattle.beginning.proofs.Begin.{held_count, drawn_few}
 use Rattle.encoding.proofs.BothEnds.{held_run, held_entries, run_begins, any_reading_law, joined, run_ends, joined_over, linked_over}
 use Rattle.encoding.proofs.Known.{Tracked, first_tracked, point_tracked, joined_tracked}
-
--- for a step that does not look at the waiting area
-pub long_alone : {l : Limits} {cl cl' wt : ℕ} → cl' ≡ cl → LongEnough l cl wt → LongEnough l cl' 16384
-long_alone e h = long_most (long_same e h)
 
 -- ---- in the areas
 
@@ -84,8 +83,8 @@ module _ {c : Catalogue} {l : Limits} {r : Run} {n a : Counters} {st st₁ : ℕ
     first_point f = run_begins g reached run_is size refl refl (held_entries h) x.first (x.done s g reached h f)
 
   -- what serving the line asks
-  pub line_begun : Reaches c l n st cl wt → Begun c l (run_of r) n.drawn a st₁ cl wt
-  line_begun h =
+  begun_here : Reaches c l n st cl wt → Begun c l (run_of r) n.drawn a st₁ cl wt
+  begun_here h =
       record {
         level = r.level;
         state = h.state;
@@ -98,8 +97,8 @@ module _ {c : Catalogue} {l : Limits} {r : Run} {n a : Counters} {st st₁ : ℕ
 
   module _ {b : Counters} {st₂ : ℕ → List ℕ} {cl₂ wt₂ : List ℕ} (y : LineServed c l (run_of r) n.drawn a st₁ cl wt b st₂ cl₂ wt₂) where
     -- full already: when the run began, or in its line
-    pub line_over : is_full b ≡ true → RunDid c l r.level n st cl wt b st₂ cl₂ wt₂
-    line_over f =
+    over_here : is_full b ≡ true → RunDid c l r.level n st cl wt b st₂ cl₂ wt₂
+    over_here f =
         record {
           done = λ s g reached h z. absurd (true≢false (sym f ∙ z));
           over = λ s g reached h _. by_cases (is_full a) (λ e. x.over s g reached h e r.level)
@@ -126,24 +125,24 @@ module _ {c : Catalogue} {l : Limits} {r : Run} {n a : Counters} {st st₁ : ℕ
         last_tracked : Tracked s.variables last_point.at
         last_tracked = point_tracked c (run_of r) (first_tracked reached) last_point.after
 
-      -- what joining asks
-      pub can_join : Reaches c l n st cl wt → CanJoin b st₂ r
-      can_join h =
+      -- the run began with no more variables, and tracked parts have variables
+      served_known : Reaches c l n st cl wt → (r.before ≤ b.variables) × AllKnown (variables b.variables st₂) (listed b.tracked 10 st₂)
+      served_known h =
           let g = h.given in
           let reached = h.reached in
           let v = reading_of h.state in
           let e = last_is g reached h.holds v in
           let k = last_tracked g reached h.holds in
           let old : r.before ≡ length h.state.variables = unfold run_of in ap (λ (z : rules.Run). z.before) (run_is g reached h.holds) in
-          record { going = f; number = rw w.number (omega arith); older = rw old (older_here c l v b st₂ cl₂ wt₂ k e); known = known_here c l v b st₂ cl₂ wt₂ k e }
+          (rw old (older_here c l v b st₂ cl₂ wt₂ k e), known_here c l v b st₂ cl₂ wt₂ k e)
 
       module _ {d : Counters} {st₃ : ℕ → List ℕ} {cl₃ : List ℕ} (j : ClausesDid c l (λ v. join_all c (run_of r)) b st₂ cl₂ d st₃ cl₃) where
-        pub joined_good : Good c l d st₃ cl₃ wt₂
-        joined_good = (j.is wt₂).good y.good
+        good_here : Good c l d st₃ cl₃ wt₂
+        good_here = (j.is wt₂).good y.good
 
         -- full when the parts had joined
-        pub join_over : is_full d ≡ true → RunDid c l r.level n st cl wt d st₃ cl₃ wt₂
-        join_over z =
+        join_over_here : is_full d ≡ true → RunDid c l r.level n st cl wt d st₃ cl₃ wt₂
+        join_over_here z =
             record {
               done = λ s g reached h i. absurd (true≢false (sym z ∙ i));
               over = λ s g reached h _. joined_over (last_point g reached h) refl (last_is g reached h (reading_of s)) (room_of l b)
@@ -154,9 +153,9 @@ module _ {c : Catalogue} {l : Limits} {r : Run} {n a : Counters} {st st₁ : ℕ
           join_is : (v : Reading) → state_of c l v d st₃ cl₃ wt₂ ≡ join_all c (run_of r) (state_of c l v b st₂ cl₂ wt₂)
           join_is v = (j.is wt₂).done y.good f z v
 
-          -- what linking asks
-          pub can_link : Reaches c l n st cl wt → CanLink d st₃
-          can_link h =
+          -- tracked parts have variables, and no origin has two
+          joined_known : Reaches c l n st cl wt → AllKnown (variables d.variables st₃) (listed d.tracked 10 st₃) × Distinct (variables d.variables st₃)
+          joined_known h =
               let g = h.given in
               let reached = h.reached in
               let v = reading_of h.state in
@@ -164,20 +163,81 @@ module _ {c : Catalogue} {l : Limits} {r : Run} {n a : Counters} {st st₁ : ℕ
               let e : AlikeIn c (forget (join_all c (run_of r) at)) (state_of c l v d st₃ cl₃ wt₂) =
               rw (join_is v ∙ joined (last_point g reached h.holds) refl (last_is g reached h.holds v)) in_same in
               let t = joined_tracked c (run_of r) (last_tracked g reached h.holds) in
-              record { going = z; known = known_here c l v d st₃ cl₃ wt₂ t e; apart = apart_here c l v d st₃ cl₃ wt₂ t e }
+              (known_here c l v d st₃ cl₃ wt₂ t e, apart_here c l v d st₃ cl₃ wt₂ t e)
 
           module _ {m : Counters} {st₄ : ℕ → List ℕ} {cl₄ : List ℕ} (k : ClausesDid c l (λ v. link_all c (run_of r)) d st₃ cl₃ m st₄ cl₄) where
             -- the run carried out, or full at its very end
-            pub ran : RunDid c l r.level n st cl wt m st₄ cl₄ wt₂
-            ran =
+            ran_here : RunDid c l r.level n st cl wt m st₄ cl₄ wt₂
+            ran_here =
                 record {
                   done = λ s g reached h i.
                       record {
-                        good = (k.is wt₂).good joined_good;
-                        hand = ((k.is wt₂).beside joined_good).marked 0 (((j.is wt₂).beside y.good).marked 0 y.hand);
+                        good = (k.is wt₂).good good_here;
+                        hand = ((k.is wt₂).beside good_here).marked 0 (((j.is wt₂).beside y.good).marked 0 y.hand);
                         room = i;
-                        is = λ v. (k.is wt₂).done joined_good z i v ∙ (ap (link_all c (run_of r)) (join_is v) ∙ run_ends (last_point g reached h) refl (last_is g reached h v));
+                        is = λ v. (k.is wt₂).done good_here z i v ∙ (ap (link_all c (run_of r)) (join_is v) ∙ run_ends (last_point g reached h) refl (last_is g reached h v));
                       };
                   over = λ s g reached h i. linked_over (last_point g reached h) refl (last_is g reached h (reading_of s)) (room_of l d)
-                      (rw (join_is (reading_of s)) at ((k.is wt₂).over joined_good z i (reading_of s)));
+                      (rw (join_is (reading_of s)) at ((k.is wt₂).over good_here z i (reading_of s)));
                 }
+
+-- ---- the run, of the encoder's state
+
+module _ {c : Catalogue} {r : Run} {x a : encoder.State} {cl wt : List ℕ} (w : From x.used r) (k : RunBegins c x cl wt a) where
+  begun_size : length (held x.limits a.area.now 20) ≡ 3649 + x.limits.waiting
+  begun_size = length_line x.limits a.area.now (rw k.limits at a.fits)
+
+  -- what serving the line asks
+  pub line_begun : IsReached c x cl wt → IsBegun c (run_of r) x.used.drawn a cl wt
+  line_begun h = rw k.limits (begun_here w begun_size k.did h)
+
+  module _ {b : encoder.State} {cl₂ wt₂ : List ℕ} (y : ServesLine c (run_of r) x.used.drawn a cl wt b cl₂ wt₂) where
+    line_served : LineServed c x.limits (run_of r) x.used.drawn a.used (held x.limits a.area.now) cl wt b.used (held x.limits b.area.now) cl₂ wt₂
+    line_served = rw k.limits at y.served
+
+    served_limits : b.limits ≡ x.limits
+    served_limits = y.limits ∙ k.limits
+
+    -- full already: when the run began, or in its line
+    pub line_over : is_full b.used ≡ true → RunsOnce c r.level x cl wt b cl₂ wt₂
+    line_over f = record { limits = served_limits; area = y.area ∙ k.area; did = over_here w begun_size k.did line_served f }
+
+    pub good_served : IsGoodWith c b cl₂ []
+    good_served = rw served_limits (good_waiting [] line_served.good)
+
+    module _ (f : is_full b.used ≡ false) where
+      -- what joining asks
+      pub can_join : IsReached c x cl wt → CanJoin b r
+      can_join h =
+          let q = served_known w begun_size k.did line_served f h in
+          record { going = f; number = rw w.number (omega arith); older = q.0; known = rw served_limits q.1 }
+
+      module _ {d : encoder.State} {cl₃ : List ℕ} (j : ClausesDoes c (λ v. join_all c (run_of r)) b cl₂ d cl₃) where
+        joined_in : ClausesDid c x.limits (λ v. join_all c (run_of r)) b.used (held x.limits b.area.now) cl₂ d.used (held x.limits d.area.now) cl₃
+        joined_in = rw served_limits at j.did
+
+        joined_limits : d.limits ≡ x.limits
+        joined_limits = j.limits ∙ served_limits
+
+        joined_area : d.area.ghost_name ≡ x.area.ghost_name
+        joined_area = j.area ∙ (y.area ∙ k.area)
+
+        -- full when the parts had joined
+        pub join_over : is_full d.used ≡ true → RunsOnce c r.level x cl wt d cl₃ wt₂
+        join_over z = record { limits = joined_limits; area = joined_area; did = join_over_here w begun_size k.did line_served f joined_in z }
+
+        module _ (z : is_full d.used ≡ false) where
+          -- what linking asks
+          pub can_link : IsReached c x cl wt → CanLink d
+          can_link h =
+              let q = joined_known w begun_size k.did line_served f joined_in z h in
+              record { going = z; known = rw joined_limits q.0; apart = rw joined_limits q.1 }
+
+          -- the run carried out, or full at its very end
+          pub ran : {m : encoder.State} {cl₄ : List ℕ} → ClausesDoes c (λ v. link_all c (run_of r)) d cl₃ m cl₄ → RunsOnce c r.level x cl wt m cl₄ wt₂
+          ran i =
+              record {
+                limits = i.limits ∙ joined_limits;
+                area = i.area ∙ joined_area;
+                did = ran_here w begun_size k.did line_served f joined_in z (rw joined_limits at i.did);
+              }

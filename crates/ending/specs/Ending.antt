@@ -10,6 +10,8 @@ use Rattle.refusal.specs.declared.RefusedAt.{RefusedAt}
 use Rattle.refusal.specs.Refusing.{refusal_of}
 use Rattle.state.specs.declared.Limits.{Limits}
 use Rattle.encoder.specs.declared.Counters.{Counters}
+use Rattle.encoder.specs.declared.State as encoder
+use Rattle.encoder.specs.Does.{regions_of}
 use Rattle.beginning.specs.Beginning.{Holds}
 use Rattle.ending.specs.declared.Accepted.{Accepted}
 
@@ -33,3 +35,11 @@ pub record Prints (c : Catalogue) (l : Limits) (n : Counters) (st : ℕ → List
 pub record Finishes (c : Catalogue) (l : Limits) (n : Counters) (st : ℕ → List ℕ) (cl wt : List ℕ) (r : Result Accepted RefusedAt) (out out' : List ℕ) : Type 0 where
   pub is : (s : State) → Holds c l s n st cl wt → (t : Terms) (job : List ℕ) → t.listing ≡ length out
       → Comes job (ended_by t job c (unless_any (ending t job c s) s)) r out out'
+
+-- ---- the same two of the encoder's state and the two other areas
+
+abbrev pub IsPrinted : Catalogue → encoder.State → (cl wt : List ℕ) → Result Accepted RefusedAt → (out out' : List ℕ) → Type 0
+IsPrinted c x cl wt r out out' = Prints c x.limits x.used (regions_of x) cl wt r out out'
+
+abbrev pub IsFinished : Catalogue → encoder.State → (cl wt : List ℕ) → Result Accepted RefusedAt → (out out' : List ℕ) → Type 0
+IsFinished c x cl wt r out out' = Finishes c x.limits x.used (regions_of x) cl wt r out out'

@@ -3,18 +3,16 @@
 #![tactic(auto)]
 
 ghost use Rattle.std.specs.Prelude.{◌≡◌, [], length};
-ghost use Rattle.state.specs.Layout.{held, Fits};
 ghost use Rattle.encoder.specs.Held.{LongEnough};
-ghost use Rattle.beginning.specs.Beginning.{Reaches};
+ghost use Rattle.beginning.specs.Beginning.{IsReached};
 ghost use Rattle.text.specs.Text.{Addressable};
-ghost use Rattle.line_fields.specs.Listed.{Lists};
-ghost use Rattle.ending.specs.Ending.{Prints, Finishes};
+ghost use Rattle.line_fields.specs.Listed.{IsListed};
+ghost use Rattle.ending.specs.Ending.{IsPrinted, IsFinished};
 ghost use Rattle.index.specs.Views.{catalogue_of};
 
-use encoder::Counters;
+use encoder::State;
 use index::Catalogue;
 use refusal::{Refusal, RefusedAt};
-use state::Limits;
 
 // How long the listing of a job is, and how many variables and clauses it has.
 #[derive(Clone, Copy, Debug, PartialEq, Eq)]
@@ -25,74 +23,60 @@ pub struct Accepted {
 }
 
 // How long the listing is, or one more than `room` if it is longer than that. Nothing is written.
-fn measure(
-    catalogue: &Catalogue,
-    s: &[u8],
-    clauses: &[u8],
-    w: &[u8],
-    l: Limits,
-    n: Counters,
-    room: usize,
-) -> usize
-    requires fits { Fits l (length s.now) × Addressable room }
-    requires long_enough { LongEnough l (length clauses.now) (length w.now) }
-    requires reaches { Reaches (catalogue_of catalogue.now) l n (held l s.now) clauses.now w.now }
-    ensures { Lists (catalogue_of catalogue.now) l n (held l s.now) clauses.now w.now room result [] [] }
+fn measure(catalogue: &Catalogue, state: &State, clauses: &[u8], w: &[u8], room: usize) -> usize
+    requires addressable { Addressable room }
+    requires long_enough { LongEnough state.now.limits (length clauses.now) (length w.now) }
+    requires reaches { IsReached (catalogue_of catalogue.now) state.now clauses.now w.now }
+    ensures { IsListed (catalogue_of catalogue.now) state.now clauses.now w.now room result [] [] }
 {
-    listing::write(catalogue, s, clauses, w, l, n, &mut [], room)
+    listing::write(catalogue, state, clauses, w, &mut [], room)
 }
 
 // The listing is written if it fits into the area.
 fn print(
     catalogue: &Catalogue,
-    s: &[u8],
+    state: &State,
     clauses: &[u8],
     w: &[u8],
-    l: Limits,
-    n: Counters,
     out: &mut [u8],
 ) -> Result<Accepted, RefusedAt>
-    requires fits { Fits l (length s.now) }
-    requires long_enough { LongEnough l (length clauses.now) (length w.now) }
-    requires reaches { Reaches (catalogue_of catalogue.now) l n (held l s.now) clauses.now w.now }
-    ensures { Prints (catalogue_of catalogue.now) l n (held l s.now) clauses.now w.now result out.old out.new }
+    requires long_enough { LongEnough state.now.limits (length clauses.now) (length w.now) }
+    requires reaches { IsReached (catalogue_of catalogue.now) state.now clauses.now w.now }
+    ensures { IsPrinted (catalogue_of catalogue.now) state.now clauses.now w.now result out.old out.new }
 {
     let room = out.len();
-    let length = measure(catalogue, s, clauses, w, l, n, room);
+    let length = measure(catalogue, state, clauses, w, room);
     if room < length {
         return Err(RefusedAt {
             refusal: Refusal::ListingFull,
             at: 0,
         });
     }
-    listing::write(catalogue, s, clauses, w, l, n, out, room);
+    listing::write(catalogue, state, clauses, w, out, room);
     Ok(Accepted {
         length,
-        variables: n.variables,
-        clauses: n.clauses,
+        variables: state.used.variables,
+        clauses: state.used.clauses,
     })
 }
 
 // The end of a job: nothing added or drawn may be left, and the listing must fit.
 pub fn finish(
     catalogue: &Catalogue,
-    s: &[u8],
+    state: &State,
     clauses: &[u8],
     w: &[u8],
-    l: Limits,
-    n: Counters,
     out: &mut [u8],
 ) -> Result<Accepted, RefusedAt>
-    requires fits { Fits l (length s.now) }
-    requires long_enough { LongEnough l (length clauses.now) (length w.now) }
-    requires reaches { Reaches (catalogue_of catalogue.now) l n (held l s.now) clauses.now w.now }
-    ensures { Finishes (catalogue_of catalogue.now) l n (held l s.now) clauses.now w.now result out.old out.new }
+    requires long_enough { LongEnough state.now.limits (length clauses.now) (length w.now) }
+    requires reaches { IsReached (catalogue_of catalogue.now) state.now clauses.now w.now }
+    ensures { IsFinished (catalogue_of catalogue.now) state.now clauses.now w.now result out.old out.new }
 {
-    if n.added != 0 || n.drawn != 0 {
+    if state.used.added != 0 || state.used.drawn != 0 {
         return Err(RefusedAt {
             refusal: Refusal::NotRun,
             at: 0,
         });
     }
-    print(catalogue, s, clauses, w, l, n, out)
+    print(catalogue, state, clauses, w, out)
 }

@@ -20,25 +20,28 @@ use Rattle.state.specs.declared.Limits.{Limits}
 use Rattle.variable_map.specs.Mapping.{variables}
 use Rattle.decision_tracker.specs.Tracking.{decisions}
 use Rattle.encoder.specs.declared.Counters.{Counters}
-use Rattle.encoder.specs.Held.{Reading, task_in, fired_now, state_of, GoodAlone}
-use Rattle.encoder.specs.Did.{Widens, on_opening, StateDid, PlainDid, WaitingDid}
+use Rattle.encoder.specs.declared.State as encoder
+use Rattle.encoder.specs.Held.{Reading, task_in, fired_now, state_of}
+use Rattle.encoder.specs.Did.{Widens, on_opening, StateDid, WaitingDid}
+use Rattle.encoder.specs.Does.{StateDoes, PlainDoes, Does, regions_of}
 use Rattle.encoder.proofs.Did.{widens_then, did_then, did_as}
 use Rattle.encoder.proofs.Widening.{Lengthens, lengthens_same, lengthens_then, queue_lengthens, open_names_lengthens, widens_opening}
-use Rattle.encoder.proofs.Steps.{good_waiting, good_alone, state_same, state_then}
-use Rattle.goals.specs.Goals.{true_of}
+use Rattle.encoder.proofs.Does.{does_same, does_then, at_catalogue}
+use Rattle.opening.specs.Does.{WaitingDoes}
+use Rattle.goals.specs.Goals.{true_of, truth_of}
 use Rattle.firing.specs.declared.disjuncts.Indices.{Indices}
-use Rattle.firing.specs.Firing.{judging, indices_in, Lists, waits, queued, queued_if, condition_served, EntriesDid}
+use Rattle.firing.specs.Firing.{judging, indices_in, Lists, waits, queued, queued_if, condition_served, EntriesDid, EntriesDo}
 use Rattle.firing.proofs.Required.{goal_is}
 use Rattle.firing.proofs.Waitings.{waits_widens}
 
 -- ---- a requirement fires
 
 pub fired : (k : Counts) (m us t : List ℕ) (q x : ℕ) (it : ConditionalRequirement) → requirement_is it ≡ get_or (tables k t).requirements q no_requirement
-    → {l : Limits} {n n' n'' : Counters} {st st' st'' : ℕ → List ℕ}
-    → StateDid (catalogue k m us t) l (λ v. on_opening (open_names (catalogue k m us t) (goal_ranges (catalogue k m us t) (goal_of it.requirement)))) n st n' st'
-    → PlainDid l (λ c v. on_opening (queue (task_in c v x))) n' st' n'' st''
-    → StateDid (catalogue k m us t) l (λ v. on_opening (queued (catalogue k m us t) q (task_in (catalogue k m us t) v x))) n st n'' st''
-fired k m us t q x it e d p = state_same (state_then d (p.is (catalogue k m us t))) (λ v s. unfold on_opening queued in rw (goal_is k m us t q it e))
+    → {a a' a'' : encoder.State}
+    → StateDoes (catalogue k m us t) (λ v. on_opening (open_names (catalogue k m us t) (goal_ranges (catalogue k m us t) (goal_of it.requirement)))) a a'
+    → PlainDoes (λ c v. on_opening (queue (task_in c v x))) a' a''
+    → StateDoes (catalogue k m us t) (λ v. on_opening (queued (catalogue k m us t) q (task_in (catalogue k m us t) v x))) a a''
+fired k m us t q x it e d p = does_same (does_then d (at_catalogue p)) (λ v s. unfold on_opening queued in rw (goal_is k m us t q it e))
 
 -- ---- a condition is served
 
@@ -61,11 +64,6 @@ unfolding on_opening queued_if
 queued_some c q t [] s e = absurd (e refl)
 queued_some c q t (i ∷ is) s e = refl
 
--- what holds of the state area holds when some wait
-pub alone_waiting : {c : Catalogue} {l : Limits} {F : Reading → State → State} {n n' : Counters} {st : ℕ → List ℕ} {wt wt' : List ℕ}
-    → WaitingDid l F n wt n' wt' → GoodAlone c l n st → GoodAlone c l n' st
-alone_waiting {c} {st = st} {wt = wt} d g = good_alone ((d.is c st g.clauses).good (good_waiting wt g.good))
-
 -- n, st: when the two lists are made; n': when the others wait
 module _ (c : Catalogue) (q : ℕ) (st : ℕ → List ℕ) {l : Limits} {n n' : Counters} {wt wt' : List ℕ} {stay fire : Indices}
     (a : Lists stay (filter (judging c (true_of (variables n.variables st) (decisions n.decisions st)) q false) (indices c q)))
@@ -77,15 +75,37 @@ module _ (c : Catalogue) (q : ℕ) (st : ℕ → List ℕ) {l : Limits} {n n' : 
   served_is cl v = rw (a.is, b.is)
 
   -- none fires
-  pub served_waits : fire.len ≡ 0 → EntriesDid c l (λ v. condition_served c v q) n st wt n' st wt'
+  served_waits : fire.len ≡ 0 → EntriesDid c l (λ v. condition_served c v q) n st wt n' st wt'
   served_waits e = record {
     is = λ cl. did_as (d.is c st cl) (λ v. served_widens c v q) (λ g f v. sym (queued_none c q _ (indices_in fire) _ (rw b.is (sym b.len ∙ e))) ∙ served_is cl v);
   }
 
   -- some fire
-  pub served_fires : {n'' : Counters} {st' : ℕ → List ℕ} → (fire.len ≡ 0 → ⊥) → StateDid c l (λ v. on_opening (queued c q (task_in c v (2113 + q)))) n' st n'' st'
+  served_fires : {n'' : Counters} {st' : ℕ → List ℕ} → (fire.len ≡ 0 → ⊥) → StateDid c l (λ v. on_opening (queued c q (task_in c v (2113 + q)))) n' st n'' st'
       → EntriesDid c l (λ v. condition_served c v q) n st wt n'' st' wt'
   served_fires e k = record {
     is = λ cl. did_as (did_then (d.is c st cl) (k.is cl wt')) (λ v. served_widens c v q)
         (λ g f v. sym (queued_some c q _ (indices_in fire) _ (λ z. e (b.len ∙ (rw b.is at z)))) ∙ served_is cl v);
   }
+
+-- ---- of the encoder's state
+
+-- x: when the two lists are made; x': when the others wait
+module _ (c : Catalogue) (q : ℕ) {x x' : encoder.State} {wt wt' : List ℕ} {stay fire : Indices}
+    (a : Lists stay (filter (judging c (truth_of x) q false) (indices c q)))
+    (b : Lists fire (filter (judging c (truth_of x) q true) (indices c q)))
+    (d : WaitingDoes (λ v. waits q (indices_in stay)) x wt x' wt') where
+  pub condition_waits : fire.len ≡ 0 → EntriesDo c (λ v. condition_served c v q) x wt x' wt'
+  condition_waits e = record { limits = d.limits; area = d.area; did = rw d.bytes (served_waits c q (regions_of x) a b d.did e) }
+
+  pub condition_fires : {x'' : encoder.State} → (fire.len ≡ 0 → ⊥) → StateDoes c (λ v. on_opening (queued c q (task_in c v (2113 + q)))) x' x''
+      → EntriesDo c (λ v. condition_served c v q) x wt x'' wt'
+  condition_fires e k = record {
+    limits = k.limits ∙ d.limits;
+    area = k.area ∙ d.area;
+    did = served_fires c q (regions_of x) a b d.did e (rw (d.limits, d.bytes) at k.did);
+  }
+
+-- for callers: whatever the clauses are
+pub entries_do_all : {c : Catalogue} {F : Reading → State → State} {x x' : encoder.State} {cl wt wt' : List ℕ} → EntriesDo c F x wt x' wt' → Does c F x cl wt x' cl wt'
+entries_do_all {cl = cl} d = record { limits = d.limits; area = d.area; did = d.did.is cl }

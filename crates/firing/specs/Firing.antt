@@ -8,9 +8,12 @@ use Rattle.rules.specs.Opening.{Task, Opening, queue, open_names, ranges_of, ent
 use Rattle.rules.specs.State.{State, decided_true}
 use Rattle.rules.proofs.Capped.{add_waiting}
 use Rattle.state.specs.declared.Limits.{Limits}
+use Rattle.state.specs.Layout.{held}
 use Rattle.encoder.specs.declared.Counters.{Counters}
+use Rattle.encoder.specs.declared.State as encoder
 use Rattle.encoder.specs.Held.{Reading, task_in, fired_now}
 use Rattle.encoder.specs.Did.{on_opening, Did}
+use Rattle.encoder.specs.Does.{regions_of}
 use Rattle.firing.specs.declared.disjuncts.Judgement.{Judgement}
 use Rattle.firing.specs.declared.disjuncts.Indices.{Indices}
 
@@ -60,3 +63,9 @@ condition_served c v q s =
 pub record EntriesDid (c : Catalogue) (l : Limits) (F : Reading → State → State) (n : Counters) (st : ℕ → List ℕ) (wt : List ℕ)
     (n' : Counters) (st' : ℕ → List ℕ) (wt' : List ℕ) : Type 0 where
   pub is : (cl : List ℕ) → Did c l F n st cl wt n' st' cl wt'
+
+-- the same of the encoder's state and the waiting entries: F was done, in the same areas and within the same limits
+pub record EntriesDo (c : Catalogue) (F : Reading → State → State) (x : encoder.State) (wt : List ℕ) (x' : encoder.State) (wt' : List ℕ) : Type 0 where
+  pub limits : x'.limits ≡ x.limits
+  pub area : x'.area.ghost_name ≡ x.area.ghost_name
+  pub did : EntriesDid c x.limits F x.used (regions_of x) wt x'.used (held x.limits x'.area.now) wt'

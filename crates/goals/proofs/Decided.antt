@@ -105,9 +105,6 @@ module _ (k : Counts) (m u t : List ℕ) (r : ℕ) (f : ℕ → Bool) where
 pub record Holding (c : Catalogue) (f : ℕ → Bool) (xs : Disjunct) (j : ℕ) : Type 0 where
   pub is : holds_now c f (drop j xs) ≡ holds_now c f xs
 
-pub hold_start : (c : Catalogue) (f : ℕ → Bool) (xs : Disjunct) → Holding c f xs 0
-hold_start c f xs = record { is = refl }
-
 -- its ranges are the disjunct's
 pub carried : {t t' : Tables} {d : D.Disjunct} {items : List ℕ} (c i : ℕ) → t ≡ t' → items ≡ ranges_of d → Carries d (get_or (disjuncts (tables_of t).conditions c) i [])
     → items ≡ get_or (disjuncts (tables_of t').conditions c) i []
@@ -212,10 +209,6 @@ pub record Refuting (c : Catalogue) (vs : List Origin) (ds : List Decision) (m :
   pub known : AllKnown vs (concat_map (matching c) (drop j (listed m 14 st)))
   pub is : all (false_of vs ds) (concat_map (matching c) (drop j (listed m 14 st))) ≡ all (false_of vs ds) (concat_map (matching c) (listed m 14 st))
 
-pub refute_start : {c : Catalogue} {vs : List Origin} (ds : List Decision) {m : ℕ} {st : ℕ → List ℕ} → Marked 14 15 m st
-    → AllKnown vs (concat_map (matching c) (listed m 14 st)) → Refuting c vs ds m st 0
-refute_start ds k a = record { marked = k; known = a; is = refl }
-
 module _ {c : Catalogue} {vs : List Origin} {ds : List Decision} {m : ℕ} {st : ℕ → List ℕ} {j : ℕ} (x : Refuting c vs ds m st j) where
   module _ (r : ℕ) (h : j < m) (e : r ≡ get_or (listed m 14 st) j 0) where
     refute_apart : AllKnown vs (concat_map (matching c) (r ∷ drop (j + 1) (listed m 14 st)))
@@ -247,9 +240,6 @@ module _ {c : Catalogue} {vs : List Origin} {ds : List Decision} {m : ℕ} {st :
 pub record Lacking (c : Catalogue) (m : ℕ) (st : ℕ → List ℕ) (j : ℕ) : Type 0 where
   pub marked : Marked 14 15 m st
   pub is : length (concat_map (matching c) (drop j (listed m 14 st))) ≡ length (concat_map (matching c) (listed m 14 st))
-
-pub lack_start : (c : Catalogue) {m : ℕ} {st : ℕ → List ℕ} → Marked 14 15 m st → Lacking c m st 0
-lack_start c k = record { marked = k; is = refl }
 
 module _ {c : Catalogue} {m : ℕ} {st : ℕ → List ℕ} {j : ℕ} (x : Lacking c m st j) where
   module _ (r n : ℕ) (h : j < m) (e : r ≡ get_or (listed m 14 st) j 0) (d : CountedTo 1 n (matching c r)) where

@@ -27,7 +27,17 @@ use Rattle.state.proofs.Changed.{changed_none, changed_then}
 use Rattle.marked.specs.Marked.{listed, is_marked, Marked, Free, Pushed}
 use Rattle.marked.proofs.Laws.{free_after, listed_after, mark_room}
 use Rattle.index.specs.Catalogued.{Catalogued}
-use Rattle.goals.specs.Goals.{noted, Notes, Gathers}
+use Rattle.encoder.specs.declared.State.{State}
+use Rattle.encoder.specs.Does.{regions_of}
+use Rattle.goals.specs.Goals.{noted, Notes, Written, HandNotes, HandGathers}
+
+-- ---- the area alone is written
+
+pub written_same : {x : State} → Written x x
+written_same = record { limits = refl; area = refl; used = refl }
+
+pub written_then : {x x' x'' : State} → Written x x' → Written x' x'' → Written x x''
+written_then d k = record { limits = k.limits ∙ d.limits; area = k.area ∙ d.area; used = k.used ∙ d.used }
 
 -- ---- one number more
 
@@ -51,39 +61,42 @@ pub member_is : {n n' : ℕ} {us us' : List ℕ} (i : ℕ) (a : Member) → us' 
 member_is i a e f q = rw (e, f) at q
 
 -- the loop at place i: the list at hand is that of the rows before
-pub record Gathering (k : Counts) (us : List ℕ) (u : ℕ) (l : Limits) (b₀ b : List ℕ) (m i : ℕ) : Type 0 where
-  pub fits : Fits l (length b)
-  pub same : length b ≡ length b₀
-  pub marked : Marked 14 15 m (held l b)
-  pub others : Changed (14 ∷ 15 ∷ []) (held l b₀) (held l b)
+pub record Gathering (k : Counts) (us : List ℕ) (u : ℕ) (x₀ x : State) (m i : ℕ) : Type 0 where
+  pub written : Written x₀ x
+  pub marked : Marked 14 15 m (regions_of x)
+  pub others : Changed (14 ∷ 15 ∷ []) (regions_of x₀) (regions_of x)
   pub at : At k.members (rows k.members us) u i
-  pub is : listed m 14 (held l b) ≡ distinct (before u i (rows k.members us))
+  pub is : listed m 14 (regions_of x) ≡ distinct (before u i (rows k.members us))
 
 module _ (k : Counts) (ms us t : List ℕ) (u : ℕ) (c : Catalogued k ms us t) where
-  pub gather_start : (l : Limits) (b : List ℕ) (i : ℕ) → Fits l (length b) → Marked 14 15 0 (held l b)
-      → Passes k (rows k.members us) u 0 i → Gathering k us u l b b 0 i
+  pub gather_start : (x : State) (i : ℕ) → Marked 14 15 0 (regions_of x) → Passes k (rows k.members us) u 0 i → Gathering k us u x x 0 i
   unfolding listed
-  gather_start l b i f d x =
-      record { fits = f; same = refl; marked = d; others = changed_none (14 ∷ 15 ∷ []) (held l b); at = x.at; is = sym (distinct_start k ms us t c.kept x) }
+  gather_start x i d p =
+      record { written = written_same; marked = d; others = changed_none (14 ∷ 15 ∷ []) (regions_of x); at = p.at; is = sym (distinct_start k ms us t c.kept p) }
 
-  module _ {l : Limits} {b₀ b : List ℕ} {m i : ℕ} (x : Gathering k us u l b₀ b m i) where
-    pub gather_step : (a : Member) {b' : List ℕ} {m' i' : ℕ} → i < k.members → row_of a ≡ get_or (rows k.members us) i no_row
-        → Notes a.range m (held l b) m' (held l b') → length b' ≡ length b
-        → Passes k (rows k.members us) (get_or (rows k.members us) i no_row).union (i + 1) i' → Gathering k us u l b₀ b' m' i'
+  module _ {x₀ x : State} {m i : ℕ} (g : Gathering k us u x₀ x m i) where
+    pub gather_step : (a : Member) {x' : State} {m' i' : ℕ} → i < k.members → row_of a ≡ get_or (rows k.members us) i no_row → HandNotes a.range m x m' x'
+        → Passes k (rows k.members us) (get_or (rows k.members us) i no_row).union (i + 1) i' → Gathering k us u x₀ x' m' i'
     unfolding noted
-    gather_step a h e q s y =
+    gather_step a h e q y =
         record {
-          fits = rw s x.fits;
-          same = s ∙ x.same;
-          marked = q.marked;
-          others = changed_then x.others q.others;
-          at = at_next k ms us t c.kept x.at a h e y;
-          is = rw (distinct_step k ms us t c.kept x.at a h e y) (rw x.is at q.is);
+          written = written_then g.written q.written;
+          marked = rw q.written.limits q.notes.marked;
+          others = rw q.written.limits (changed_then g.others q.notes.others);
+          at = at_next k ms us t c.kept g.at a h e y;
+          is = rw (q.written.limits, distinct_step k ms us t c.kept g.at a h e y) (rw g.is at q.notes.is);
         }
 
-    pub gather_end : k.members ≤ i → Gathers (distinct (goal_ranges (catalogue k ms us t) (union u))) (held l b₀) m (held l b)
-    gather_end g =
-        record { marked = x.marked; is = x.is ∙ rw (ranges_end k ms us t c.kept u i g, union_ranges k ms us t c.kept u); others = x.others }
+    pub gather_end : k.members ≤ i → HandGathers (distinct (goal_ranges (catalogue k ms us t) (union u))) x₀ m x
+    gather_end h =
+        record {
+          written = g.written;
+          gathers = record {
+            marked = rw g.written.limits at g.marked;
+            is = (rw g.written.limits at g.is) ∙ rw (ranges_end k ms us t c.kept u i h, union_ranges k ms us t c.kept u);
+            others = rw g.written.limits at g.others;
+          };
+        }
 
 pub gather_low : (k : Counts) (us : List ℕ) (i : ℕ) (a : Member) → i < k.members → row_of a ≡ get_or (rows k.members us) i no_row → a.range < 512
 unfolding row_of
@@ -106,11 +119,11 @@ module _ (k : Counts) (ms us t : List ℕ) (q : Requirement) (c : Catalogued k m
       let h : u < length (catalogue k ms us t).unions = rw e at g in
       omega (arith, unions_held k ms us t)
 
-module _ (c : Catalogue) (q : Requirement) {m : ℕ} {st st' : ℕ → List ℕ} where
-  pub gather_range : (r : ℕ) → q ≡ Single r → Notes r 0 st m st' → Gathers (distinct (goal_ranges c (goal_of q))) st m st'
+module _ (c : Catalogue) (q : Requirement) {m : ℕ} {x x' : State} where
+  pub gather_range : (r : ℕ) → q ≡ Single r → HandNotes r 0 x m x' → HandGathers (distinct (goal_ranges c (goal_of q))) x m x'
   unfolding goal_of goal_ranges distinct fold noted listed
-  gather_range r e x = record { marked = x.marked; is = rw e x.is; others = x.others }
+  gather_range r e n = record { written = n.written; gathers = record { marked = n.notes.marked; is = rw e n.notes.is; others = n.notes.others } }
 
-  pub gather_union : (u : ℕ) → q ≡ Union u → Gathers (distinct (goal_ranges c (union u))) st m st' → Gathers (distinct (goal_ranges c (goal_of q))) st m st'
+  pub gather_union : (u : ℕ) → q ≡ Union u → HandGathers (distinct (goal_ranges c (union u))) x m x' → HandGathers (distinct (goal_ranges c (goal_of q))) x m x'
   unfolding goal_of
-  gather_union u e x = rw e x
+  gather_union u e n = rw e n

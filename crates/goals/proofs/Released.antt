@@ -18,6 +18,9 @@ use Rattle.marked.specs.Marked.{listed, Marked, Emptied}
 use Rattle.encoder.specs.declared.Counters.{Counters}
 use Rattle.encoder.specs.Held.{Reading, opening_of, state_of, Good}
 use Rattle.encoder.specs.Did.{Beside, Did, ClausesDid, room_of, beyond}
+use Rattle.encoder.specs.declared.State as encoder
+use Rattle.encoder.specs.Does.{ClausesDoes, IsGoodWith, regions_of}
+use Rattle.goals.specs.Goals.{HandGathers, HandReleased}
 use Rattle.encoder.proofs.Frames.{good_kept, list_kept, line_kept}
 
 module _ {st st' : ℕ → List ℕ} (ch : Changed (14 ∷ 15 ∷ []) st st') where
@@ -76,3 +79,19 @@ module _ {st st₁ st₂ st₃ : ℕ → List ℕ} (z : Marked 14 15 0 st) (a : 
 
     pub did_released : ClausesDid c l F n st₁ cl n' st₂ cl' → ClausesDid c l F n st cl n' st₃ cl'
     did_released d = record { is = λ wt. did_all wt (d.is wt) }
+
+-- ---- of the encoder's state
+
+module _ {c : Catalogue} {xs : List ℕ} {m : ℕ} {x x₁ : encoder.State} (a : HandGathers xs x m x₁) where
+  pub good_gathered : {cl wt : List ℕ} → IsGoodWith c x cl wt → IsGoodWith c x₁ cl wt
+  good_gathered g = rw (a.written.limits, a.written.used) (good_hand a.gathers.others g)
+
+  pub clauses_do_released : {F : Reading → State → State} {x₂ x₃ : encoder.State} {cl cl' : List ℕ} → Marked 14 15 0 (regions_of x) → ClausesDoes c F x₁ cl x₂ cl'
+      → HandReleased x₂ x₃ → ClausesDoes c F x cl x₃ cl'
+  clauses_do_released {F = F} z d b =
+      let limits = d.limits ∙ a.written.limits in
+      record {
+        limits = b.written.limits ∙ limits;
+        area = b.written.area ∙ (d.area ∙ a.written.area);
+        did = rw b.written.used (did_released z a.gathers.others (rw limits at b.emptied) F (rw (a.written.limits, a.written.used) at d.did));
+      }

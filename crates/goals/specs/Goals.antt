@@ -9,7 +9,10 @@ use Rattle.rules.proofs.Valid.{Entry}
 use Rattle.cache.specs.declared.Choice.TheVariants.{Matching}
 use Rattle.cache.specs.Lists as cache
 use Rattle.state.specs.Changed.{Changed}
-use Rattle.marked.specs.Marked.{listed, Marked}
+use Rattle.state.specs.Layout.{held}
+use Rattle.marked.specs.Marked.{listed, Marked, Emptied}
+use Rattle.encoder.specs.declared.State.{State}
+use Rattle.encoder.specs.Does.{regions_of, variables_of, decisions_of}
 
 -- one number more, unless it is there: a step of `distinct`
 unfoldable pub noted : ℕ → List ℕ → List ℕ
@@ -27,9 +30,32 @@ pub record Gathers (xs : List ℕ) (st : ℕ → List ℕ) (r : ℕ) (st' : ℕ 
   pub is : listed r 14 st' ≡ xs
   pub others : Changed (14 ∷ 15 ∷ []) st st'
 
+-- of a state its area alone was written
+pub record Written (x x' : State) : Type 0 where
+  pub limits : x'.limits ≡ x.limits
+  pub area : x'.area.ghost_name ≡ x.area.ghost_name
+  pub used : x'.used ≡ x.used
+
+-- the same three of a state
+pub record HandNotes (a m : ℕ) (x : State) (r : ℕ) (x' : State) : Type 0 where
+  pub written : Written x x'
+  pub notes : Notes a m (regions_of x) r (held x.limits x'.area.now)
+
+pub record HandGathers (xs : List ℕ) (x : State) (r : ℕ) (x' : State) : Type 0 where
+  pub written : Written x x'
+  pub gathers : Gathers xs (regions_of x) r (held x.limits x'.area.now)
+
+pub record HandReleased (x x' : State) : Type 0 where
+  pub written : Written x x'
+  pub emptied : Emptied 14 15 (regions_of x) (held x.limits x'.area.now)
+
 -- part p has a variable that is decided true: the rules' `decided_true` of a state with these variables and decisions
 unfoldable pub true_of : List Origin → List Decision → ℕ → Bool
 true_of vs ds p = known vs (part_origin p) && is_true ds (part_variable vs p)
+
+-- that of a state
+abbrev pub truth_of : State → ℕ → Bool
+truth_of x = true_of (variables_of x) (decisions_of x)
 
 -- its variable is decided false
 unfoldable pub false_of : List Origin → List Decision → ℕ → Bool

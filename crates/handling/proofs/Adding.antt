@@ -20,103 +20,123 @@ use Rattle.rules.specs.State as rules
 use Rattle.rules.proofs.Places.{with_variable_known}
 use Rattle.rules.proofs.Capped.{add_variable}
 use Rattle.rules.proofs.ClauseByClause.{add_clause}
-use Rattle.state.specs.declared.Limits.{Limits}
-use Rattle.variable_map.specs.Mapping.{found, variables}
+use Rattle.variable_map.specs.Mapping.{found}
 use Rattle.variable_map.proofs.Places.{found_known, found_none}
-use Rattle.decision_tracker.specs.Tracking.{decisions}
-use Rattle.encoder.specs.declared.Counters.{Counters}
 use Rattle.encoder.specs.declared.Run.{Run}
-use Rattle.encoder.specs.Held.{run_of, Reading, literals_in, state_of, Good}
+use Rattle.encoder.specs.declared.State as encoder
+use Rattle.encoder.specs.Held.{run_of, Reading, literals_in, state_of}
 use Rattle.encoder.specs.Clauses.{candidate_variables}
-use Rattle.encoder.specs.Did.{Widens, filled, Did, ClausesDid, PlainDid, is_full}
-use Rattle.encoder.proofs.Did.{widens_then, did_as, did_then, did_stop}
+use Rattle.encoder.specs.Did.{Widens, filled, is_full}
+use Rattle.encoder.specs.Does.{StateDoes, PlainDoes, ClausesDoes, IsGoodWith, regions_of, variables_of, decisions_of}
+use Rattle.encoder.proofs.Did.{widens_then, did_as, did_stop}
 use Rattle.encoder.proofs.Widening.{add_clause_widens, add_clause_variables}
-use Rattle.encoder.proofs.Steps.{clauses_none, variables_after_law}
+use Rattle.encoder.proofs.Steps.{variables_after_law}
+use Rattle.encoder.proofs.Does.{at_catalogue, clauses_do_then, state_then_clauses_do, state_does_clauses, clauses_do_none}
 use Rattle.storing.specs.Adding.{Adds, AddsRequires, AddsGated}
+use Rattle.storing.proofs.Adding.{adds_do}
 use Rattle.storing.proofs.Added.{requires_over}
-use Rattle.condition_literals.specs.Literals.{Found, Named, Pushes}
+use Rattle.condition_literals.specs.Literals.{Found, Named, StatePushes}
 use Rattle.handling.specs.Handling.{add_direct, add_gate, add_through_gate, add_fired}
 use Rattle.handling.proofs.Widening.{direct_widens, gate_widens, through_gate_widens, fired_widens}
-use Rattle.condition_literals.proofs.Pushing.{pushed_count, pushed_are, push_variables, push_did}
+use Rattle.condition_literals.proofs.Pushing.{pushed_count, pushes_are, pushes_variables, pushes_do}
 
 none_first : (w : List ℕ) (a : ℕ) → literals_in w a 0 ≡ []
 unfolding literals_in
 none_first w a = refl
 
+-- ---- steps of the state and the clauses
+
+module _ {c : Catalogue} {F G : Reading → State → State} {x x' : encoder.State} {cl cl' : List ℕ} (d : ClausesDoes c F x cl x' cl') (w : (v : Reading) (s : State) → Widens s (G v s)) where
+  -- the same by another name
+  pub clauses_do_as : ((wt : List ℕ) → IsGoodWith c x cl wt → is_full x.used ≡ false → (v : Reading)
+      → F v (state_of c x.limits v x.used (regions_of x) cl wt) ≡ G v (state_of c x.limits v x.used (regions_of x) cl wt)) → ClausesDoes c G x cl x' cl'
+  clauses_do_as h = record { limits = d.limits; area = d.area; did = record { is = λ wt. did_as (d.did.is wt) w (h wt) } }
+
+  -- the next step is not taken where it is full
+  pub clauses_do_stop : is_full x'.used ≡ true → ClausesDoes c (λ v s. G v (F v s)) x cl x' cl'
+  clauses_do_stop f = record { limits = d.limits; area = d.area; did = record { is = λ wt. did_stop (d.did.is wt) f w } }
+
+-- the variables are those of F
+pub variables_with : {c : Catalogue} {F : Reading → State → State} {x x' : encoder.State} {cl : List ℕ} → StateDoes c F x x' → IsGoodWith c x cl [] → is_full x'.used ≡ false
+    → (v : Reading) → variables_of x' ≡ (F v (state_of c x.limits v x.used (regions_of x) cl [])).variables
+variables_with {cl = cl} d g e v = rw d.limits (variables_after_law (d.did.is cl []) g e v)
+
 -- ---- an owner's requires
 
-module _ {c : Catalogue} {l : Limits} {r : Run} {q : ℕ} {n n' : Counters} {st : ℕ → List ℕ} {cl cl' : List ℕ} {x : ℕ} {goal : Goal} {all : Bool}
-    (g : goal ≡ goal_at c q) (h : Named c q (variables n.variables st)) where
-  requires_did : {count : ℕ} (ks : List Literal) → length ks ≡ count → (n.literals + count ≤ l.literals → literals_in (st 19) n.literals count ≡ ks)
-      → (n.literals + count ≤ l.literals
-      → all ≡ all_false (decisions n.decisions st) (ks ++ map pos (map (part_variable (variables n.variables st)) (candidates c (goal_at c q)))))
-      → AddsRequires l r x count goal all n st cl n' cl' → (wt : List ℕ)
-      → Did c l (λ v s. add_clause (run_of r) (requires x ks (map (part_variable s.variables) (candidates c (goal_at c q)))) s) n st cl wt n' st cl' wt
+module _ {c : Catalogue} {r : Run} {q : ℕ} {x x' : encoder.State} {cl cl' : List ℕ} {o : ℕ} {goal : Goal} {all : Bool}
+    (g : goal ≡ goal_at c q) (h : Named c q (variables_of x)) where
+  requires_do : {count : ℕ} (ks : List Literal) → length ks ≡ count → (x.used.literals + count ≤ x.limits.literals → literals_in (regions_of x 19) x.used.literals count ≡ ks)
+      → (x.used.literals + count ≤ x.limits.literals → all ≡ all_false (decisions_of x) (ks ++ map pos (map (part_variable (variables_of x)) (candidates c (goal_at c q)))))
+      → AddsRequires r o count goal all x cl x' cl'
+      → ClausesDoes c (λ v s. add_clause (run_of r) (requires o ks (map (part_variable s.variables) (candidates c (goal_at c q)))) s) x cl x' cl'
   unfolding candidate_variables
-  requires_did ks e i a d wt = did_as (d.is c wt ks e (rw g h.candidates) i (λ p. rw g (a p))) (λ v s. add_clause_widens _ _ s) (λ _ _ v. rw g)
-
-  pub direct_added : Found l (variables n.variables st) (chosen (owner_at c q)) x
-      → all ≡ all_false (decisions n.decisions st)
-      (literals_in (st 19) n.literals 0 ++ map pos (map (part_variable (variables n.variables st)) (candidates c (goal_at c q))))
-      → AddsRequires l r x 0 goal all n st cl n' cl' → ClausesDid c l (λ v. add_direct c (run_of r) q) n st cl n' st cl'
-  direct_added o a d =
+  requires_do ks e i a d =
       record {
-        is = λ wt. did_as (requires_did [] refl (λ _. none_first (st 19) n.literals) (λ _. rw (none_first (st 19) n.literals) at a) d wt)
-            (λ v s. direct_widens c (run_of r) q s) (λ _ _ v. unfold add_direct state_of in rw (← o.is));
+        limits = d.limits;
+        area = d.area;
+        did = record { is = λ wt. did_as (d.is c wt ks e (rw g h.candidates) i (λ p. rw g (a p))) (λ v s. add_clause_widens _ _ s) (λ _ _ v. rw g) };
       }
+
+  pub direct_added : Found x.limits (variables_of x) (chosen (owner_at c q)) o
+      → all ≡ all_false (decisions_of x) (literals_in (regions_of x 19) x.used.literals 0 ++ map pos (map (part_variable (variables_of x)) (candidates c (goal_at c q))))
+      → AddsRequires r o 0 goal all x cl x' cl' → ClausesDoes c (λ v. add_direct c (run_of r) q) x cl x' cl'
+  direct_added f a d =
+      clauses_do_as
+      (requires_do [] refl (λ _. none_first (regions_of x 19) x.used.literals) (λ _. rw (none_first (regions_of x 19) x.used.literals) at a) d)
+      (λ v s. direct_widens c (run_of r) q s) (λ wt _ _ v. unfold add_direct state_of in rw (← f.is))
 
 -- ---- of a fired disjunct, its literals being pushed
 
-module _ {c : Catalogue} {l : Limits} {q : ℕ} {n : Counters} {st st₁ : ℕ → List ℕ} (i : ℕ) {count : ℕ}
-    (h : Named c q (variables n.variables st))
-    (p : Pushes l n st 0 (disjunct_literals c (variables n.variables st) (disjunct_at c q i)) count st₁) where
+module _ {c : Catalogue} {q : ℕ} {x x₁ : encoder.State} (i : ℕ) {count : ℕ}
+    (h : Named c q (variables_of x)) (p : StatePushes x 0 (disjunct_literals c (variables_of x) (disjunct_at c q i)) count x₁) where
   abbrev ks : List Literal
-  ks = disjunct_literals c (variables n.variables st) (disjunct_at c q i)
+  ks = disjunct_literals c (variables_of x) (disjunct_at c q i)
 
-  fired_did : (r : Run) {n' : Counters} {cl cl' : List ℕ} {x : ℕ} {goal : Goal} {all : Bool} → goal ≡ goal_at c q → x ≡ variable_of (variables n.variables st) (chosen (owner_at c q))
-      → (n.literals + count ≤ l.literals
-      → all ≡ all_false (decisions n.decisions st₁) (ks ++ map pos (map (part_variable (variables n.variables st₁)) (candidates c (goal_at c q)))))
-      → AddsRequires l r x count goal all n st₁ cl n' cl' → ClausesDid c l (λ v. add_fired c (run_of r) q i) n st cl n' st₁ cl'
-  fired_did r {cl = cl} g o a d =
-      record {
-        is = λ wt. did_as (did_then ((push_did p).is cl wt) (requires_did g (rw (push_variables p) h) ks (sym (pushed_count p)) (pushed_are p) a d wt))
-            (λ v s. fired_widens c (run_of r) q i s) (λ _ _ v. unfold add_fired state_of in rw (← o));
-      }
+  pub fired_named : Named c q (variables_of x₁)
+  fired_named = rw (pushes_variables p) h
 
-  pub fired_named : Named c q (variables n.variables st₁)
-  fired_named = rw (push_variables p) h
+  fired_do : (r : Run) {x' : encoder.State} {cl cl' : List ℕ} {o : ℕ} {goal : Goal} {all : Bool} → goal ≡ goal_at c q → o ≡ variable_of (variables_of x) (chosen (owner_at c q))
+      → (x₁.used.literals + count ≤ x₁.limits.literals
+      → all ≡ all_false (decisions_of x₁) (ks ++ map pos (map (part_variable (variables_of x₁)) (candidates c (goal_at c q)))))
+      → AddsRequires r o count goal all x₁ cl x' cl' → ClausesDoes c (λ v. add_fired c (run_of r) q i) x cl x' cl'
+  fired_do r g o a d =
+      clauses_do_as (state_then_clauses_do (pushes_do p) (requires_do g fired_named ks (sym (pushed_count p.pushes)) (pushes_are p) a d))
+      (λ v s. fired_widens c (run_of r) q i s) (λ wt _ _ v. unfold add_fired state_of in rw (← o))
 
-  pub fired_added : (r : Run) {n' : Counters} {cl cl' : List ℕ} {x : ℕ} {goal : Goal} {all : Bool} → goal ≡ goal_at c q → Found l (variables n.variables st₁) (chosen (owner_at c q)) x
-      → n.literals ≤ l.literals → count ≤ l.literals - n.literals
-      → all ≡ all_false (decisions n.decisions st₁)
-      (literals_in (st₁ 19) n.literals count ++ map pos (map (part_variable (variables n.variables st₁)) (candidates c (goal_at c q))))
-      → AddsRequires l r x count goal all n st₁ cl n' cl' → ClausesDid c l (λ v. add_fired c (run_of r) q i) n st cl n' st₁ cl'
-  fired_added r g o u b a d =
-      let room : n.literals + count ≤ l.literals = omega arith in
-      fired_did r g (rw (push_variables p) at o.is) (λ _. rw (pushed_are p room) at a) d
+  pub fired_added : (r : Run) {x' : encoder.State} {cl cl' : List ℕ} {o : ℕ} {goal : Goal} {all : Bool} → goal ≡ goal_at c q
+      → Found x₁.limits (variables_of x₁) (chosen (owner_at c q)) o → x₁.used.literals ≤ x₁.limits.literals → count ≤ x₁.limits.literals - x₁.used.literals
+      → all ≡ all_false (decisions_of x₁) (literals_in (regions_of x₁ 19) x₁.used.literals count ++ map pos (map (part_variable (variables_of x₁)) (candidates c (goal_at c q))))
+      → AddsRequires r o count goal all x₁ cl x' cl' → ClausesDoes c (λ v. add_fired c (run_of r) q i) x cl x' cl'
+  fired_added r g f u b a d =
+      let room : x₁.used.literals + count ≤ x₁.limits.literals = omega arith in
+      fired_do r g (rw (pushes_variables p) at f.is) (λ _. rw (pushes_are p room) at a) d
 
-  pub fired_over : (r : Run) {n' : Counters} {cl : List ℕ} → n.literals ≤ l.literals → l.literals - n.literals < count → n' ≡ filled n → ClausesDid c l (λ v. add_fired c (run_of r) q i) n st cl n' st₁ cl
-  fired_over r u b e =
-      let more : l.literals < n.literals + count = omega arith in
-      fired_did r {x = variable_of (variables n.variables st) (chosen (owner_at c q))} {goal = goal_at c q} {all = false}
-      refl refl (λ room. let no : ⊥ = omega arith in absurd no) (requires_over more e)
+  pub fired_over : (r : Run) {x' : encoder.State} {cl : List ℕ} → x'.limits ≡ x₁.limits → x'.area ≡ x₁.area → x₁.used.literals ≤ x₁.limits.literals
+      → x₁.limits.literals - x₁.used.literals < count → x'.used ≡ filled x₁.used → ClausesDoes c (λ v. add_fired c (run_of r) q i) x cl x' cl
+  fired_over r y z u b e =
+      let more : x₁.limits.literals < x₁.used.literals + count = omega arith in
+      fired_do r {o = variable_of (variables_of x) (chosen (owner_at c q))} {goal = goal_at c q} {all = false}
+      refl refl (λ room. let no : ⊥ = omega arith in absurd no) (requires_over y z more e)
 
 -- ---- a gate's own
 
-module _ {c : Catalogue} {l : Limits} (r : Run) (q : ℕ) {new : Bool} {n : Counters} {st : ℕ → List ℕ} {cl : List ℕ} where
-  pub gate_old : new ≡ false → ClausesDid c l (λ v. add_gate c (run_of r) q new) n st cl n st cl
-  gate_old e = clauses_none (λ v s. unfold add_gate when in rw e)
+module _ {c : Catalogue} (r : Run) (q : ℕ) {new : Bool} {x : encoder.State} {cl : List ℕ} where
+  pub gate_old : new ≡ false → ClausesDoes c (λ v. add_gate c (run_of r) q new) x cl x cl
+  gate_old e = clauses_do_none (λ v s. unfold add_gate when in rw e)
 
-  pub gate_added : {n' : Counters} {st' : ℕ → List ℕ} {cl' : List ℕ} {y : ℕ} {goal : Goal} {all : Bool} → new ≡ true → goal ≡ goal_at c q
-      → Named c q (variables n.variables st) → Found l (variables n.variables st) (gate (goal_at c q)) y
-      → all ≡ all_false (decisions n.decisions st)
-      (literals_in (st 19) n.literals 0 ++ map pos (map (part_variable (variables n.variables st)) (candidates c (goal_at c q))))
-      → AddsGated l r y goal all n st cl n' st' cl' → ClausesDid c l (λ v. add_gate c (run_of r) q new) n st cl n' st' cl'
+  pub gate_added : {x' : encoder.State} {cl' : List ℕ} {y : ℕ} {goal : Goal} {all : Bool} → new ≡ true → goal ≡ goal_at c q
+      → Named c q (variables_of x) → Found x.limits (variables_of x) (gate (goal_at c q)) y
+      → all ≡ all_false (decisions_of x) (literals_in (regions_of x 19) x.used.literals 0 ++ map pos (map (part_variable (variables_of x)) (candidates c (goal_at c q))))
+      → AddsGated r y goal all x cl x' cl' → ClausesDoes c (λ v. add_gate c (run_of r) q new) x cl x' cl'
   unfolding candidate_variables
   gate_added e g h o a d =
       record {
-        is = λ wt. did_as (d.is c wt (rw g h.candidates) (rw g (rw (none_first (st 19) n.literals) at a)))
-            (λ v s. gate_widens c (run_of r) q new s) (λ _ _ v. unfold add_gate state_of when in rw (e, g, ← o.is));
+        limits = d.limits;
+        area = d.area;
+        did = record {
+          is = λ wt. did_as (d.is c wt (rw g h.candidates) (rw g (rw (none_first (regions_of x 19) x.used.literals) at a)))
+              (λ v s. gate_widens c (run_of r) q new s) (λ _ _ v. unfold add_gate state_of when in rw (e, g, ← o.is));
+        };
       }
 
 -- ---- through a gate
@@ -163,37 +183,35 @@ pub new_gate : (vs : List Origin) (o o' : Origin) (r : Option ℕ) (b : Bool) �
 new_gate vs o o' r b i h e = rw i at (new_by vs o r b h e)
 
 -- named, it has one
-pub gate_known : {c : Catalogue} {l : Limits} (q : ℕ) {n n₁ : Counters} {st st₁ : ℕ → List ℕ} {cl : List ℕ} (w : Origin) → w ≡ gate (goal_at c q)
-    → PlainDid l (λ c v. add_variable (w)) n st n₁ st₁ → Good c l n st cl [] → is_full n₁ ≡ false
-    → known (variables n₁.variables st₁) (gate (goal_at c q)) ≡ true
-gate_known {c} q {cl = cl} w i d g f =
+pub gate_known : {c : Catalogue} (q : ℕ) {x x₁ : encoder.State} {cl : List ℕ} (w : Origin) → w ≡ gate (goal_at c q)
+    → PlainDoes (λ c v. add_variable w) x x₁ → IsGoodWith c x cl [] → is_full x₁.used ≡ false → known (variables_of x₁) (gate (goal_at c q)) ≡ true
+gate_known {c} q w i d g f =
     let v : Reading = record { truth = λ p. false; drawn = [] } in
-    rw (variables_after_law ((d.is c).is cl []) g f v, ← i) (unfold add_variable in with_variable_known (w) _)
+    rw (variables_with (at_catalogue {c = c} d) g f v, ← i) (unfold add_variable in with_variable_known w _)
 
-module _ (c : Catalogue) {l : Limits} (r : Run) (q : ℕ) {new : Bool} {n n₁ : Counters} {st st₁ : ℕ → List ℕ} (cl : List ℕ) (w : Origin)
-    (e : new ≡ not (known (variables n.variables st) (gate (goal_at c q)))) (i : w ≡ gate (goal_at c q))
-    (d : PlainDid l (λ c v. add_variable (w)) n st n₁ st₁) where
-  opened : (wt : List ℕ) → Did c l (λ v. add_variable (gate (goal_at c q))) n st cl wt n₁ st₁ cl wt
-  opened wt = rw i at ((d.is c).is cl wt)
+module _ (c : Catalogue) (r : Run) (q : ℕ) {new : Bool} {x x₁ : encoder.State} (cl : List ℕ) (w : Origin)
+    (e : new ≡ not (known (variables_of x) (gate (goal_at c q)))) (i : w ≡ gate (goal_at c q)) (d : PlainDoes (λ c v. add_variable w) x x₁) where
+  opened : ClausesDoes c (λ v. add_variable (gate (goal_at c q))) x cl x₁ cl
+  opened = rw i at (state_does_clauses {cl = cl} (at_catalogue {c = c} d))
 
-  through : (v : Reading) (wt : List ℕ)
-      → after_gate c (run_of r) q new (add_variable (gate (goal_at c q)) (state_of c l v n st cl wt)) ≡ add_through_gate c (run_of r) q (state_of c l v n st cl wt)
-  through v wt = through_is c (run_of r) q (state_of c l v n st cl wt) new (unfold state_of in e)
+  through : (v : Reading) (wt : List ℕ) → after_gate c (run_of r) q new (add_variable (gate (goal_at c q)) (state_of c x.limits v x.used (regions_of x) cl wt))
+      ≡ add_through_gate c (run_of r) q (state_of c x.limits v x.used (regions_of x) cl wt)
+  through v wt = through_is c (run_of r) q (state_of c x.limits v x.used (regions_of x) cl wt) new (unfold state_of in e)
 
-  pub through_full : is_full n₁ ≡ true → ClausesDid c l (λ v. add_through_gate c (run_of r) q) n st cl n₁ st₁ cl
+  pub through_full : is_full x₁.used ≡ true → ClausesDoes c (λ v. add_through_gate c (run_of r) q) x cl x₁ cl
   through_full f =
-      record {
-        is = λ wt. did_as (did_stop {G = λ v. after_gate c (run_of r) q new} (opened wt) f (λ v s. after_widens c (run_of r) q new s))
-            (λ v s. through_gate_widens c (run_of r) q s) (λ _ _ v. through v wt);
-      }
+      clauses_do_as (clauses_do_stop {G = λ v. after_gate c (run_of r) q new} opened (λ v s. after_widens c (run_of r) q new s) f)
+      (λ v s. through_gate_widens c (run_of r) q s) (λ wt _ _ v. through v wt)
 
-  pub through_added : {n₂ n₃ : Counters} {st₂ st₃ : ℕ → List ℕ} {cl₂ cl₃ : List ℕ} {y x : ℕ} → is_full n₁ ≡ false
-      → Found l (variables n₁.variables st₁) (gate (goal_at c q)) y → Found l (variables n₁.variables st₁) (chosen (owner_at c q)) x
-      → ClausesDid c l (λ v. add_gate c (run_of r) q new) n₁ st₁ cl n₂ st₂ cl₂ → Adds l r (any_gate y x) n₂ st₂ cl₂ n₃ st₃ cl₃
-      → ClausesDid c l (λ v. add_through_gate c (run_of r) q) n st cl n₃ st₃ cl₃
-  through_added {y = y} {x = x} f p o a b =
-      record {
-        is = λ wt. did_as (did_then (opened wt) (did_then (a.is wt) (b.is c wt))) (λ v s. through_gate_widens c (run_of r) q s)
-            (λ g _ v. let vs = variables_after_law (opened wt) g f v in
-            after_is c (run_of r) q new (add_variable (gate (goal_at c q)) (state_of c l v n st cl wt)) y x (rw vs at p.is) (rw vs at o.is) ∙ through v wt);
-      }
+  pub through_added : {x₂ x₃ : encoder.State} {cl₂ cl₃ : List ℕ} {y o : ℕ} → is_full x₁.used ≡ false
+      → Found x₁.limits (variables_of x₁) (gate (goal_at c q)) y → Found x₁.limits (variables_of x₁) (chosen (owner_at c q)) o
+      → ClausesDoes c (λ v. add_gate c (run_of r) q new) x₁ cl x₂ cl₂ → Adds r (any_gate y o) x₂ cl₂ x₃ cl₃
+      → ClausesDoes c (λ v. add_through_gate c (run_of r) q) x cl x₃ cl₃
+  through_added {y = y} {o = o} f p k a b =
+      clauses_do_as (clauses_do_then opened (clauses_do_then a (adds_do b))) (λ v s. through_gate_widens c (run_of r) q s)
+      (λ wt g _ v. let vs = variables_law wt g v in
+      after_is c (run_of r) q new (add_variable (gate (goal_at c q)) (state_of c x.limits v x.used (regions_of x) cl wt)) y o (rw vs at p.is) (rw vs at k.is) ∙ through v wt)
+    where
+      variables_law : (wt : List ℕ) → IsGoodWith c x cl wt → (v : Reading)
+          → variables_of x₁ ≡ (add_variable (gate (goal_at c q)) (state_of c x.limits v x.used (regions_of x) cl wt)).variables
+      variables_law wt g v = rw opened.limits (variables_after_law (opened.did.is wt) g f v)

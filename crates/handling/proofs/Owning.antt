@@ -26,11 +26,12 @@ use Rattle.tables.specs.declared.Counts.{Counts}
 use Rattle.tables.specs.Tables.{tables}
 use Rattle.cache.specs.Areas.{catalogue}
 use Rattle.cache.proofs.Laws.{requirement_held, ranges_held, unions_held}
-use Rattle.state.specs.declared.Limits.{Limits}
 use Rattle.variable_map.specs.declared.Origin as code
-use Rattle.variable_map.specs.Mapping.{origin_of, in_tables, variables, Mapped}
+use Rattle.variable_map.specs.Mapping.{origin_of, in_tables}
 use Rattle.variable_map.proofs.Laws.{count}
+use Rattle.encoder.specs.declared.State.{State}
 use Rattle.encoder.specs.Did.{Looked}
+use Rattle.encoder.specs.Does.{regions_of, variables_of, IsMapped}
 use Rattle.index.specs.Catalogued.{Catalogued}
 use Rattle.owners.specs.Owners.{OwnerNumber}
 use Rattle.owners.proofs.Records.{equal, required_owner}
@@ -39,10 +40,10 @@ use Rattle.condition_literals.specs.Literals.{Found}
 
 -- ---- origins that have variables
 
-pub found : {l : Limits} (n : ℕ) (st : ℕ → List ℕ) {x : ℕ} (w : Origin) {o : Origin} → w ≡ o → Looked (variables n st) w x → Mapped l n st
-    → known (variables n st) o ≡ true → Found l (variables n st) o x
-found n st w i y m k =
-    record { is = y.is (rw i k) ∙ ap (variable_of (variables n st)) i; low = omega (arith, m.room, y.below (rw i k), count n st) }
+pub found : (a : State) {x : ℕ} (w : Origin) {o : Origin} → w ≡ o → Looked (variables_of a) w x → IsMapped a → known (variables_of a) o ≡ true
+    → Found a.limits (variables_of a) o x
+found a w i y m k =
+    record { is = y.is (rw i k) ∙ ap (variable_of (variables_of a)) i; low = omega (arith, m.room, y.below (rw i k), count a.used.variables (regions_of a)) }
 
 owner_fits : (o : owner.Owner) → OwnerNumber o → in_tables (chosen (owner_is o)) ≡ true
 unfolding in_tables

@@ -1,7 +1,7 @@
 -- A requirement's task: its goal's ranges are at hand while it is handled, and what was handled and fired is not kept.
 use mathlib.Core.Path.{◌≡◌, refl}
 use mathlib.Core.Bool.{Bool, true, false}
-use mathlib.Core.List.{List, [], ◌∷◌}
+use mathlib.Core.List.{List}
 use Prim.Native.Nat.{ℕ}
 use lib.ListN.{get_or}
 use Rattle.rules.specs.Lists.{distinct}
@@ -16,17 +16,17 @@ use Rattle.tables.specs.declared.Counts.{Counts}
 use Rattle.tables.specs.Tables.{tables}
 use Rattle.cache.specs.Areas.{catalogue}
 use Rattle.state.specs.declared.Limits.{Limits}
-use Rattle.state.specs.Changed.{Changed}
-use Rattle.marked.specs.Marked.{Marked, Emptied}
+use Rattle.marked.specs.Marked.{Marked}
 use Rattle.encoder.specs.declared.Counters.{Counters}
+use Rattle.encoder.specs.declared.State as encoder
 use Rattle.encoder.specs.Held.{Reading, opening_of, state_of}
-use Rattle.encoder.specs.Did.{ClausesDid}
-use Rattle.goals.specs.Goals.{Gathers}
-use Rattle.goals.proofs.Released.{did_released}
+use Rattle.encoder.specs.Does.{ClausesDoes, regions_of}
+use Rattle.goals.specs.Goals.{HandGathers, HandReleased}
+use Rattle.goals.proofs.Released.{clauses_do_released}
 use Rattle.owners.specs.Owners.{serving}
 use Rattle.firing.proofs.Required.{goal_is}
-use Rattle.naming.specs.Settled.{AllSettled, Settles}
-use Rattle.naming.specs.Alike.{AlikeIn, ClausesAlike}
+use Rattle.naming.specs.Settled.{AllSettled, AreSettled}
+use Rattle.naming.specs.Alike.{AlikeIn, ClausesDoAlike}
 use Rattle.naming.proofs.Alike.{in_same}
 use Rattle.condition_literals.specs.Literals.{AtHand}
 use Rattle.handling.specs.Handling.{handled}
@@ -37,9 +37,9 @@ use Rattle.handling.proofs.Alike.{handled_alike}
 -- ---- the ranges at hand
 
 pub gathered : (k : Counts) (m us t : List ℕ) (q : ℕ) (it : ConditionalRequirement) → requirement_is it ≡ get_or (tables k t).requirements q no_requirement
-    → {ranges : ℕ} {st st₁ : ℕ → List ℕ} → Gathers (distinct (goal_ranges (catalogue k m us t) (goal_of it.requirement))) st ranges st₁
-    → AtHand (catalogue k m us t) q ranges st₁
-gathered k m us t q it e g = record { marked = g.marked; is = rw (goal_is k m us t q it e) g.is }
+    → {ranges : ℕ} {x x₁ : encoder.State} → HandGathers (distinct (goal_ranges (catalogue k m us t) (goal_of it.requirement))) x ranges x₁
+    → AtHand (catalogue k m us t) q ranges (regions_of x₁)
+gathered k m us t q it e g = rw g.written.limits (record { marked = g.gathers.marked; is = rw (goal_is k m us t q it e) g.gathers.is })
 
 -- ---- served
 
@@ -54,16 +54,20 @@ module _ (c : Catalogue) (r : Run) (q : ℕ) (is : List ℕ) where
     held_alike false h = rw held_served in_same
     held_alike true h = rw (← held_served) (handled_alike c r q is (state_of c l v n st cl wt) (variable_settled (chosen (owner_at c q)) (state_of c l v n st cl wt) (h refl)))
 
-  module _ (settled : Bool) {l : Limits} {n n' : Counters} {st st₁ st₂ st₃ : ℕ → List ℕ} {cl cl' : List ℕ} (z : Marked 14 15 0 st) (a : Changed (14 ∷ 15 ∷ []) st st₁)
-      (d : ClausesDid c l (λ v. handled c r q settled is) n st₁ cl n' st₂ cl') (b : Emptied 14 15 st₂ st₃) where
-    pub requirement_served : (settled ≡ true → Settles c l (distinct (goal_ranges c (goal_at c q))) n st)
-        → ClausesAlike c l (λ v. serving c r (requirement q is)) n st cl n' st₃ cl'
+  module _ (settled : Bool) {ranges : ℕ} {xs : List ℕ} {x x₁ x₂ x₃ : encoder.State} {cl cl' : List ℕ} (z : Marked 14 15 0 (regions_of x)) (a : HandGathers xs x ranges x₁)
+      (d : ClausesDoes c (λ v. handled c r q settled is) x₁ cl x₂ cl') (b : HandReleased x₂ x₃) where
+    pub requirement_served : (settled ≡ true → AreSettled c (distinct (goal_ranges c (goal_at c q))) x) → ClausesDoAlike c (λ v. serving c r (requirement q is)) x cl x₃ cl'
     requirement_served h =
+        let e = clauses_do_released a z d b in
         record {
-          is = λ wt.
-              record {
-                step = λ v. handled c r q settled is;
-                did = (did_released z a b (λ v. handled c r q settled is) d).is wt;
-                like = λ f v. held_alike l v n st cl wt settled (λ e. (h e).held f v cl wt);
-              };
+          limits = e.limits;
+          area = e.area;
+          did = record {
+            is = λ wt.
+                record {
+                  step = λ v. handled c r q settled is;
+                  did = e.did.is wt;
+                  like = λ f v. held_alike x.limits v x.used (regions_of x) cl wt settled (λ i. (h i).held f v cl wt);
+                };
+          };
         }

@@ -10,299 +10,266 @@ ghost use Rattle.rules.specs.Conditions.{disjunct_at, disjuncts_of, unconditiona
 ghost use Rattle.rules.specs.Opening.{requirement};
 ghost use Rattle.rules.specs.Variables.{gate};
 ghost use Rattle.cache.specs.Areas.{catalogue};
-ghost use Rattle.state.specs.Layout.{held, Fits};
-ghost use Rattle.variable_map.specs.Mapping.{variables};
 ghost use Rattle.marked.specs.Marked.{Marked};
-ghost use Rattle.encoder.specs.Held.{run_of, LongEnough, GoodState, Good};
-ghost use Rattle.encoder.specs.Did.{ClausesDid};
+ghost use Rattle.encoder.specs.Held.{run_of, LongEnough};
+ghost use Rattle.encoder.specs.Does.{ClausesDoes, IsGoodState, IsGoodWith, regions_of, variables_of};
 ghost use Rattle.owners.specs.Owners.{serving};
 ghost use Rattle.naming.specs.Naming.{name_disjuncts, GivenIndices};
-ghost use Rattle.naming.specs.Settled.{Settles};
-ghost use Rattle.naming.specs.Alike.{ClausesAlike};
+ghost use Rattle.naming.specs.Settled.{AreSettled};
+ghost use Rattle.naming.specs.Alike.{ClausesDoAlike};
 ghost use Rattle.condition_literals.specs.Literals.{AtHand, owner_origin, Named, Found, FiredKnown, DisjunctKnown};
 ghost use Rattle.handling.specs.Handling.{add_direct, add_gate, add_through_gate, add_fired, add_all_fired, add_unconditional, handled};
 ghost use Rattle.index.specs.Views.{catalogue_of, counts_of};
 
-use encoder::{Counters, Run};
+use encoder::{Run, State};
 use index::Catalogue;
 use requirement::Owner;
-use state::Limits;
 use variable_map::Origin;
 
 // ---- clauses
 
 // The variable of its owner, which has one.
-fn owner_variable(catalogue: &Catalogue, s: &[u8], l: Limits, n: Counters, q: usize) -> u16
-    requires fits { Fits l (length s.now) }
-    requires good_state { GoodState (catalogue_of catalogue.now) l n (held l s.now) }
+fn owner_variable(catalogue: &Catalogue, state: &State, q: usize) -> u16
+    requires good_state { IsGoodState (catalogue_of catalogue.now) state.now }
     requires q_lt_requirements { q < (counts_of catalogue.now).requirements }
-    requires named { Named (catalogue_of catalogue.now) q (variables n.variables (held l s.now)) }
-    ensures { Found l (variables n.variables (held l s.now)) (owner_origin (catalogue_of catalogue.now) q) result }
+    requires named { Named (catalogue_of catalogue.now) q (variables_of state.now) }
+    ensures { Found state.now.limits (variables_of state.now) (owner_origin (catalogue_of catalogue.now) q) result }
 {
     let it = catalogue.index.areas.tables.requirement_at(q);
-    opening::variable_of(s, l, n, owners::owner_origin(it.owner))
+    opening::variable_of(state, owners::owner_origin(it.owner))
 }
 
 // The requires clause of an unconditional requirement.
 fn add_direct(
     catalogue: &Catalogue,
-    s: &[u8],
+    state: &mut State,
     clauses: &mut [u8],
-    l: Limits,
-    n: Counters,
-    r: Run,
+    run: Run,
     q: usize,
     ranges: usize,
-) -> Counters
-    requires fits { Fits l (length s.now) }
-    requires good { Good (catalogue_of catalogue.now) l n (held l s.now) clauses.old [] }
-    requires long_enough { LongEnough l (length clauses.old) 16384 }
-    requires q_lt_requirements { (q < (counts_of catalogue.now).requirements) × (0 < r.number) }
-    requires at_hand { AtHand (catalogue_of catalogue.now) q ranges (held l s.now) }
-    requires named { Named (catalogue_of catalogue.now) q (variables n.variables (held l s.now)) }
-    ensures { ClausesDid (catalogue_of catalogue.now) l (λ v. add_direct (catalogue_of catalogue.now) (run_of r) q) n (held l s.now) clauses.old result (held l s.now) clauses.new }
+)
+    requires good { IsGoodWith (catalogue_of catalogue.now) state.old clauses.old [] }
+    requires long_enough { LongEnough state.old.limits (length clauses.old) 16384 }
+    requires q_lt_requirements { (q < (counts_of catalogue.now).requirements) × (0 < run.number) }
+    requires at_hand { AtHand (catalogue_of catalogue.now) q ranges (regions_of state.old) }
+    requires named { Named (catalogue_of catalogue.now) q (variables_of state.old) }
+    ensures { ClausesDoes (catalogue_of catalogue.now) (λ v. add_direct (catalogue_of catalogue.now) (run_of run) q) state.old clauses.old state.new clauses.new }
 {
     let it = catalogue.index.areas.tables.requirement_at(q);
-    let x = owner_variable(catalogue, s, l, n, q);
-    let all = condition_literals::rest_false(catalogue, s, l, n, q, ranges, 0);
-    reporting::add_requires(s, clauses, l, n, r, x, 0, it.requirement, all)
+    let x = owner_variable(catalogue, state, q);
+    let all = condition_literals::rest_false(catalogue, state, q, ranges, 0);
+    reporting::add_requires(state, clauses, run, x, 0, it.requirement, all);
 }
 
 // A gate that is new, its variable being g, has a clause of its own.
 fn add_gate(
     catalogue: &Catalogue,
-    s: &mut [u8],
+    state: &mut State,
     clauses: &mut [u8],
-    l: Limits,
-    n: Counters,
-    r: Run,
+    run: Run,
     q: usize,
     ranges: usize,
     g: u16,
     new: bool,
-) -> Counters
-    requires fits { Fits l (length s.old) }
-    requires good { Good (catalogue_of catalogue.now) l n (held l s.old) clauses.old [] }
-    requires long_enough { LongEnough l (length clauses.old) 16384 }
-    requires q_lt_requirements { (q < (counts_of catalogue.now).requirements) × (0 < r.number) }
-    requires at_hand { AtHand (catalogue_of catalogue.now) q ranges (held l s.old) }
-    requires named { Named (catalogue_of catalogue.now) q (variables n.variables (held l s.old)) }
-    requires found { Found l (variables n.variables (held l s.old)) (gate (goal_at (catalogue_of catalogue.now) q)) g }
-    ensures { ClausesDid (catalogue_of catalogue.now) l (λ v. add_gate (catalogue_of catalogue.now) (run_of r) q new) n (held l s.old) clauses.old result (held l s.new) clauses.new }
+)
+    requires good { IsGoodWith (catalogue_of catalogue.now) state.old clauses.old [] }
+    requires long_enough { LongEnough state.old.limits (length clauses.old) 16384 }
+    requires q_lt_requirements { (q < (counts_of catalogue.now).requirements) × (0 < run.number) }
+    requires at_hand { AtHand (catalogue_of catalogue.now) q ranges (regions_of state.old) }
+    requires named { Named (catalogue_of catalogue.now) q (variables_of state.old) }
+    requires found { Found state.old.limits (variables_of state.old) (gate (goal_at (catalogue_of catalogue.now) q)) g }
+    ensures { ClausesDoes (catalogue_of catalogue.now) (λ v. add_gate (catalogue_of catalogue.now) (run_of run) q new) state.old clauses.old state.new clauses.new }
 {
     if new {
         let it = catalogue.index.areas.tables.requirement_at(q);
-        let all = condition_literals::rest_false(catalogue, s, l, n, q, ranges, 0);
-        return setting::add_gated(s, clauses, l, n, r, g, it.requirement, all);
+        let all = condition_literals::rest_false(catalogue, state, q, ranges, 0);
+        setting::add_gated(state, clauses, run, g, it.requirement, all);
     }
-    n
 }
 
 fn add_through_gate(
     catalogue: &Catalogue,
-    s: &mut [u8],
+    state: &mut State,
     clauses: &mut [u8],
-    l: Limits,
-    n: Counters,
-    r: Run,
+    run: Run,
     q: usize,
     ranges: usize,
-) -> Counters
-    requires fits { Fits l (length s.old) }
-    requires good { Good (catalogue_of catalogue.now) l n (held l s.old) clauses.old [] }
-    requires long_enough { LongEnough l (length clauses.old) 16384 }
-    requires q_lt_requirements { (q < (counts_of catalogue.now).requirements) × (0 < r.number) }
-    requires at_hand { AtHand (catalogue_of catalogue.now) q ranges (held l s.old) }
-    requires named { Named (catalogue_of catalogue.now) q (variables n.variables (held l s.old)) }
-    ensures { ClausesDid (catalogue_of catalogue.now) l (λ v. add_through_gate (catalogue_of catalogue.now) (run_of r) q) n (held l s.old) clauses.old result (held l s.new) clauses.new }
+)
+    requires good { IsGoodWith (catalogue_of catalogue.now) state.old clauses.old [] }
+    requires long_enough { LongEnough state.old.limits (length clauses.old) 16384 }
+    requires q_lt_requirements { (q < (counts_of catalogue.now).requirements) × (0 < run.number) }
+    requires at_hand { AtHand (catalogue_of catalogue.now) q ranges (regions_of state.old) }
+    requires named { Named (catalogue_of catalogue.now) q (variables_of state.old) }
+    ensures { ClausesDoes (catalogue_of catalogue.now) (λ v. add_through_gate (catalogue_of catalogue.now) (run_of run) q) state.old clauses.old state.new clauses.new }
 {
     let it = catalogue.index.areas.tables.requirement_at(q);
     let gate = Origin::Gate(it.requirement);
-    let new = variable_map::variable(s, l, n.variables, gate).is_none();
-    let a = opening::name_variable(s, l, n, gate);
-    if a.full != 0 {
-        return a;
+    let new = state.variable(gate).is_none();
+    opening::name_variable(state, gate);
+    if state.used.full != 0 {
+        return;
     }
-    let g = opening::variable_of(s, l, a, gate);
-    let x = owner_variable(catalogue, s, l, a, q);
-    let b = add_gate(catalogue, s, clauses, l, a, r, q, ranges, g, new);
-    setting::add_any_gate(s, clauses, l, b, r, g, x)
+    let g = opening::variable_of(state, gate);
+    let x = owner_variable(catalogue, state, q);
+    add_gate(catalogue, state, clauses, run, q, ranges, g, new);
+    setting::add_any_gate(state, clauses, run, g, x);
 }
 
 // The requires clause of a fired disjunct.
 fn add_fired(
     catalogue: &Catalogue,
-    s: &mut [u8],
+    state: &mut State,
     clauses: &mut [u8],
-    l: Limits,
-    n: Counters,
-    r: Run,
+    run: Run,
     q: usize,
     ranges: usize,
     i: usize,
-) -> Counters
-    requires fits { Fits l (length s.old) }
-    requires good { Good (catalogue_of catalogue.now) l n (held l s.old) clauses.old [] }
-    requires long_enough { LongEnough l (length clauses.old) 16384 }
-    requires q_lt_requirements { (q < (counts_of catalogue.now).requirements) × (0 < r.number) × (unconditional (catalogue_of catalogue.now) q ≡ false) × (i < length (disjuncts_of (catalogue_of catalogue.now) q)) }
-    requires at_hand { AtHand (catalogue_of catalogue.now) q ranges (held l s.old) }
-    requires named { Named (catalogue_of catalogue.now) q (variables n.variables (held l s.old)) }
-    requires disjunct_known { DisjunctKnown (catalogue_of catalogue.now) (variables n.variables (held l s.old)) (disjunct_at (catalogue_of catalogue.now) q i) }
-    ensures { ClausesDid (catalogue_of catalogue.now) l (λ v. add_fired (catalogue_of catalogue.now) (run_of r) q i) n (held l s.old) clauses.old result (held l s.new) clauses.new }
+)
+    requires good { IsGoodWith (catalogue_of catalogue.now) state.old clauses.old [] }
+    requires long_enough { LongEnough state.old.limits (length clauses.old) 16384 }
+    requires q_lt_requirements { (q < (counts_of catalogue.now).requirements) × (0 < run.number) × (unconditional (catalogue_of catalogue.now) q ≡ false) × (i < length (disjuncts_of (catalogue_of catalogue.now) q)) }
+    requires at_hand { AtHand (catalogue_of catalogue.now) q ranges (regions_of state.old) }
+    requires named { Named (catalogue_of catalogue.now) q (variables_of state.old) }
+    requires disjunct_known { DisjunctKnown (catalogue_of catalogue.now) (variables_of state.old) (disjunct_at (catalogue_of catalogue.now) q i) }
+    ensures { ClausesDoes (catalogue_of catalogue.now) (λ v. add_fired (catalogue_of catalogue.now) (run_of run) q i) state.old clauses.old state.new clauses.new }
 {
-    let count = condition_literals::disjunct_literals(catalogue, s, l, n, q, i);
-    if l.literals - n.literals < count {
-        return encoder::filled(n);
+    let count = condition_literals::disjunct_literals(catalogue, state, q, i);
+    if state.limits.literals - state.used.literals < count {
+        state.used.full = 1;
+        return;
     }
     let it = catalogue.index.areas.tables.requirement_at(q);
-    let x = owner_variable(catalogue, s, l, n, q);
-    let all = condition_literals::rest_false(catalogue, s, l, n, q, ranges, count);
-    reporting::add_requires(s, clauses, l, n, r, x, count, it.requirement, all)
+    let x = owner_variable(catalogue, state, q);
+    let all = condition_literals::rest_false(catalogue, state, q, ranges, count);
+    reporting::add_requires(state, clauses, run, x, count, it.requirement, all);
 }
 
 fn add_all_fired(
     catalogue: &Catalogue,
-    s: &mut [u8],
+    state: &mut State,
     clauses: &mut [u8],
-    l: Limits,
-    n: Counters,
-    r: Run,
+    run: Run,
     q: usize,
     ranges: usize,
     indices: &[u16],
-) -> Counters
-    requires fits { Fits l (length s.old) }
-    requires good { Good (catalogue_of catalogue.now) l n (held l s.old) clauses.old [] }
-    requires long_enough { LongEnough l (length clauses.old) 16384 }
-    requires q_lt_requirements { (q < (counts_of catalogue.now).requirements) × (0 < r.number) × (unconditional (catalogue_of catalogue.now) q ≡ false) }
-    requires at_hand { AtHand (catalogue_of catalogue.now) q ranges (held l s.old) }
-    requires named { Named (catalogue_of catalogue.now) q (variables n.variables (held l s.old)) }
+)
+    requires good { IsGoodWith (catalogue_of catalogue.now) state.old clauses.old [] }
+    requires long_enough { LongEnough state.old.limits (length clauses.old) 16384 }
+    requires q_lt_requirements { (q < (counts_of catalogue.now).requirements) × (0 < run.number) × (unconditional (catalogue_of catalogue.now) q ≡ false) }
+    requires at_hand { AtHand (catalogue_of catalogue.now) q ranges (regions_of state.old) }
+    requires named { Named (catalogue_of catalogue.now) q (variables_of state.old) }
     requires given_indices { GivenIndices (catalogue_of catalogue.now) q indices.now }
-    requires fired_known { FiredKnown (catalogue_of catalogue.now) (variables n.variables (held l s.old)) q indices.now }
-    ensures { ClausesDid (catalogue_of catalogue.now) l (λ v. add_all_fired (catalogue_of catalogue.now) (run_of r) q indices.now) n (held l s.old) clauses.old result (held l s.new) clauses.new }
+    requires fired_known { FiredKnown (catalogue_of catalogue.now) (variables_of state.old) q indices.now }
+    ensures { ClausesDoes (catalogue_of catalogue.now) (λ v. add_all_fired (catalogue_of catalogue.now) (run_of run) q indices.now) state.old clauses.old state.new clauses.new }
 {
-    let mut m = n;
     for index in indices {
-        if m.full != 0 {
-            return m;
+        if state.used.full != 0 {
+            return;
         }
-        m = add_fired(catalogue, s, clauses, l, m, r, q, ranges, *index as usize);
+        add_fired(catalogue, state, clauses, run, q, ranges, *index as usize);
     }
-    m
 }
 
 // ---- the task
 
 fn handle_conditional(
     catalogue: &Catalogue,
-    s: &mut [u8],
+    state: &mut State,
     clauses: &mut [u8],
-    l: Limits,
-    n: Counters,
-    r: Run,
+    run: Run,
     q: usize,
     ranges: usize,
     indices: &[u16],
-) -> Counters
-    requires fits { Fits l (length s.old) }
-    requires good { Good (catalogue_of catalogue.now) l n (held l s.old) clauses.old [] }
-    requires long_enough { LongEnough l (length clauses.old) 16384 }
-    requires q_lt_requirements { (q < (counts_of catalogue.now).requirements) × (0 < r.number) × (unconditional (catalogue_of catalogue.now) q ≡ false) }
-    requires at_hand { AtHand (catalogue_of catalogue.now) q ranges (held l s.old) }
-    requires named { Named (catalogue_of catalogue.now) q (variables n.variables (held l s.old)) }
+)
+    requires good { IsGoodWith (catalogue_of catalogue.now) state.old clauses.old [] }
+    requires long_enough { LongEnough state.old.limits (length clauses.old) 16384 }
+    requires q_lt_requirements { (q < (counts_of catalogue.now).requirements) × (0 < run.number) × (unconditional (catalogue_of catalogue.now) q ≡ false) }
+    requires at_hand { AtHand (catalogue_of catalogue.now) q ranges (regions_of state.old) }
+    requires named { Named (catalogue_of catalogue.now) q (variables_of state.old) }
     requires given_indices { GivenIndices (catalogue_of catalogue.now) q indices.now }
-    ensures { ClausesDid (catalogue_of catalogue.now) l (λ v. λ u. add_all_fired (catalogue_of catalogue.now) (run_of r) q indices.now (name_disjuncts (catalogue_of catalogue.now) q indices.now u)) n (held l s.old) clauses.old result (held l s.new) clauses.new }
+    ensures { ClausesDoes (catalogue_of catalogue.now) (λ v. λ u. add_all_fired (catalogue_of catalogue.now) (run_of run) q indices.now (name_disjuncts (catalogue_of catalogue.now) q indices.now u)) state.old clauses.old state.new clauses.new }
 {
-    let m = naming::name_disjuncts(catalogue, s, l, n, q, indices);
-    if m.full != 0 {
-        return m;
+    naming::name_disjuncts(catalogue, state, q, indices);
+    if state.used.full != 0 {
+        return;
     }
-    add_all_fired(catalogue, s, clauses, l, m, r, q, ranges, indices)
+    add_all_fired(catalogue, state, clauses, run, q, ranges, indices);
 }
 
 fn handle_unconditional(
     catalogue: &Catalogue,
-    s: &mut [u8],
+    state: &mut State,
     clauses: &mut [u8],
-    l: Limits,
-    n: Counters,
-    r: Run,
+    run: Run,
     q: usize,
     ranges: usize,
-) -> Counters
-    requires fits { Fits l (length s.old) }
-    requires good { Good (catalogue_of catalogue.now) l n (held l s.old) clauses.old [] }
-    requires long_enough { LongEnough l (length clauses.old) 16384 }
-    requires q_lt_requirements { (q < (counts_of catalogue.now).requirements) × (0 < r.number) × (unconditional (catalogue_of catalogue.now) q ≡ true) }
-    requires at_hand { AtHand (catalogue_of catalogue.now) q ranges (held l s.old) }
-    requires named { Named (catalogue_of catalogue.now) q (variables n.variables (held l s.old)) }
-    ensures { ClausesDid (catalogue_of catalogue.now) l (λ v. add_unconditional (catalogue_of catalogue.now) (run_of r) q) n (held l s.old) clauses.old result (held l s.new) clauses.new }
+)
+    requires good { IsGoodWith (catalogue_of catalogue.now) state.old clauses.old [] }
+    requires long_enough { LongEnough state.old.limits (length clauses.old) 16384 }
+    requires q_lt_requirements { (q < (counts_of catalogue.now).requirements) × (0 < run.number) × (unconditional (catalogue_of catalogue.now) q ≡ true) }
+    requires at_hand { AtHand (catalogue_of catalogue.now) q ranges (regions_of state.old) }
+    requires named { Named (catalogue_of catalogue.now) q (variables_of state.old) }
+    ensures { ClausesDoes (catalogue_of catalogue.now) (λ v. add_unconditional (catalogue_of catalogue.now) (run_of run) q) state.old clauses.old state.new clauses.new }
 {
     let it = catalogue.index.areas.tables.requirement_at(q);
     if it.owner == Owner::Root || goals::count(catalogue, it.requirement, 4) < 4 {
-        return add_direct(catalogue, s, clauses, l, n, r, q, ranges);
+        add_direct(catalogue, state, clauses, run, q, ranges);
+        return;
     }
-    add_through_gate(catalogue, s, clauses, l, n, r, q, ranges)
+    add_through_gate(catalogue, state, clauses, run, q, ranges);
 }
 
 // Its goal's ranges being at hand. Of candidates that are known to be settled one of each name is named.
 fn handle(
     catalogue: &Catalogue,
-    s: &mut [u8],
+    state: &mut State,
     clauses: &mut [u8],
-    l: Limits,
-    n: Counters,
-    r: Run,
+    run: Run,
     q: usize,
     indices: &[u16],
     ranges: usize,
     settled: bool,
-) -> Counters
-    requires fits { Fits l (length s.old) }
-    requires good { Good (catalogue_of catalogue.now) l n (held l s.old) clauses.old [] }
-    requires long_enough { LongEnough l (length clauses.old) 16384 }
-    requires q_lt_requirements { (q < (counts_of catalogue.now).requirements) × (0 < r.number) }
-    requires at_hand { AtHand (catalogue_of catalogue.now) q ranges (held l s.old) }
+)
+    requires good { IsGoodWith (catalogue_of catalogue.now) state.old clauses.old [] }
+    requires long_enough { LongEnough state.old.limits (length clauses.old) 16384 }
+    requires q_lt_requirements { (q < (counts_of catalogue.now).requirements) × (0 < run.number) }
+    requires at_hand { AtHand (catalogue_of catalogue.now) q ranges (regions_of state.old) }
     requires given_indices { GivenIndices (catalogue_of catalogue.now) q indices.now }
-    requires settles { settled ≡ true → Settles (catalogue_of catalogue.now) l (distinct (goal_ranges (catalogue_of catalogue.now) (goal_at (catalogue_of catalogue.now) q))) n (held l s.old) }
-    ensures { ClausesDid (catalogue_of catalogue.now) l (λ v. handled (catalogue_of catalogue.now) (run_of r) q settled indices.now) n (held l s.old) clauses.old result (held l s.new) clauses.new }
+    requires settles { settled ≡ true → AreSettled (catalogue_of catalogue.now) (distinct (goal_ranges (catalogue_of catalogue.now) (goal_at (catalogue_of catalogue.now) q))) state.old }
+    ensures { ClausesDoes (catalogue_of catalogue.now) (λ v. handled (catalogue_of catalogue.now) (run_of run) q settled indices.now) state.old clauses.old state.new clauses.new }
 {
     let it = catalogue.index.areas.tables.requirement_at(q);
-    let a = opening::name_variable(s, l, n, owners::owner_origin(it.owner));
-    let b = naming::name_candidates(catalogue, s, l, a, ranges, settled);
-    if b.full != 0 {
-        return b;
+    opening::name_variable(state, owners::owner_origin(it.owner));
+    naming::name_candidates(catalogue, state, ranges, settled);
+    if state.used.full != 0 {
+        return;
     }
     match it.condition {
-        None => handle_unconditional(catalogue, s, clauses, l, b, r, q, ranges),
-        Some(_) => handle_conditional(catalogue, s, clauses, l, b, r, q, ranges, indices),
+        None => handle_unconditional(catalogue, state, clauses, run, q, ranges),
+        Some(_) => handle_conditional(catalogue, state, clauses, run, q, ranges, indices),
     }
 }
 
 // Requirement q is handled for these disjuncts. `settled`: its candidates are known to be settled.
 pub fn serve_requirement(
     catalogue: &Catalogue,
-    s: &mut [u8],
+    state: &mut State,
     clauses: &mut [u8],
-    l: Limits,
-    n: Counters,
-    r: Run,
+    run: Run,
     q: usize,
     indices: &[u16],
     settled: bool,
-) -> Counters
-    requires fits { Fits l (length s.old) }
-    requires good { Good (catalogue_of catalogue.now) l n (held l s.old) clauses.old [] }
-    requires long_enough { LongEnough l (length clauses.old) 16384 }
-    requires q_lt_requirements { (q < (counts_of catalogue.now).requirements) × (0 < r.number) }
-    requires marked { Marked 14 15 0 (held l s.old) }
+)
+    requires good { IsGoodWith (catalogue_of catalogue.now) state.old clauses.old [] }
+    requires long_enough { LongEnough state.old.limits (length clauses.old) 16384 }
+    requires q_lt_requirements { (q < (counts_of catalogue.now).requirements) × (0 < run.number) }
+    requires marked { Marked 14 15 0 (regions_of state.old) }
     requires given_indices { GivenIndices (catalogue_of catalogue.now) q indices.now }
-    requires settles { settled ≡ true → Settles (catalogue_of catalogue.now) l (distinct (goal_ranges (catalogue_of catalogue.now) (goal_at (catalogue_of catalogue.now) q))) n (held l s.old) }
-    ensures { ClausesAlike (catalogue_of catalogue.now) l (λ v. serving (catalogue_of catalogue.now) (run_of r) (requirement q indices.now)) n (held l s.old) clauses.old result (held l s.new) clauses.new }
+    requires settles { settled ≡ true → AreSettled (catalogue_of catalogue.now) (distinct (goal_ranges (catalogue_of catalogue.now) (goal_at (catalogue_of catalogue.now) q))) state.old }
+    ensures { ClausesDoAlike (catalogue_of catalogue.now) (λ v. serving (catalogue_of catalogue.now) (run_of run) (requirement q indices.now)) state.old clauses.old state.new clauses.new }
 {
     let it = catalogue.index.areas.tables.requirement_at(q);
-    let ranges = goals::gather(catalogue, s, l, it.requirement);
-    let m = handle(catalogue, s, clauses, l, n, r, q, indices, ranges, settled);
-    goals::release(s, l, ranges);
-    m
+    let ranges = goals::gather(catalogue, state, it.requirement);
+    handle(catalogue, state, clauses, run, q, indices, ranges, settled);
+    goals::release(state, ranges);
 }

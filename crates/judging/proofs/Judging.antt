@@ -24,12 +24,8 @@ use Rattle.tables.proofs.Laws.{conditions_counted}
 use Rattle.conditions.specs.Sizes.{Allowed, Earlier}
 use Rattle.cache.specs.Areas.{catalogue}
 use Rattle.cache.proofs.Laws.{ranges_held, conditions_held, conditions_same}
-use Rattle.state.specs.declared.Limits.{Limits}
-use Rattle.state.specs.Layout.{held}
-use Rattle.variable_map.specs.Mapping.{variables}
-use Rattle.decision_tracker.specs.Tracking.{decisions}
-use Rattle.encoder.specs.declared.Counters.{Counters}
-use Rattle.goals.specs.Goals.{true_of}
+use Rattle.encoder.specs.declared.State.{State}
+use Rattle.goals.specs.Goals.{truth_of}
 use Rattle.goals.proofs.Parts.{all_both}
 use Rattle.judging.specs.declared.Verdict.{Verdict}
 use Rattle.judging.specs.declared.Verdict.TheVariants.{Unknown}
@@ -110,7 +106,7 @@ alone : (b : Bool) → b ≡ (b && true)
 alone true = refl
 alone false = refl
 
-module _ (k : Counts) (m u t : List ℕ) (l : Limits) (n : Counters) (s : List ℕ) where
+module _ (k : Counts) (m u t : List ℕ) (state : State) where
   abbrev C : Catalogue
   C = catalogue k m u t
 
@@ -118,9 +114,9 @@ module _ (k : Counts) (m u t : List ℕ) (l : Limits) (n : Counters) (s : List �
   cs = (tables k t).conditions
 
   abbrev f : ℕ → Bool
-  f = true_of (variables n.variables (held l s)) (decisions n.decisions (held l s))
+  f = truth_of state
 
-  module _ {known : Known} {x : ℕ} (q : Asks k m u t l n s known x) where
+  module _ {known : Known} {x : ℕ} (q : Asks k m u t state known x) where
     x_allowed : Allowed (disjuncts cs x)
     x_allowed = q.catalogued.kept.sized.allowed x (rw (conditions_counted k t) q.given)
 
@@ -130,13 +126,12 @@ module _ (k : Counts) (m u t : List ℕ) (l : Limits) (n : Counters) (s : List �
 
     -- a leaf
     module _ {r : ℕ} (e : rules.leaf r ≡ get_or cs x no_condition) where
-      pub range_asked : AsksRange k m u t l n s known r
+      pub range_asked : AsksRange k m u t state known r
       range_asked =
           let p = q.catalogued.formed.conditions x (rw (conditions_held k m u t) q.given) in
           let g : r < length C.ranges = rw (conditions_same k m u t, sym e) at p in
           record {
             catalogued = q.catalogued;
-            fits = q.fits;
             mapped = q.mapped;
             kept = q.kept;
             right = q.right;
@@ -178,9 +173,6 @@ module _ (k : Counts) (m u t : List ℕ) (l : Limits) (n : Counters) (s : List �
       pub right_given : right < k.conditions
       right_given = omega (arith, halves.1, q.given)
 
-      pub left_asked : Asks k m u t l n s known left
-      left_asked = record { catalogued = q.catalogued; fits = q.fits; mapped = q.mapped; kept = q.kept; right = q.right; given = left_given }
-
       abbrev ls : List Disjunct
       ls = disjuncts cs left
 
@@ -194,9 +186,6 @@ module _ (k : Counts) (m u t : List ℕ) (l : Limits) (n : Counters) (s : List �
       some_right = omega (arith, (q.catalogued.kept.sized.allowed right (rw (conditions_counted k t) right_given)).some)
 
       module _ {known₁ : Known} (a : WorkedOut C cs f left known known₁) where
-        pub right_asked : Asks k m u t l n s known₁ right
-        right_asked = record { catalogued = q.catalogued; fits = q.fits; mapped = q.mapped; kept = q.kept; right = a.right; given = right_given }
-
         -- the verdicts of the halves
         module _ {known₂ : Known} (b : WorkedOut C cs f right known₁ known₂) {vs ws : List Verdict} (vn : length vs ≡ length ls) (wn : length ws ≡ length rs)
             (vi : vs ≡ take (length ls) (row_of known₂ left)) (wi : ws ≡ take (length rs) (row_of known₂ right)) where

@@ -8,12 +8,9 @@ use Rattle.rules.specs.Opening.{holds_now}
 use Rattle.tables.specs.declared.Counts.{Counts}
 use Rattle.tables.specs.Tables.{tables}
 use Rattle.cache.specs.Areas.{catalogue}
-use Rattle.state.specs.declared.Limits.{Limits}
-use Rattle.state.specs.Layout.{held, Fits}
-use Rattle.variable_map.specs.Mapping.{variables, Mapped}
-use Rattle.decision_tracker.specs.Tracking.{decisions, Kept}
-use Rattle.encoder.specs.declared.Counters.{Counters}
-use Rattle.goals.specs.Goals.{true_of}
+use Rattle.encoder.specs.declared.State.{State}
+use Rattle.encoder.specs.Does.{IsMapped, IsTracked}
+use Rattle.goals.specs.Goals.{truth_of}
 use Rattle.index.specs.Catalogued.{Catalogued}
 use Rattle.judging.specs.declared.Verdict.{Verdict}
 use Rattle.judging.specs.declared.Verdict.TheVariants.{Unknown, Holds, Fails}
@@ -70,12 +67,11 @@ pub record Verdicts (c : Catalogue) (cs : List Condition) (true? : ℕ → Bool)
   pub ranges : (r : ℕ) → (range_at known r ≡ Unknown → ⊥) → range_at known r ≡ verdict_of (any true? (matching c r))
 
 -- there is a place for range r, and the verdicts that are kept are right
-pub record AsksRange (k : Counts) (m u t : List ℕ) (l : Limits) (n : Counters) (s : List ℕ) (known : Known) (r : ℕ) : Type 0 where
+pub record AsksRange (k : Counts) (m u t : List ℕ) (state : State) (known : Known) (r : ℕ) : Type 0 where
   pub catalogued : Catalogued k m u t
-  pub fits : Fits l (length s)
-  pub mapped : Mapped l n.variables (held l s)
-  pub kept : Kept l n.decisions (held l s)
-  pub right : Verdicts (catalogue k m u t) (tables k t).conditions (true_of (variables n.variables (held l s)) (decisions n.decisions (held l s))) known
+  pub mapped : IsMapped state
+  pub kept : IsTracked state
+  pub right : Verdicts (catalogue k m u t) (tables k t).conditions (truth_of state) known
   pub given : r < 512
 
 -- v is the verdict of range r, and the conditions that were worked out still are
@@ -85,12 +81,11 @@ pub record RangeAsked (c : Catalogue) (cs : List Condition) (true? : ℕ → Boo
   pub still : (y : ℕ) → (verdict_at known y 0 ≡ Unknown → ⊥) → verdict_at known' y 0 ≡ Unknown → ⊥
 
 -- condition x is there, and the verdicts that are kept are right
-pub record Asks (k : Counts) (m u t : List ℕ) (l : Limits) (n : Counters) (s : List ℕ) (known : Known) (x : ℕ) : Type 0 where
+pub record Asks (k : Counts) (m u t : List ℕ) (state : State) (known : Known) (x : ℕ) : Type 0 where
   pub catalogued : Catalogued k m u t
-  pub fits : Fits l (length s)
-  pub mapped : Mapped l n.variables (held l s)
-  pub kept : Kept l n.decisions (held l s)
-  pub right : Verdicts (catalogue k m u t) (tables k t).conditions (true_of (variables n.variables (held l s)) (decisions n.decisions (held l s))) known
+  pub mapped : IsMapped state
+  pub kept : IsTracked state
+  pub right : Verdicts (catalogue k m u t) (tables k t).conditions (truth_of state) known
   pub given : x < k.conditions
 
 -- condition x is worked out, as are those that were

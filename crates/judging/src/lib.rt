@@ -3,17 +3,14 @@
 
 ghost use Rattle.std.specs.Prelude.{◌≡◌, ◌+◌, ◌*◌, ◌<◌, ◌≤◌, length, get_or, take};
 ghost use Rattle.rules.specs.Conditions.{disjuncts};
-ghost use Rattle.state.specs.Layout.{held, Fits};
-ghost use Rattle.variable_map.specs.Mapping.{variables, Mapped};
-ghost use Rattle.decision_tracker.specs.Tracking.{decisions, Kept};
-ghost use Rattle.goals.specs.Goals.{true_of};
+ghost use Rattle.encoder.specs.Does.{IsMapped, IsTracked};
+ghost use Rattle.goals.specs.Goals.{truth_of};
 ghost use Rattle.judging.specs.declared.Verdict.{Verdict};
 ghost use Rattle.judging.specs.Judging.{verdict_of, both, says_holds, row_of, Nothing, Pairs, Either, AsksRange, RangeAsked, Asks, WorkedOut, Flags, Judged};
 ghost use Rattle.index.specs.Views.{catalogue_of, counts_of, tables_of, bytes_of};
 
-use encoder::Counters;
+use encoder::State;
 use index::Catalogue;
-use state::Limits;
 use tables::Condition;
 
 // ---- verdicts
@@ -115,27 +112,13 @@ impl Known {
     }
 
     // The verdict of range r. It is asked once.
-    fn range(
-        &mut self,
-        catalogue: &Catalogue,
-        s: &[u8],
-        l: Limits,
-        n: Counters,
-        r: usize,
-    ) -> Verdict
-        requires { AsksRange (counts_of catalogue.now) catalogue.now.index.areas.marks.now catalogue.now.index.areas.unions.now (bytes_of catalogue.now) l n s.now self.old r }
-        ensures { RangeAsked (catalogue_of catalogue.now) (tables_of catalogue.now).conditions (true_of (variables n.variables (held l s.now)) (decisions n.decisions (held l s.now))) r result self.old self.new }
+    fn range(&mut self, catalogue: &Catalogue, state: &State, r: usize) -> Verdict
+        requires { AsksRange (counts_of catalogue.now) catalogue.now.index.areas.marks.now catalogue.now.index.areas.unions.now (bytes_of catalogue.now) state.now self.old r }
+        ensures { RangeAsked (catalogue_of catalogue.now) (tables_of catalogue.now).conditions (truth_of state.now) r result self.old self.new }
     {
         match self.ranges[r] {
             Verdict::Unknown => {
-                let v = Verdict::from(goals::range_holds(
-                    catalogue,
-                    s,
-                    l,
-                    n.variables,
-                    n.decisions,
-                    r,
-                ));
+                let v = Verdict::from(goals::range_holds(catalogue, state, r));
                 self.ranges[r] = v;
                 v
             }
@@ -154,26 +137,26 @@ impl Known {
     }
 
     // Condition x is worked out, unless it was: after its halves, which have smaller numbers.
-    fn work_out(&mut self, catalogue: &Catalogue, s: &[u8], l: Limits, n: Counters, x: usize)
-        requires { Asks (counts_of catalogue.now) catalogue.now.index.areas.marks.now catalogue.now.index.areas.unions.now (bytes_of catalogue.now) l n s.now self.old x }
-        ensures { WorkedOut (catalogue_of catalogue.now) (tables_of catalogue.now).conditions (true_of (variables n.variables (held l s.now)) (decisions n.decisions (held l s.now))) x self.old self.new }
+    fn work_out(&mut self, catalogue: &Catalogue, state: &State, x: usize)
+        requires { Asks (counts_of catalogue.now) catalogue.now.index.areas.marks.now catalogue.now.index.areas.unions.now (bytes_of catalogue.now) state.now self.old x }
+        ensures { WorkedOut (catalogue_of catalogue.now) (tables_of catalogue.now).conditions (truth_of state.now) x self.old self.new }
     {
         if self.disjuncts[x][0] != Verdict::Unknown {
             return;
         }
         match catalogue.index.areas.tables.condition_at(x) {
             Condition::Range(range) => {
-                let v = self.range(catalogue, s, l, n, range as usize);
+                let v = self.range(catalogue, state, range as usize);
                 self.disjuncts[x] = leaf_row(v);
             }
             Condition::And { left, right } => {
-                self.work_out(catalogue, s, l, n, left as usize);
-                self.work_out(catalogue, s, l, n, right as usize);
+                self.work_out(catalogue, state, left as usize);
+                self.work_out(catalogue, state, right as usize);
                 self.disjuncts[x] = and_row(self.row(catalogue, left), self.row(catalogue, right));
             }
             Condition::Or { left, right } => {
-                self.work_out(catalogue, s, l, n, left as usize);
-                self.work_out(catalogue, s, l, n, right as usize);
+                self.work_out(catalogue, state, left as usize);
+                self.work_out(catalogue, state, right as usize);
                 self.disjuncts[x] = or_row(self.row(catalogue, left), self.row(catalogue, right));
             }
         }
@@ -194,28 +177,26 @@ fn flags_of(row: &[Verdict; 64]) -> [bool; 64]
 }
 
 // Which disjuncts of condition c hold. Each condition that it comes of is worked out once, and each range asked once.
-fn each_holding(catalogue: &Catalogue, s: &[u8], l: Limits, n: Counters, c: usize) -> [bool; 64]
-    requires fits { Fits l (length s.now) }
-    requires mapped { Mapped l n.variables (held l s.now) × Kept l n.decisions (held l s.now) }
+fn each_holding(catalogue: &Catalogue, state: &State, c: usize) -> [bool; 64]
+    requires mapped { IsMapped state.now × IsTracked state.now }
     requires c_lt_conditions { c < (counts_of catalogue.now).conditions }
-    ensures { Judged (catalogue_of catalogue.now) (true_of (variables n.variables (held l s.now)) (decisions n.decisions (held l s.now))) (disjuncts (tables_of catalogue.now).conditions c) result }
+    ensures { Judged (catalogue_of catalogue.now) (truth_of state.now) (disjuncts (tables_of catalogue.now).conditions c) result }
 {
     let mut known = Known::nothing();
-    known.work_out(catalogue, s, l, n, c);
+    known.work_out(catalogue, state, c);
     flags_of(&known.disjuncts[c])
 }
 
 // Which disjuncts of condition c hold. Where there is one alone no verdicts are kept.
-pub fn holding(catalogue: &Catalogue, s: &[u8], l: Limits, n: Counters, c: usize) -> [bool; 64]
-    requires fits { Fits l (length s.now) }
-    requires mapped { Mapped l n.variables (held l s.now) × Kept l n.decisions (held l s.now) }
+pub fn holding(catalogue: &Catalogue, state: &State, c: usize) -> [bool; 64]
+    requires mapped { IsMapped state.now × IsTracked state.now }
     requires c_lt_conditions { c < (counts_of catalogue.now).conditions }
-    ensures { Judged (catalogue_of catalogue.now) (true_of (variables n.variables (held l s.now)) (decisions n.decisions (held l s.now))) (disjuncts (tables_of catalogue.now).conditions c) result }
+    ensures { Judged (catalogue_of catalogue.now) (truth_of state.now) (disjuncts (tables_of catalogue.now).conditions c) result }
 {
     if catalogue.conditions().count(c) == 1 {
         let mut flags = [false; 64];
-        flags[0] = goals::disjunct_holds(catalogue, s, l, n, c, 0);
+        flags[0] = goals::disjunct_holds(catalogue, state, c, 0);
         return flags;
     }
-    each_holding(catalogue, s, l, n, c)
+    each_holding(catalogue, state, c)
 }

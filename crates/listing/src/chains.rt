@@ -1,13 +1,13 @@
 // The chains of the waiting entries by condition, so that each condition's lines are found without a look at the other entries.
 ghost use Rattle.std.specs.Prelude.{◌≡◌, ◌+◌, ◌<◌, ◌≤◌, length, get_or, set, replicate};
-ghost use Rattle.entries.specs.Entries.{waiting_in, Long};
+ghost use Rattle.entries.specs.Entries.{Long};
 ghost use Rattle.goals.specs.Goals.{AllGiven};
+ghost use Rattle.line_fields.specs.Listed.{entries_waiting};
 ghost use Rattle.listing.specs.Chains.{Key, Linked};
 ghost use Rattle.index.specs.Views.{catalogue_of, counts_of};
 
-use encoder::Counters;
+use encoder::State;
 use index::Catalogue;
-use state::Limits;
 
 // For each condition its first entry, and for each entry the next one of the same condition. The number of entries ends a chain.
 #[derive(Drop)]
@@ -17,13 +17,13 @@ pub struct Chains {
 }
 
 // The condition of entry i.
-fn key(catalogue: &Catalogue, w: &[u8], l: Limits, n: Counters, i: usize) -> usize
-    requires long { Long l (length w.now) × (n.waiting ≤ l.waiting) }
-    requires all_given { AllGiven (catalogue_of catalogue.now) (waiting_in l n.waiting w.now) }
-    requires i_lt_waiting { i < n.waiting }
-    ensures { Key (catalogue_of catalogue.now) (waiting_in l n.waiting w.now) (counts_of catalogue.now).conditions i result }
+fn key(catalogue: &Catalogue, state: &State, w: &[u8], i: usize) -> usize
+    requires long { Long state.now.limits (length w.now) × (state.now.used.waiting ≤ state.now.limits.waiting) }
+    requires all_given { AllGiven (catalogue_of catalogue.now) (entries_waiting state.now w.now) }
+    requires i_lt_waiting { i < state.now.used.waiting }
+    ensures { Key (catalogue_of catalogue.now) (entries_waiting state.now w.now) (counts_of catalogue.now).conditions i result }
 {
-    let entry = entries::waiting_at(w, l, n.waiting, i);
+    let entry = entries::waiting_at(w, state.limits, state.used.waiting, i);
     let requirement = catalogue
         .index
         .areas
@@ -53,25 +53,25 @@ impl Chains {
     }
 
     // Entry i, those behind it being linked.
-    fn link_entry(&mut self, catalogue: &Catalogue, w: &[u8], l: Limits, n: Counters, i: usize)
-        requires long { Long l (length w.now) × (n.waiting ≤ l.waiting) }
-        requires all_given { AllGiven (catalogue_of catalogue.now) (waiting_in l n.waiting w.now) }
-        requires linked { Linked (catalogue_of catalogue.now) (waiting_in l n.waiting w.now) n.waiting (counts_of catalogue.now).conditions (i + 1) self.old.heads self.old.links × (i < n.waiting) }
-        ensures { Linked (catalogue_of catalogue.now) (waiting_in l n.waiting w.now) n.waiting (counts_of catalogue.now).conditions i self.new.heads self.new.links }
+    fn link_entry(&mut self, catalogue: &Catalogue, state: &State, w: &[u8], i: usize)
+        requires long { Long state.now.limits (length w.now) × (state.now.used.waiting ≤ state.now.limits.waiting) }
+        requires all_given { AllGiven (catalogue_of catalogue.now) (entries_waiting state.now w.now) }
+        requires linked { Linked (catalogue_of catalogue.now) (entries_waiting state.now w.now) state.now.used.waiting (counts_of catalogue.now).conditions (i + 1) self.old.heads self.old.links × (i < state.now.used.waiting) }
+        ensures { Linked (catalogue_of catalogue.now) (entries_waiting state.now w.now) state.now.used.waiting (counts_of catalogue.now).conditions i self.new.heads self.new.links }
     {
-        let c = key(catalogue, w, l, n, i);
+        let c = key(catalogue, state, w, i);
         self.link(c, i);
     }
 
     // All of them, no condition having an entry yet.
-    pub fn link_entries(&mut self, catalogue: &Catalogue, w: &[u8], l: Limits, n: Counters)
-        requires long { Long l (length w.now) × (n.waiting ≤ l.waiting) }
-        requires all_given { AllGiven (catalogue_of catalogue.now) (waiting_in l n.waiting w.now) }
-        requires heads_value { (self.old.heads ≡ replicate 256 n.waiting) × (self.old.links ≡ replicate 2048 0) }
-        ensures { Linked (catalogue_of catalogue.now) (waiting_in l n.waiting w.now) n.waiting (counts_of catalogue.now).conditions 0 self.new.heads self.new.links }
+    pub fn link_entries(&mut self, catalogue: &Catalogue, state: &State, w: &[u8])
+        requires long { Long state.now.limits (length w.now) × (state.now.used.waiting ≤ state.now.limits.waiting) }
+        requires all_given { AllGiven (catalogue_of catalogue.now) (entries_waiting state.now w.now) }
+        requires heads_value { (self.old.heads ≡ replicate 256 state.now.used.waiting) × (self.old.links ≡ replicate 2048 0) }
+        ensures { Linked (catalogue_of catalogue.now) (entries_waiting state.now w.now) state.now.used.waiting (counts_of catalogue.now).conditions 0 self.new.heads self.new.links }
     {
-        for i in (0..n.waiting).rev() {
-            self.link_entry(catalogue, w, l, n, i);
+        for i in (0..state.used.waiting).rev() {
+            self.link_entry(catalogue, state, w, i);
         }
     }
 

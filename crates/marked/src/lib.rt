@@ -7,6 +7,9 @@ ghost use Rattle.marked.specs.Marked.{list_of, marks_of, listed, is_marked, Mark
 
 use state::{Limits, Region};
 
+// The number that stands for the root in the lists of owners; a part has its own.
+pub const ROOT: u16 = 1024;
+
 // The lists that have marks.
 #[derive(Clone, Copy)]
 pub enum MarkedList {

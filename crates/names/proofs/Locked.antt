@@ -15,11 +15,10 @@ use Rattle.rules.proofs.DistinctEnough.{fold_append}
 use Rattle.tables.specs.declared.Counts.{Counts}
 use Rattle.cache.specs.Areas.{catalogue}
 use Rattle.cache.proofs.Laws.{parts_held}
-use Rattle.state.specs.declared.Limits.{Limits}
-use Rattle.encoder.specs.declared.Counters.{Counters}
-use Rattle.encoder.specs.Did.{StateDid, ClausesDid}
+use Rattle.encoder.specs.declared.State.{State}
 use Rattle.encoder.specs.Held.{KnownUnlessFull}
-use Rattle.encoder.proofs.Steps.{state_same, state_none, clauses_none, state_then}
+use Rattle.encoder.specs.Does.{StateDoes, ClausesDoes}
+use Rattle.encoder.proofs.Does.{does_same, does_then, does_none, clauses_do_none}
 use Rattle.index.specs.Chains.{Skips}
 use Rattle.index.proofs.Walking.{walk}
 use Rattle.parts.specs.declared.Parts.TheVariants.{Locked, Others}
@@ -107,29 +106,28 @@ module _ (k : Counts) (m u t : List ℕ) (n : ℕ) {o : Option ℕ} (e : o ≡ s
   unfolding locked_out others
   none_others h = rw (none_locked h, others)
 
-  module _ {l : Limits} {a : Counters} {st : ℕ → List ℕ} where
-    pub locked_named : {a' a'' : Counters} {st' st'' : ℕ → List ℕ} → {locked : ℕ} → o ≡ Some locked
-        → StateDid (catalogue k m u t) l (λ v. fold (naming_of (catalogue k m u t) Variable) (parts_for (catalogue k m u t) (Locked n))) a st a' st'
-        → StateDid (catalogue k m u t) l (λ v. fold (naming_of (catalogue k m u t) Variable) (parts_for (catalogue k m u t) (Others n locked))) a' st' a'' st''
-        → StateDid (catalogue k m u t) l (λ v. fold (naming_of (catalogue k m u t) Variable) (locked_part (catalogue k m u t) n ++ locked_out (catalogue k m u t) n)) a st a'' st''
+  module _ {x : State} where
+    pub locked_named : {x' x'' : State} {locked : ℕ} → o ≡ Some locked
+        → StateDoes (catalogue k m u t) (λ v. fold (naming_of (catalogue k m u t) Variable) (parts_for (catalogue k m u t) (Locked n))) x x'
+        → StateDoes (catalogue k m u t) (λ v. fold (naming_of (catalogue k m u t) Variable) (parts_for (catalogue k m u t) (Others n locked))) x' x''
+        → StateDoes (catalogue k m u t) (λ v. fold (naming_of (catalogue k m u t) Variable) (locked_part (catalogue k m u t) n ++ locked_out (catalogue k m u t) n)) x x''
     locked_named h d g =
-        state_same (state_then d g)
+        does_same (does_then d g)
         (λ v s. rw (locked_parts held n, some_others h) (sym (fold_append (naming_of held Variable) (locked_part held n) (locked_out held n) s)))
 
     pub locked_none : o ≡ None
-        → StateDid (catalogue k m u t) l (λ v. fold (naming_of (catalogue k m u t) Variable) (locked_part (catalogue k m u t) n ++ locked_out (catalogue k m u t) n)) a st a st
+        → StateDoes (catalogue k m u t) (λ v. fold (naming_of (catalogue k m u t) Variable) (locked_part (catalogue k m u t) n ++ locked_out (catalogue k m u t) n)) x x
     unfolding fold
-    locked_none h = state_none (λ v s. rw (none_locked h, none_others h))
+    locked_none h = does_none (λ v s. rw (none_locked h, none_others h))
 
-    pub locks_added : (r : rules.Run) {a' : Counters} {st' : ℕ → List ℕ} {cl cl' : List ℕ} → {locked : ℕ} → o ≡ Some locked
-        → ClausesDid (catalogue k m u t) l (λ v. fold (adding_of r Adding.Lock) (parts_for (catalogue k m u t) (Others n locked))) a st cl a' st' cl'
-        → ClausesDid (catalogue k m u t) l (λ v. fold (adding_of r Adding.Lock) (locked_out (catalogue k m u t) n)) a st cl a' st' cl'
+    pub locks_added : (r : rules.Run) {x' : State} {cl cl' : List ℕ} {locked : ℕ} → o ≡ Some locked
+        → ClausesDoes (catalogue k m u t) (λ v. fold (adding_of r Adding.Lock) (parts_for (catalogue k m u t) (Others n locked))) x cl x' cl'
+        → ClausesDoes (catalogue k m u t) (λ v. fold (adding_of r Adding.Lock) (locked_out (catalogue k m u t) n)) x cl x' cl'
     locks_added r h d = rw (some_others h) at d
 
-    pub locks_none : (r : rules.Run) {cl : List ℕ} → o ≡ None
-        → ClausesDid (catalogue k m u t) l (λ v. fold (adding_of r Adding.Lock) (locked_out (catalogue k m u t) n)) a st cl a st cl
+    pub locks_none : (r : rules.Run) {cl : List ℕ} → o ≡ None → ClausesDoes (catalogue k m u t) (λ v. fold (adding_of r Adding.Lock) (locked_out (catalogue k m u t) n)) x cl x cl
     unfolding fold
-    locks_none r h = clauses_none (λ v s. rw (none_others h))
+    locks_none r h = clauses_do_none (λ v s. rw (none_others h))
 
   pub others_known : {full : Bool} {vs : List _} → {locked : ℕ} → o ≡ Some locked → KnownUnlessFull full vs (locked_out (catalogue k m u t) n) → KnownUnlessFull full vs (parts_for (catalogue k m u t) (Others n locked))
   others_known h a = rw (some_others h) a

@@ -21,11 +21,11 @@ use Rattle.tables.specs.declared.Counts.{Counts}
 use Rattle.tables.specs.Tables.{tables}
 use Rattle.cache.specs.Areas.{catalogue}
 use Rattle.cache.proofs.Laws.{several_held}
-use Rattle.state.specs.declared.Limits.{Limits}
-use Rattle.encoder.specs.declared.Counters.{Counters}
-use Rattle.encoder.specs.Did.{on_opening, with_several, StateDid, ClausesDid, PlainDid}
-use Rattle.encoder.specs.Held.{GoodAlone, KnownUnlessFull}
-use Rattle.encoder.proofs.Steps.{state_same, clauses_same, state_none, state_then, clauses_then, state_then_clauses, alone_after, known_after}
+use Rattle.encoder.specs.declared.State as encoder
+use Rattle.encoder.specs.Did.{on_opening, with_several}
+use Rattle.encoder.specs.Does.{StateDoes, PlainDoes, ClausesDoes, IsGood}
+use Rattle.encoder.specs.Held.{KnownUnlessFull}
+use Rattle.encoder.proofs.Does.{does_same, does_then, does_none, at_catalogue, good_then, known_then, clauses_do_same, clauses_do_then, state_then_clauses_do}
 use Rattle.parts.specs.declared.Parts.TheVariants.{Excluded}
 use Rattle.parts.specs.declared.Naming.TheVariants.{Variable}
 use Rattle.parts.specs.declared.Adding.TheVariants as Adding
@@ -39,21 +39,21 @@ use Rattle.names.specs.Names.{name_parts, NamesParts, add_clauses}
 
 -- ---- several allowed
 
-module _ (k : Counts) (m u t : List ℕ) (n : ℕ) {l : Limits} {a : Counters} {st : ℕ → List ℕ} {b : Bool} (e : b ≡ get_or (tables k t).names n false) where
-  pub several_served_law : {a' : Counters} {st' : ℕ → List ℕ} → b ≡ true → PlainDid l (λ c v. on_opening (with_several n)) a st a' st'
-      → StateDid (catalogue k m u t) l (λ v. on_opening (serve_name (catalogue k m u t) n)) a st a' st'
-  several_served_law i d = state_same (d.is (catalogue k m u t)) (λ v s. unfold on_opening with_several serve_name when in rw (several_held k m u t n, ← e, i))
+module _ (k : Counts) (m u t : List ℕ) (n : ℕ) {x : encoder.State} {b : Bool} (e : b ≡ get_or (tables k t).names n false) where
+  pub several_served_law : {x' : encoder.State} → b ≡ true → PlainDoes (λ c v. on_opening (with_several n)) x x'
+      → StateDoes (catalogue k m u t) (λ v. on_opening (serve_name (catalogue k m u t) n)) x x'
+  several_served_law i d = does_same (at_catalogue d) (λ v s. unfold on_opening with_several serve_name when in rw (several_held k m u t n, ← e, i))
 
-  pub several_not : b ≡ false → StateDid (catalogue k m u t) l (λ v. on_opening (serve_name (catalogue k m u t) n)) a st a st
-  several_not i = state_none (λ v s. unfold on_opening serve_name when in rw (several_held k m u t n, ← e, i))
+  pub several_not : b ≡ false → StateDoes (catalogue k m u t) (λ v. on_opening (serve_name (catalogue k m u t) n)) x x
+  several_not i = does_none (λ v s. unfold on_opening serve_name when in rw (several_held k m u t n, ← e, i))
 
 -- ---- the clauses
 
-module _ {c : Catalogue} {l : Limits} (r : Run) (n : ℕ) {a a' a'' : Counters} {st st' st'' : ℕ → List ℕ} {cl cl' cl'' : List ℕ} where
-  pub clauses_added : ClausesDid c l (λ v. fold (adding_of r Adding.Lock) (locked_out c n)) a st cl a' st' cl'
-      → ClausesDid c l (λ v. fold (adding_of r Adding.Excluded) (parts_for c (Excluded n))) a' st' cl' a'' st'' cl''
-      → ClausesDid c l (λ v. add_clauses c r n) a st cl a'' st'' cl''
-  clauses_added d g = clauses_same (clauses_then d g) (λ v s. unfold add_clauses in rw (excluded_parts_law c n))
+module _ {c : Catalogue} (r : Run) (n : ℕ) {x x' x'' : encoder.State} {cl cl' cl'' : List ℕ} where
+  pub clauses_added : ClausesDoes c (λ v. fold (adding_of r Adding.Lock) (locked_out c n)) x cl x' cl'
+      → ClausesDoes c (λ v. fold (adding_of r Adding.Excluded) (parts_for c (Excluded n))) x' cl' x'' cl''
+      → ClausesDoes c (λ v. add_clauses c r n) x cl x'' cl''
+  clauses_added d g = clauses_do_same (clauses_do_then d g) (λ v s. unfold add_clauses in rw (excluded_parts_law c n))
 
 pub excluded_known : (c : Catalogue) (n : ℕ) {full : Bool} {vs : List Origin} → KnownUnlessFull full vs (excluded_parts c n) → KnownUnlessFull full vs (parts_for c (Excluded n))
 excluded_known c n a = rw (excluded_parts_law c n) a
@@ -100,24 +100,24 @@ module _ (c : Catalogue) (r : Run) (n : ℕ) where
   unfolding serve serve_name
   name_erased f o = when_commutes erased _ _ (λ u. refl) o
 
-pub name_served : {c : Catalogue} {l : Limits} (r : Run) (n : ℕ) {a a' a'' : Counters} {st st' st'' : ℕ → List ℕ} {cl cl' : List ℕ}
-    → NamesParts c l n a st a' st' → ClausesDid c l (λ v. add_clauses c r n) a' st' cl a'' st'' cl' → ClausesDid c l (λ v. serving c r (name n)) a st cl a'' st'' cl'
+pub name_served : {c : Catalogue} (r : Run) (n : ℕ) {x x' x'' : encoder.State} {cl cl' : List ℕ}
+    → NamesParts c n x x' → ClausesDoes c (λ v. add_clauses c r n) x' cl x'' cl' → ClausesDoes c (λ v. serving c r (name n)) x cl x'' cl'
 unfolding serving
-name_served {c} r n d g = task_served c r (name n) (name_erased c r n) (state_then_clauses d.did g) (λ v s. steps_serve c r n s)
+name_served {c} r n d g = task_served c r (name n) (name_erased c r n) (state_then_clauses_do d.does g) (λ v s. steps_serve c r n s)
 
 -- ---- the parts are named
 
-module _ {c : Catalogue} {l : Limits} (n : ℕ) {a₀ a₁ a₂ a₃ : Counters} {st₀ st₁ st₂ st₃ : ℕ → List ℕ} (g₀ : GoodAlone c l a₀ st₀)
-    (d₁ : StateDid c l (λ v. on_opening (serve_name c n)) a₀ st₀ a₁ st₁)
-    (d₂ : StateDid c l (λ v. fold (naming_of c Variable) (locked_part c n ++ locked_out c n)) a₁ st₁ a₂ st₂)
-    (d₃ : StateDid c l (λ v. fold (naming_of c Variable) (parts_for c (Excluded n))) a₂ st₂ a₃ st₃) where
-  pub parts_named : NamesParts c l n a₀ st₀ a₃ st₃
+module _ {c : Catalogue} (n : ℕ) {x₀ x₁ x₂ x₃ : encoder.State} (g₀ : IsGood c x₀)
+    (d₁ : StateDoes c (λ v. on_opening (serve_name c n)) x₀ x₁)
+    (d₂ : StateDoes c (λ v. fold (naming_of c Variable) (locked_part c n ++ locked_out c n)) x₁ x₂)
+    (d₃ : StateDoes c (λ v. fold (naming_of c Variable) (parts_for c (Excluded n))) x₂ x₃) where
+  pub parts_named : NamesParts c n x₀ x₃
   parts_named =
-      let g₁ = alone_after d₁ g₀ in
-      let g₂ = alone_after d₂ g₁ in
+      let g₁ = good_then d₁ g₀ in
+      let g₂ = good_then d₂ g₁ in
       let k = named_known Variable d₂ g₁ in
       record {
-        did = state_same (state_then (state_then d₁ d₂) d₃) (λ v s. unfold name_parts in rw (excluded_parts_law c n));
-        locked = known_after d₃ g₂ (record { known = λ e. record { known = each_right (locked_part c n) (k.known e).known } });
+        does = does_same (does_then (does_then d₁ d₂) d₃) (λ v s. unfold name_parts in rw (excluded_parts_law c n));
+        locked = known_then d₃ g₂ (record { known = λ e. record { known = each_right (locked_part c n) (k.known e).known } });
         excluded = rw (excluded_parts_law c n) at (named_known Variable d₃ g₂);
       }

@@ -12,11 +12,13 @@ use Rattle.rules.proofs.Membership.{filter_out, elem_in, elem_out}
 use Rattle.rules.proofs.Grows.{Prefix, either}
 use Rattle.state.specs.declared.Limits.{Limits}
 use Rattle.encoder.specs.declared.Counters.{Counters}
+use Rattle.encoder.specs.declared.State as encoder
 use Rattle.encoder.specs.Held.{Reading, state_of, Good}
 use Rattle.encoder.specs.Did.{Did, is_full}
+use Rattle.encoder.specs.Does.{Does, IsGoodWith, regions_of}
 use Rattle.encoder.proofs.Steps.{not_full}
-use Rattle.naming.specs.Settled.{Noted, Settled, AllSettled, Settles}
-use Rattle.naming.specs.Alike.{untracked, Alike, AlikeIn, AlikeDid}
+use Rattle.naming.specs.Settled.{Noted, Settled, AllSettled, Settles, AreSettled}
+use Rattle.naming.specs.Alike.{untracked, Alike, AlikeIn, AlikeDid, AlikeDoes, ClausesDoAlike}
 use Rattle.naming.proofs.Alike.{in_same, there, tracked_same}
 use Rattle.naming.proofs.Settled.{Stands, settled_stands, other_areas}
 
@@ -83,3 +85,30 @@ module _ {c : Catalogue} {l : Limits} {G : Reading → State → State} {n n' : 
       let more : Prefix s.variables (G v s).variables = rw (ap (λ (u : State). u.variables) (d.like e v).rest) at (d.did.wide v s).grows.variables in
       let x = h.held e v cl wt in
       record { each = λ r p a b. settled_stands more (k v s) (x.each r p a b) })
+
+-- ---- of the encoder's state
+
+module _ {c : Catalogue} {G : Reading → State → State} {x x' : encoder.State} {cl wt cl' wt' : List ℕ} where
+  pub does_alike : Does c G x cl wt x' cl' wt' → AlikeDoes c G x cl wt x' cl' wt'
+  does_alike d = record { limits = d.limits; area = d.area; did = did_alike d.did }
+
+  pub alike_does_as : {F : Reading → State → State} → AlikeDoes c F x cl wt x' cl' wt'
+      → ((v : Reading) → F v (state_of c x.limits v x.used (regions_of x) cl wt) ≡ G v (state_of c x.limits v x.used (regions_of x) cl wt)) → AlikeDoes c G x cl wt x' cl' wt'
+  alike_does_as d h = record { limits = d.limits; area = d.area; did = alike_as d.did h }
+
+  module _ (d : AlikeDoes c G x cl wt x' cl' wt') (g : IsGoodWith c x cl wt) where
+    pub good_alike : IsGoodWith c x' cl' wt'
+    good_alike = rw d.limits (d.did.did.good g)
+
+    module _ {rs : List ℕ} where
+      pub settled_by : ((v : Reading) → is_full x.used ≡ false → AllSettled c rs (G v (state_of c x.limits v x.used (regions_of x) cl wt))) → AreSettled c rs x'
+      settled_by h = rw d.limits (settles_by d.did g h)
+
+      pub settled_done : ((v : Reading) (s : State) → AllSettled c rs (G v s)) → AreSettled c rs x'
+      settled_done h = rw d.limits (settles_done d.did g h)
+
+      pub settled_stand : ((v : Reading) (s : State) → Stands s.opening (G v s).opening) → AreSettled c rs x → AreSettled c rs x'
+      settled_stand k h = rw d.limits (settles_stand d.did g k h)
+
+pub clauses_alike_all : {c : Catalogue} {G : Reading → State → State} {x x' : encoder.State} {cl cl' wt : List ℕ} → ClausesDoAlike c G x cl x' cl' → AlikeDoes c G x cl wt x' cl' wt
+clauses_alike_all {wt = wt} d = record { limits = d.limits; area = d.area; did = d.did.is wt }

@@ -13,11 +13,9 @@ use Rattle.requirement.specs.Requirements.{requirement_is}
 use Rattle.tables.specs.declared.Counts.{Counts}
 use Rattle.tables.specs.Tables.{tables}
 use Rattle.cache.specs.Areas.{catalogue}
-use Rattle.state.specs.declared.Limits.{Limits}
-use Rattle.state.specs.Layout.{held}
-use Rattle.encoder.specs.declared.Counters.{Counters}
-use Rattle.encoder.specs.Did.{StateDid}
-use Rattle.encoder.proofs.Steps.{state_same}
+use Rattle.encoder.specs.declared.State.{State}
+use Rattle.encoder.specs.Does.{StateDoes}
+use Rattle.encoder.proofs.Does.{does_same}
 use Rattle.std.specs.Prelude.{Some}
 use Rattle.index.specs.Catalogued.{Catalogued}
 use Rattle.firing.proofs.Required.{condition_given, its_disjuncts}
@@ -43,17 +41,16 @@ module _ (k : Counts) (m u t : List ℕ) (q i : ℕ) (it : ConditionalRequiremen
     pub its_range : (j : ℕ) → j < length rs → get_or rs j 0 < k.ranges
     its_range j b = range_given k m u t x i w its_condition index_given h j b
 
-    pub disjunct_end : {l : Limits} {n₀ : Counters} {s₀ : List ℕ} {n : Counters} {s : List ℕ} {j : ℕ}
-        → Passed (catalogue k m u t) l (name_range (catalogue k m u t)) rs n₀ s₀ n s j → length rs ≤ j
-        → StateDid (catalogue k m u t) l (λ v. fold (name_range (catalogue k m u t)) (disjunct_at (catalogue k m u t) q i)) n₀ (held l s₀) n (held l s)
+    pub disjunct_end : {a₀ a : State} {j : ℕ} → Passed (catalogue k m u t) (name_range (catalogue k m u t)) rs a₀ a j → length rs ≤ j
+        → StateDoes (catalogue k m u t) (λ v. fold (name_range (catalogue k m u t)) (disjunct_at (catalogue k m u t) q i)) a₀ a
     unfolding disjunct_at
-    disjunct_end y b = state_same (pass_end y b) (λ v z. rw (h, disjuncts_are))
+    disjunct_end y b = does_same (pass_end y b) (λ v z. rw (h, disjuncts_are))
 
 -- ---- the indices of disjuncts
 
 pub index_low : {c : Catalogue} {q : ℕ} {is : List ℕ} → GivenIndices c q is → (j : ℕ) → j < length is → get_or is j 0 < length (disjuncts_of c q)
 index_low g j h = each_at g.given j 0 h
 
-pub indices_end : {c : Catalogue} (q : ℕ) {is : List ℕ} {l : Limits} {n₀ : Counters} {s₀ : List ℕ} {n : Counters} {s : List ℕ} {j : ℕ}
-    → Passed c l (λ i. fold (name_range c) (disjunct_at c q i)) is n₀ s₀ n s j → length is ≤ j → StateDid c l (λ v. name_disjuncts c q is) n₀ (held l s₀) n (held l s)
-indices_end q x h = state_same (pass_end x h) (λ v t. unfold name_disjuncts in refl)
+pub indices_end : {c : Catalogue} (q : ℕ) {is : List ℕ} {a₀ a : State} {j : ℕ} → Passed c (λ i. fold (name_range c) (disjunct_at c q i)) is a₀ a j → length is ≤ j
+    → StateDoes c (λ v. name_disjuncts c q is) a₀ a
+indices_end q x h = does_same (pass_end x h) (λ v t. unfold name_disjuncts in refl)

@@ -21,16 +21,15 @@ use Rattle.cache.specs.Lists.{chosen}
 use Rattle.cache.proofs.Laws.{range_name_held}
 use Rattle.index.specs.Chains.{Skips}
 use Rattle.index.proofs.Walking.{walk}
-use Rattle.state.specs.declared.Limits.{Limits}
-use Rattle.state.specs.Layout.{held}
 use Rattle.marked.specs.Marked.{listed, Marked}
 use Rattle.marked.proofs.Laws.{length_listed}
-use Rattle.encoder.specs.declared.Counters.{Counters}
-use Rattle.encoder.specs.Held.{GoodAlone}
-use Rattle.encoder.specs.Did.{on_opening, StateDid}
-use Rattle.encoder.proofs.Steps.{state_same, state_none, state_then, alone_after}
+use Rattle.encoder.specs.declared.State as encoder
+use Rattle.encoder.specs.Did.{on_opening}
+use Rattle.encoder.specs.Does.{StateDoes, IsGood, regions_of}
+use Rattle.encoder.proofs.Does.{does_same, does_none, does_then, good_then}
 use Rattle.goals.proofs.Parts.{onward, onward_start, onward_here, onward_past, onward_end}
 use Rattle.naming.specs.Naming.{FirstOf, name_first, is_seen, first_unless, seen_by, seen_after, NamesFirst, name_firsts}
+use Rattle.naming.proofs.Loops.{same_hand}
 
 -- the loop at part p: no matching part stands before it
 pub record Searching (c : Catalogue) (r p : ℕ) : Type 0 where
@@ -75,28 +74,28 @@ set_past seen i h = sym (set_out seen i true h)
 name_is : (k : Counts) (m u t : List ℕ) (r : ℕ) {x : ℕ} → x ≡ get_or (tables k t).ranges r 0 → range_name (catalogue k m u t) r ≡ x
 name_is k m u t r e = range_name_held k m u t r ∙ sym e
 
-module _ (k : Counts) (m u t : List ℕ) (l : Limits) (r : ℕ) {x : ℕ} (e : x ≡ get_or (tables k t).ranges r 0) (seen : List Bool) {b : Bool} (d : b ≡ is_seen seen x) where
-  pub first_seen : b ≡ true → {n : Counters} {st : ℕ → List ℕ} → NamesFirst (catalogue k m u t) l r seen n st seen n st
+module _ (k : Counts) (m u t : List ℕ) (r : ℕ) {x : ℕ} (e : x ≡ get_or (tables k t).ranges r 0) (seen : List Bool) {b : Bool} (d : b ≡ is_seen seen x) where
+  pub first_seen : b ≡ true → {a : encoder.State} → NamesFirst (catalogue k m u t) r seen a seen a
   first_seen h =
       record {
-        did = state_none (λ v s. unfold on_opening first_unless unless in rw (name_is k m u t r e, ← d, h));
+        did = does_none (λ v s. unfold on_opening first_unless unless in rw (name_is k m u t r e, ← d, h));
         flags = unfold seen_after unless in rw (name_is k m u t r e, ← d, h);
       }
 
   module _ (h : b ≡ false) {p : ℕ} (f : FirstOf (matching (catalogue k m u t) r) k.parts p) where
-    pub first_named : p < k.parts → {n n' : Counters} {st st' : ℕ → List ℕ} {seen' : List Bool} → seen' ≡ set seen x true
-        → StateDid (catalogue k m u t) l (λ v. on_opening (name_for_tracking (catalogue k m u t) p)) n st n' st'
-        → NamesFirst (catalogue k m u t) l r seen n st seen' n' st'
-    first_named low g a =
+    pub first_named : p < k.parts → {a a' : encoder.State} {seen' : List Bool} → seen' ≡ set seen x true
+        → StateDoes (catalogue k m u t) (λ v. on_opening (name_for_tracking (catalogue k m u t) p)) a a'
+        → NamesFirst (catalogue k m u t) r seen a seen' a'
+    first_named low g d' =
         record {
-          did = state_same a (λ v s. unfold on_opening first_unless name_first unless in rw (name_is k m u t r e, ← d, h, (f.some low).1));
+          did = does_same d' (λ v s. unfold on_opening first_unless name_first unless in rw (name_is k m u t r e, ← d, h, (f.some low).1));
           flags = unfold seen_after seen_by unless in rw (name_is k m u t r e, ← d, h, (f.some low).1) g;
         }
 
-    pub none_named : k.parts ≤ p → {n : Counters} {st : ℕ → List ℕ} → NamesFirst (catalogue k m u t) l r seen n st seen n st
+    pub none_named : k.parts ≤ p → {a : encoder.State} → NamesFirst (catalogue k m u t) r seen a seen a
     none_named high =
         record {
-          did = state_none (λ v s. unfold on_opening first_unless name_first unless in rw (name_is k m u t r e, ← d, h, f.none high));
+          did = does_none (λ v s. unfold on_opening first_unless name_first unless in rw (name_is k m u t r e, ← d, h, f.none high));
           flags = unfold seen_after seen_by unless in rw (name_is k m u t r e, ← d, h, f.none high);
         }
 
@@ -117,42 +116,39 @@ unfolding seen_of fold
 seen_more c rs r seen = fold_append (seen_after c) rs (r ∷ []) seen
 
 -- the first j ranges were passed
-pub record FirstsPassed (c : Catalogue) (l : Limits) (ranges : ℕ) (n₀ : Counters) (s₀ : List ℕ) (n : Counters) (s : List ℕ) (seen : List Bool) (j : ℕ) : Type 0 where
+pub record FirstsPassed (c : Catalogue) (ranges : ℕ) (x₀ x : encoder.State) (seen : List Bool) (j : ℕ) : Type 0 where
   pub within : j ≤ ranges
-  pub same : length s ≡ length s₀
-  pub alone : GoodAlone c l n (held l s)
+  pub good : IsGood c x
   pub long : length seen ≡ 64
-  pub flags : seen ≡ seen_of c (take j (listed ranges 14 (held l s₀))) (replicate 64 false)
-  pub did : StateDid c l (λ v. on_opening (name_firsts c (take j (listed ranges 14 (held l s₀))) (replicate 64 false))) n₀ (held l s₀) n (held l s)
+  pub flags : seen ≡ seen_of c (take j (listed ranges 14 (regions_of x₀))) (replicate 64 false)
+  pub did : StateDoes c (λ v. on_opening (name_firsts c (take j (listed ranges 14 (regions_of x₀))) (replicate 64 false))) x₀ x
 
-module _ {c : Catalogue} {l : Limits} {ranges : ℕ} {n₀ : Counters} {s₀ : List ℕ} where
-  pub firsts_start : GoodAlone c l n₀ (held l s₀) → FirstsPassed c l ranges n₀ s₀ n₀ s₀ (replicate 64 false) 0
+module _ {c : Catalogue} {ranges : ℕ} {x₀ : encoder.State} where
+  pub firsts_start : IsGood c x₀ → FirstsPassed c ranges x₀ x₀ (replicate 64 false) 0
   firsts_start g =
       record {
         within = omega arith;
-        same = refl;
-        alone = g;
+        good = g;
         long = length-replicate {A = Bool} 64 false;
         flags = unfold seen_of fold in refl;
-        did = state_none (λ v s. unfold on_opening name_firsts in refl);
+        did = does_none (λ v s. unfold on_opening name_firsts in refl);
       }
 
-  module _ {n : Counters} {s : List ℕ} {seen : List Bool} {j : ℕ} (x : FirstsPassed c l ranges n₀ s₀ n s seen j) (g : GoodAlone c l n₀ (held l s₀)) (k : Marked 14 15 ranges (held l s₀)) where
-    pub firsts_step : {n' : Counters} {s' : List ℕ} {seen' : List Bool} (y : ℕ) → y ≡ get_or (listed ranges 14 (held l s)) j 0 → j < ranges → length s' ≡ length s → length seen' ≡ length seen
-        → NamesFirst c l y seen n (held l s) seen' n' (held l s') → FirstsPassed c l ranges n₀ s₀ n' s' seen' (j + 1)
-    firsts_step y e h i w d =
-        let xs = listed ranges 14 (held l s₀) in
-        let here : y ≡ get_or xs j 0 = e ∙ ap (λ (ys : List ℕ). get_or ys j 0) (((x.did.is g.clauses []).beside g.good).list ranges k) in
+  module _ {x : encoder.State} {seen : List Bool} {j : ℕ} (p : FirstsPassed c ranges x₀ x seen j) (g : IsGood c x₀) (k : Marked 14 15 ranges (regions_of x₀)) where
+    pub firsts_step : {x' : encoder.State} {seen' : List Bool} (y : ℕ) → y ≡ get_or (listed ranges 14 (regions_of x)) j 0 → j < ranges → length seen' ≡ length seen
+        → NamesFirst c y seen x seen' x' → FirstsPassed c ranges x₀ x' seen' (j + 1)
+    firsts_step y e h w d =
+        let xs = listed ranges 14 (regions_of x₀) in
+        let here : y ≡ get_or xs j 0 = e ∙ ap (λ (ys : List ℕ). get_or ys j 0) (same_hand p.did g k) in
         let more : take (j + 1) xs ≡ take j xs ++ (y ∷ []) = rw (add-one j, take-suc xs j 0 (rw (length_listed k) h), here) in
         record {
           within = omega arith;
-          same = i ∙ x.same;
-          alone = alone_after d.did x.alone;
-          long = w ∙ x.long;
-          flags = rw more (d.flags ∙ rw x.flags (sym (seen_more c (take j xs) y (replicate 64 false))));
-          did = state_same (state_then x.did d.did)
-              (λ v t. rw more (unfold on_opening in rw x.flags (ap (λ o. set_opening o t) (sym (firsts_more c (take j xs) y (replicate 64 false) t.opening)))));
+          good = good_then d.did p.good;
+          long = w ∙ p.long;
+          flags = rw more (d.flags ∙ rw p.flags (sym (seen_more c (take j xs) y (replicate 64 false))));
+          did = does_same (does_then p.did d.did)
+              (λ v t. rw more (unfold on_opening in rw p.flags (ap (λ o. set_opening o t) (sym (firsts_more c (take j xs) y (replicate 64 false) t.opening)))));
         }
 
-    pub firsts_end : ranges ≤ j → StateDid c l (λ v. on_opening (name_firsts c (listed ranges 14 (held l s₀)) (replicate 64 false))) n₀ (held l s₀) n (held l s)
-    firsts_end h = state_same x.did (λ v t. rw (take_all j (listed ranges 14 (held l s₀)) (rw (length_listed k) h)))
+    pub firsts_end : ranges ≤ j → StateDoes c (λ v. on_opening (name_firsts c (listed ranges 14 (regions_of x₀)) (replicate 64 false))) x₀ x
+    firsts_end h = does_same p.did (λ v t. rw (take_all j (listed ranges 14 (regions_of x₀)) (rw (length_listed k) h)))

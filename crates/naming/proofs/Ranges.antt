@@ -22,10 +22,9 @@ use Rattle.cache.specs.Areas.{catalogue}
 use Rattle.cache.specs.Lists.{asked, chosen}
 use Rattle.cache.proofs.Laws.{range_name_held}
 use Rattle.cache.proofs.Lists.{of_name_law}
-use Rattle.state.specs.declared.Limits.{Limits}
-use Rattle.encoder.specs.declared.Counters.{Counters}
-use Rattle.encoder.specs.Did.{StateDid, PlainDid}
-use Rattle.encoder.proofs.Steps.{state_same, state_then}
+use Rattle.encoder.specs.declared.State as encoder
+use Rattle.encoder.specs.Does.{StateDoes, PlainDoes}
+use Rattle.encoder.proofs.Does.{does_same, does_then, at_catalogue}
 use Rattle.parts.specs.declared.Parts.TheVariants.{Chosen}
 use Rattle.parts.specs.declared.Naming.TheVariants.{Tracked, Candidate}
 use Rattle.parts.specs.Parts.{selected_of, parts_for, naming_of}
@@ -47,12 +46,12 @@ module _ (c : Catalogue) (r : ℕ) where
   unfolding sorted favoured_first
   sorted_is = rw (favoured_is, others_is)
 
-module _ {c : Catalogue} (r : ℕ) {l : Limits} {n n' n'' : Counters} {st st' st'' : ℕ → List ℕ} where
-  pub candidates_named : StateDid c l (λ v. fold (naming_of c Candidate) (parts_for c (Chosen r Favoured))) n st n' st'
-      → StateDid c l (λ v. fold (naming_of c Candidate) (parts_for c (Chosen r Others))) n' st' n'' st''
-      → StateDid c l (λ v. fold (naming_of c Candidate) (sorted c r)) n st n'' st''
+module _ {c : Catalogue} (r : ℕ) {a a' a'' : encoder.State} where
+  pub candidates_named : StateDoes c (λ v. fold (naming_of c Candidate) (parts_for c (Chosen r Favoured))) a a'
+      → StateDoes c (λ v. fold (naming_of c Candidate) (parts_for c (Chosen r Others))) a' a''
+      → StateDoes c (λ v. fold (naming_of c Candidate) (sorted c r)) a a''
   candidates_named d h =
-      state_same (state_then d h)
+      does_same (does_then d h)
       (λ v s. rw (sorted_is c r) (sym (fold_append (naming_of c Candidate) (parts_for c (Chosen r Favoured)) (parts_for c (Chosen r Others)) s)))
 
 -- ---- a fired range
@@ -68,17 +67,17 @@ parts_some c x [] s h = absurd (h refl)
 parts_some c x (p ∷ ps) s h = refl
 
 module _ (k : Counts) (m u t : List ℕ) (r : ℕ) where
-  module _ {l : Limits} {n n' : Counters} {st st' : ℕ → List ℕ} {b : Bool} (e : b ≡ ltb 0 (length (non_matching (catalogue k m u t) r))) where
-    pub one_named : b ≡ false → {x : ℕ} → x ≡ get_or (tables k t).ranges r 0 → PlainDid l (λ c v. add_variable (one x)) n st n' st'
-        → StateDid (catalogue k m u t) l (λ v. name_range (catalogue k m u t) r) n st n' st'
+  module _ {a a' : encoder.State} {b : Bool} (e : b ≡ ltb 0 (length (non_matching (catalogue k m u t) r))) where
+    pub one_named : b ≡ false → {x : ℕ} → x ≡ get_or (tables k t).ranges r 0 → PlainDoes (λ c v. add_variable (one x)) a a'
+        → StateDoes (catalogue k m u t) (λ v. name_range (catalogue k m u t) r) a a'
     unfolding name_range
     one_named z {x} i d =
         let q : range_name (catalogue k m u t) r ≡ x = range_name_held k m u t r ∙ sym i in
-        state_same (d.is (catalogue k m u t)) (λ v s. rw q (parts_none (catalogue k m u t) x (non_matching (catalogue k m u t) r) s (omega (arith, ltb-false 0 (length (non_matching (catalogue k m u t) r)) (sym e ∙ z)))))
+        does_same (at_catalogue d) (λ v s. rw q (parts_none (catalogue k m u t) x (non_matching (catalogue k m u t) r) s (omega (arith, ltb-false 0 (length (non_matching (catalogue k m u t) r)) (sym e ∙ z)))))
 
-    pub rest_named : b ≡ true → StateDid (catalogue k m u t) l (λ v. fold (naming_of (catalogue k m u t) Tracked) (parts_for (catalogue k m u t) (Chosen r NonMatching))) n st n' st'
-        → StateDid (catalogue k m u t) l (λ v. name_range (catalogue k m u t) r) n st n' st'
+    pub rest_named : b ≡ true → StateDoes (catalogue k m u t) (λ v. fold (naming_of (catalogue k m u t) Tracked) (parts_for (catalogue k m u t) (Chosen r NonMatching))) a a'
+        → StateDoes (catalogue k m u t) (λ v. name_range (catalogue k m u t) r) a a'
     unfolding name_range
     rest_named z d =
         let c = catalogue k m u t in
-        state_same d (λ v s. rw (non_matching_parts c r) (parts_some c (range_name c r) (non_matching c r) s (λ y. omega (arith, ltb-true 0 (length (non_matching c r)) (sym e ∙ z)))))
+        does_same d (λ v s. rw (non_matching_parts c r) (parts_some c (range_name c r) (non_matching c r) s (λ y. omega (arith, ltb-true 0 (length (non_matching c r)) (sym e ∙ z)))))

@@ -5,9 +5,12 @@ use Rattle.rules.specs.Catalogue.{Catalogue, name_of}
 use Rattle.rules.specs.Opening.{Opening, set_named}
 use Rattle.rules.specs.State.{State, set_opening}
 use Rattle.state.specs.declared.Limits.{Limits}
+use Rattle.state.specs.Layout.{held}
 use Rattle.encoder.specs.declared.Counters.{Counters}
+use Rattle.encoder.specs.declared.State as encoder
 use Rattle.encoder.specs.Held.{Reading, state_of}
 use Rattle.encoder.specs.Did.{Did, is_full}
+use Rattle.encoder.specs.Does.{regions_of}
 
 -- the names of these parts, each where it first stands
 unfoldable pub names_in : Catalogue → List ℕ → List ℕ
@@ -36,3 +39,15 @@ pub record AlikeDid (c : Catalogue) (l : Limits) (G : Reading → State → Stat
 pub record ClausesAlike (c : Catalogue) (l : Limits) (G : Reading → State → State) (n : Counters) (st : ℕ → List ℕ) (cl : List ℕ)
     (n' : Counters) (st' : ℕ → List ℕ) (cl' : List ℕ) : Type 0 where
   pub is : (wt : List ℕ) → AlikeDid c l G n st cl wt n' st' cl' wt
+
+-- ---- the same of the encoder's state: in the same area and within the same limits
+
+pub record AlikeDoes (c : Catalogue) (G : Reading → State → State) (x : encoder.State) (cl wt : List ℕ) (x' : encoder.State) (cl' wt' : List ℕ) : Type 0 where
+  pub limits : x'.limits ≡ x.limits
+  pub area : x'.area.ghost_name ≡ x.area.ghost_name
+  pub did : AlikeDid c x.limits G x.used (regions_of x) cl wt x'.used (held x.limits x'.area.now) cl' wt'
+
+pub record ClausesDoAlike (c : Catalogue) (G : Reading → State → State) (x : encoder.State) (cl : List ℕ) (x' : encoder.State) (cl' : List ℕ) : Type 0 where
+  pub limits : x'.limits ≡ x.limits
+  pub area : x'.area.ghost_name ≡ x.area.ghost_name
+  pub did : ClausesAlike c x.limits G x.used (regions_of x) cl x'.used (held x.limits x'.area.now) cl'

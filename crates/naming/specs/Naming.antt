@@ -9,9 +9,9 @@ use Rattle.rules.specs.Opening.{Opening, name_for_tracking}
 use Rattle.rules.specs.State.{State}
 use Rattle.rules.proofs.Each.{Each}
 use Rattle.rules.proofs.Capped.{add_variable}
-use Rattle.state.specs.declared.Limits.{Limits}
-use Rattle.encoder.specs.declared.Counters.{Counters}
-use Rattle.encoder.specs.Did.{on_opening, StateDid}
+use Rattle.encoder.specs.declared.State as encoder
+use Rattle.encoder.specs.Did.{on_opening}
+use Rattle.encoder.specs.Does.{StateDoes}
 use Rattle.parts.specs.declared.Naming.TheVariants.{Tracked, Candidate}
 use Rattle.parts.specs.Parts.{naming_of}
 
@@ -46,8 +46,8 @@ name_firsts c [] seen o = o
 name_firsts c (r ∷ rs) seen o = name_firsts c rs (seen_after c r seen) (first_unless c seen r o)
 
 -- range r was passed
-pub record NamesFirst (c : Catalogue) (l : Limits) (r : ℕ) (seen : List Bool) (n : Counters) (st : ℕ → List ℕ) (seen' : List Bool) (n' : Counters) (st' : ℕ → List ℕ) : Type 0 where
-  pub did : StateDid c l (λ v. on_opening (first_unless c seen r)) n st n' st'
+pub record NamesFirst (c : Catalogue) (r : ℕ) (seen : List Bool) (x : encoder.State) (seen' : List Bool) (x' : encoder.State) : Type 0 where
+  pub did : StateDoes c (λ v. on_opening (first_unless c seen r)) x x'
   pub flags : seen' ≡ seen_after c r seen
 
 -- ---- the candidates of these ranges, or, where they are settled, some of them

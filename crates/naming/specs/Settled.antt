@@ -9,8 +9,10 @@ use Rattle.rules.specs.State.{State}
 use Rattle.rules.specs.Called.{◌∈◌}
 use Rattle.state.specs.declared.Limits.{Limits}
 use Rattle.encoder.specs.declared.Counters.{Counters}
+use Rattle.encoder.specs.declared.State as encoder
 use Rattle.encoder.specs.Held.{Reading, state_of}
 use Rattle.encoder.specs.Did.{is_full}
+use Rattle.encoder.specs.Does.{regions_of}
 
 -- part p is tracked, or is not to be named for tracking any more
 abbrev pub Noted : Catalogue → ℕ → Opening → Type 0
@@ -29,3 +31,7 @@ pub record AllSettled (c : Catalogue) (rs : List ℕ) (s : State) : Type 0 where
 -- and so they are in what the areas hold, unless it is full
 pub record Settles (c : Catalogue) (l : Limits) (rs : List ℕ) (n : Counters) (st : ℕ → List ℕ) : Type 0 where
   pub held : is_full n ≡ false → (v : Reading) (cl wt : List ℕ) → AllSettled c rs (state_of c l v n st cl wt)
+
+-- the same of the encoder's state
+abbrev pub AreSettled : Catalogue → List ℕ → encoder.State → Type 0
+AreSettled c rs x = Settles c x.limits rs x.used (regions_of x)

@@ -6,80 +6,50 @@ ghost use Rattle.rules.specs.Lists.{fold};
 ghost use Rattle.rules.specs.Candidates.{matching, sorted};
 ghost use Rattle.rules.specs.Conditions.{disjunct_at, disjuncts_of, unconditional};
 ghost use Rattle.cache.specs.Areas.{catalogue};
-ghost use Rattle.state.specs.Layout.{held, Fits};
 ghost use Rattle.marked.specs.Marked.{listed, Marked};
-ghost use Rattle.encoder.specs.Did.{on_opening, StateDid};
-ghost use Rattle.encoder.specs.Held.{GoodAlone};
+ghost use Rattle.encoder.specs.Did.{on_opening};
+ghost use Rattle.encoder.specs.Does.{StateDoes, IsGood, regions_of};
 ghost use Rattle.parts.specs.declared.Naming.TheVariants.{Candidate};
 ghost use Rattle.parts.specs.Parts.{naming_of};
 ghost use Rattle.naming.specs.Naming.{FirstOf, is_seen, NamesFirst, name_firsts, name_candidates, name_range, name_disjuncts, GivenIndices};
 ghost use Rattle.index.specs.Views.{catalogue_of, counts_of, tables_of};
 
 use cache::Choice;
-use encoder::Counters;
+use encoder::State;
 use index::Catalogue;
 use marked::MarkedList;
 use parts::{Naming, Parts};
-use state::Limits;
 use variable_map::Origin;
 
 // ---- candidates
 
 // The candidates of a range.
-fn range_candidates(
-    catalogue: &Catalogue,
-    s: &mut [u8],
-    l: Limits,
-    n: Counters,
-    r: usize,
-) -> Counters
-    requires fits { Fits l (length s.old) }
-    requires good_alone { GoodAlone (catalogue_of catalogue.now) l n (held l s.old) }
-    ensures { StateDid (catalogue_of catalogue.now) l (λ v. fold (naming_of (catalogue_of catalogue.now) Candidate) (sorted (catalogue_of catalogue.now) r)) n (held l s.old) result (held l s.new) }
+fn range_candidates(catalogue: &Catalogue, state: &mut State, r: usize)
+    requires good { IsGood (catalogue_of catalogue.now) state.old }
+    ensures { StateDoes (catalogue_of catalogue.now) (λ v. fold (naming_of (catalogue_of catalogue.now) Candidate) (sorted (catalogue_of catalogue.now) r)) state.old state.new }
 {
-    let m = parts::name_each(
-        &catalogue.index,
-        s,
-        l,
-        n,
-        Parts::Chosen {
-            range: r,
-            choice: Choice::Favoured,
-        },
-        Naming::Candidate,
-    );
-    parts::name_each(
-        &catalogue.index,
-        s,
-        l,
-        m,
-        Parts::Chosen {
-            range: r,
-            choice: Choice::Others,
-        },
-        Naming::Candidate,
-    )
+    let favoured = Parts::Chosen {
+        range: r,
+        choice: Choice::Favoured,
+    };
+    let others = Parts::Chosen {
+        range: r,
+        choice: Choice::Others,
+    };
+    parts::name_each(&catalogue.index, state, favoured, Naming::Candidate);
+    parts::name_each(&catalogue.index, state, others, Naming::Candidate);
 }
 
 // Those of the ranges at hand.
-fn all_candidates(
-    catalogue: &Catalogue,
-    s: &mut [u8],
-    l: Limits,
-    n: Counters,
-    ranges: usize,
-) -> Counters
-    requires fits { Fits l (length s.old) }
-    requires good_alone { GoodAlone (catalogue_of catalogue.now) l n (held l s.old) }
-    requires marked { Marked 14 15 ranges (held l s.old) }
-    ensures { StateDid (catalogue_of catalogue.now) l (λ v. fold (λ r. fold (naming_of (catalogue_of catalogue.now) Candidate) (sorted (catalogue_of catalogue.now) r)) (listed ranges 14 (held l s.old))) n (held l s.old) result (held l s.new) }
+fn all_candidates(catalogue: &Catalogue, state: &mut State, ranges: usize)
+    requires good { IsGood (catalogue_of catalogue.now) state.old }
+    requires marked { Marked 14 15 ranges (regions_of state.old) }
+    ensures { StateDoes (catalogue_of catalogue.now) (λ v. fold (λ r. fold (naming_of (catalogue_of catalogue.now) Candidate) (sorted (catalogue_of catalogue.now) r)) (listed ranges 14 (regions_of state.old))) state.old state.new }
 {
-    let mut m = n;
     for j in 0..ranges {
-        let r = marked::at(s, l, MarkedList::Candidates, ranges, j);
-        m = range_candidates(catalogue, s, l, m, r as usize);
+        let r = state.listed(MarkedList::Candidates, ranges, j);
+        range_candidates(catalogue, state, r as usize);
     }
-    m
 }
 
 // ---- candidates that are settled
@@ -117,144 +87,88 @@ fn see(seen: &mut [bool], name: u16)
 }
 
 // The first candidate of range r is named for tracking, and the range's name, which is not flagged, is.
-fn name_first(
-    catalogue: &Catalogue,
-    s: &mut [u8],
-    l: Limits,
-    n: Counters,
-    seen: &mut [bool],
-    r: usize,
-    name: u16,
-) -> Counters
-    requires fits { Fits l (length s.old) }
-    requires good_alone { GoodAlone (catalogue_of catalogue.now) l n (held l s.old) }
+fn name_first(catalogue: &Catalogue, state: &mut State, seen: &mut [bool], r: usize, name: u16)
+    requires good { IsGood (catalogue_of catalogue.now) state.old }
     requires name_value { (name ≡ get_or (tables_of catalogue.now).ranges r 0) × (false ≡ is_seen seen.old name) }
-    ensures { NamesFirst (catalogue_of catalogue.now) l r seen.old n (held l s.old) seen.new result (held l s.new) }
+    ensures { NamesFirst (catalogue_of catalogue.now) r seen.old state.old seen.new state.new }
 {
     let p = first_candidate(catalogue, r);
     if p < catalogue.index.areas.tables.counts.parts {
         see(seen, name);
-        return opening::name_for_tracking(&catalogue.index.areas.tables, s, l, n, p as u16);
+        opening::name_for_tracking(&catalogue.index.areas.tables, state, p as u16);
     }
-    n
 }
 
 // That of each range at hand: of each name one.
-fn first_candidates(
-    catalogue: &Catalogue,
-    s: &mut [u8],
-    l: Limits,
-    n: Counters,
-    ranges: usize,
-) -> Counters
-    requires fits { Fits l (length s.old) }
-    requires good_alone { GoodAlone (catalogue_of catalogue.now) l n (held l s.old) }
-    requires marked { Marked 14 15 ranges (held l s.old) }
-    ensures { StateDid (catalogue_of catalogue.now) l (λ v. on_opening (name_firsts (catalogue_of catalogue.now) (listed ranges 14 (held l s.old)) (replicate 64 false))) n (held l s.old) result (held l s.new) }
+fn first_candidates(catalogue: &Catalogue, state: &mut State, ranges: usize)
+    requires good { IsGood (catalogue_of catalogue.now) state.old }
+    requires marked { Marked 14 15 ranges (regions_of state.old) }
+    ensures { StateDoes (catalogue_of catalogue.now) (λ v. on_opening (name_firsts (catalogue_of catalogue.now) (listed ranges 14 (regions_of state.old)) (replicate 64 false))) state.old state.new }
 {
     let mut seen = [false; 64];
-    let mut m = n;
     for j in 0..ranges {
-        let r = marked::at(s, l, MarkedList::Candidates, ranges, j) as usize;
+        let r = state.listed(MarkedList::Candidates, ranges, j) as usize;
         let name = catalogue.index.areas.tables.range_name(r);
         if !is_seen(&seen, name) {
-            m = name_first(catalogue, s, l, m, &mut seen, r, name);
+            name_first(catalogue, state, &mut seen, r, name);
         }
     }
-    m
 }
 
 // All candidates of the ranges at hand, or, where they are settled, the first of each name.
-pub fn name_candidates(
-    catalogue: &Catalogue,
-    s: &mut [u8],
-    l: Limits,
-    n: Counters,
-    ranges: usize,
-    settled: bool,
-) -> Counters
-    requires fits { Fits l (length s.old) }
-    requires good_alone { GoodAlone (catalogue_of catalogue.now) l n (held l s.old) }
-    requires marked { Marked 14 15 ranges (held l s.old) }
-    ensures { StateDid (catalogue_of catalogue.now) l (λ v. name_candidates (catalogue_of catalogue.now) settled (listed ranges 14 (held l s.old))) n (held l s.old) result (held l s.new) }
+pub fn name_candidates(catalogue: &Catalogue, state: &mut State, ranges: usize, settled: bool)
+    requires good { IsGood (catalogue_of catalogue.now) state.old }
+    requires marked { Marked 14 15 ranges (regions_of state.old) }
+    ensures { StateDoes (catalogue_of catalogue.now) (λ v. name_candidates (catalogue_of catalogue.now) settled (listed ranges 14 (regions_of state.old))) state.old state.new }
 {
     if settled {
-        return first_candidates(catalogue, s, l, n, ranges);
+        first_candidates(catalogue, state, ranges);
+    } else {
+        all_candidates(catalogue, state, ranges);
     }
-    all_candidates(catalogue, s, l, n, ranges)
 }
 
 // ---- fired disjuncts
 
 // The variables of a fired range: its non-matching parts, which are named for tracking; if none, one-of-name.
-fn name_range(catalogue: &Catalogue, s: &mut [u8], l: Limits, n: Counters, r: usize) -> Counters
-    requires fits { Fits l (length s.old) }
-    requires good_alone { GoodAlone (catalogue_of catalogue.now) l n (held l s.old) }
+fn name_range(catalogue: &Catalogue, state: &mut State, r: usize)
+    requires good { IsGood (catalogue_of catalogue.now) state.old }
     requires r_lt_ranges { r < (counts_of catalogue.now).ranges }
-    ensures { StateDid (catalogue_of catalogue.now) l (λ v. name_range (catalogue_of catalogue.now) r) n (held l s.old) result (held l s.new) }
+    ensures { StateDoes (catalogue_of catalogue.now) (λ v. name_range (catalogue_of catalogue.now) r) state.old state.new }
 {
     if catalogue.index.has_non_matching(r) {
-        return parts::name_each(
-            &catalogue.index,
-            s,
-            l,
-            n,
-            Parts::Chosen {
-                range: r,
-                choice: Choice::NonMatching,
-            },
-            Naming::Tracked,
-        );
+        let others = Parts::Chosen {
+            range: r,
+            choice: Choice::NonMatching,
+        };
+        parts::name_each(&catalogue.index, state, others, Naming::Tracked);
+    } else {
+        let name = catalogue.index.areas.tables.range_name(r);
+        opening::name_variable(state, Origin::One(name));
     }
-    opening::name_variable(
-        s,
-        l,
-        n,
-        Origin::One(catalogue.index.areas.tables.range_name(r)),
-    )
 }
 
-fn name_disjunct(
-    catalogue: &Catalogue,
-    s: &mut [u8],
-    l: Limits,
-    n: Counters,
-    q: usize,
-    i: usize,
-) -> Counters
-    requires fits { Fits l (length s.old) }
-    requires good_alone { GoodAlone (catalogue_of catalogue.now) l n (held l s.old) }
+fn name_disjunct(catalogue: &Catalogue, state: &mut State, q: usize, i: usize)
+    requires good { IsGood (catalogue_of catalogue.now) state.old }
     requires q_lt_requirements { (q < (counts_of catalogue.now).requirements) × (unconditional (catalogue_of catalogue.now) q ≡ false) × (i < length (disjuncts_of (catalogue_of catalogue.now) q)) }
-    ensures { StateDid (catalogue_of catalogue.now) l (λ v. fold (name_range (catalogue_of catalogue.now)) (disjunct_at (catalogue_of catalogue.now) q i)) n (held l s.old) result (held l s.new) }
+    ensures { StateDoes (catalogue_of catalogue.now) (λ v. fold (name_range (catalogue_of catalogue.now)) (disjunct_at (catalogue_of catalogue.now) q i)) state.old state.new }
 {
     let it = catalogue.index.areas.tables.requirement_at(q);
     let condition = it.condition.unwrap() as usize;
     let disjunct = catalogue.conditions().disjunct_of(condition, i);
-    let mut m = n;
     for range in disjunct.ranges() {
-        m = name_range(catalogue, s, l, m, *range as usize);
+        name_range(catalogue, state, *range as usize);
     }
-    m
 }
 
 // Those of the disjuncts with these indices.
-pub fn name_disjuncts(
-    catalogue: &Catalogue,
-    s: &mut [u8],
-    l: Limits,
-    n: Counters,
-    q: usize,
-    indices: &[u16],
-) -> Counters
-    requires fits { Fits l (length s.old) }
-    requires good_alone { GoodAlone (catalogue_of catalogue.now) l n (held l s.old) }
+pub fn name_disjuncts(catalogue: &Catalogue, state: &mut State, q: usize, indices: &[u16])
+    requires good { IsGood (catalogue_of catalogue.now) state.old }
     requires q_lt_requirements { (q < (counts_of catalogue.now).requirements) × (unconditional (catalogue_of catalogue.now) q ≡ false) }
     requires given_indices { GivenIndices (catalogue_of catalogue.now) q indices.now }
-    ensures { StateDid (catalogue_of catalogue.now) l (λ v. name_disjuncts (catalogue_of catalogue.now) q indices.now) n (held l s.old) result (held l s.new) }
+    ensures { StateDoes (catalogue_of catalogue.now) (λ v. name_disjuncts (catalogue_of catalogue.now) q indices.now) state.old state.new }
 {
-    let mut m = n;
     for index in indices {
-        m = name_disjunct(catalogue, s, l, m, q, *index as usize);
+        name_disjunct(catalogue, state, q, *index as usize);
     }
-    m
 }

@@ -22,11 +22,11 @@ use Rattle.line.specs.Line.{queued, Queued}
 use Rattle.line.proofs.Line.{length_queued, line_room}
 use Rattle.encoder.specs.declared.Counters.{Counters}
 use Rattle.encoder.specs.Held.{Reading, task_in, opening_of, state_of, Good}
-use Rattle.encoder.specs.Did.{room_of, beyond, on_opening, filled, Beside, PlainDid, is_full}
+use Rattle.encoder.specs.Did.{room_of, beyond, on_opening, filled, Beside, StateDid}
 use Rattle.state.specs.Limits.{limits_of}
 use Rattle.encoder.proofs.Counted as counted
 use Rattle.encoder.proofs.Frames.{good_kept, list_kept}
-use Rattle.encoder.proofs.Did.{plain_full, did_filled, did_made}
+use Rattle.encoder.proofs.Did.{did_filled, did_made}
 use Rattle.encoder.proofs.Widening.{queue_widens}
 
 -- more tasks than there are places for
@@ -39,41 +39,36 @@ unfolding any
 beside_queued {first} q h =
     record { marked = λ m k. marked_same k q.others refl refl; list = λ m k. listed_same m 14 q.others refl; line = q.before first h }
 
-module _ {l : Limits} {n : Counters} where
-  pub queue_full : (x : ℕ) {st : ℕ → List ℕ} → is_full n ≡ true → PlainDid l (λ c v. on_opening (queue (task_in c v x))) n st n st
-  queue_full x f = plain_full (λ c v. queue_widens _) f
-
+module _ {c : Catalogue} {l : Limits} {n : Counters} where
   module _ {x tail : ℕ} {st st' : ℕ → List ℕ} (q : Queued n.tail x st tail st') where
-    queue_state : (c : Catalogue) (cl wt : List ℕ) → Good c l n st cl wt → (v : Reading)
+    queue_state : (cl wt : List ℕ) → Good c l n st cl wt → (v : Reading)
         → state_of c l v (counted.with_tail tail n) st' cl wt ≡ on_opening (queue (task_in c v x)) (state_of c l v n st cl wt)
     unfolding state_of opening_of on_opening queue any
-    queue_state c cl wt g v =
+    queue_state cl wt g v =
         let ch = q.others in
         simp (q.line n.first g.state.before, map_snoc (task_in c v) (queued n.first n.tail st) x, list_kept ch, variables_kept ch, decisions_kept ch, ch.same)
 
-    queue_good : (c : Catalogue) (cl wt : List ℕ) → n.tail < 3649 + l.waiting → Good c l n st cl wt → Good c l (counted.with_tail tail n) st' cl wt
+    queue_good : (cl wt : List ℕ) → n.tail < 3649 + l.waiting → Good c l n st cl wt → Good c l (counted.with_tail tail n) st' cl wt
     unfolding any
-    queue_good c cl wt h g =
+    queue_good cl wt h g =
         let before : n.first ≤ tail = omega (arith, q.count, g.state.before) in
         let room : tail ≤ 3649 + l.waiting = omega (arith, q.count) in
         good_kept q.others g (search) refl refl refl refl refl g.entries
 
-    pub queue_more : n.tail < 3649 + l.waiting → PlainDid l (λ c v. on_opening (queue (task_in c v x))) n st (counted.with_tail tail n) st'
+    pub queue_more : n.tail < 3649 + l.waiting → StateDid c l (λ v. on_opening (queue (task_in c v x))) n st (counted.with_tail tail n) st'
     queue_more h =
         record {
-          is = λ c. record {
-            is = λ cl wt. did_made (λ v. queue_widens _) refl (λ g. beside_queued q g.state.before) refl refl (λ k. refl) (queue_good c cl wt h) (queue_state c cl wt);
-          };
+          is = λ cl wt. did_made (λ v. queue_widens _) refl (λ g. beside_queued q g.state.before) refl refl (λ k. refl) (queue_good cl wt h) (queue_state cl wt);
         }
 
   pub queue_over : (x : ℕ) (b : List ℕ) {r : Counters} → Fits l (length b) → 3649 + l.waiting ≤ n.tail → r ≡ filled n
-      → PlainDid l (λ c v. on_opening (queue (task_in c v x))) n (held l b) r (held l b)
+      → StateDid c l (λ v. on_opening (queue (task_in c v x))) n (held l b) r (held l b)
   queue_over x b f h e =
-      rw e (record { is = λ c. record { is = λ cl wt. did_filled (λ v. queue_widens _) (λ g v. line_over l (room_of l n) _ (long c cl wt g v)) } })
+      rw e (record { is = λ cl wt. did_filled (λ v. queue_widens _) (λ g v. line_over l (room_of l n) _ (long cl wt g v)) })
     where
-      long : (c : Catalogue) (cl wt : List ℕ) → Good c l n (held l b) cl wt → (v : Reading)
+      long : (cl wt : List ℕ) → Good c l n (held l b) cl wt → (v : Reading)
           → room_of l n < length (on_opening (queue (task_in c v x)) (state_of c l v n (held l b) cl wt)).opening.line
-      long c cl wt g v =
+      long cl wt g v =
           let s = g.state in
           let a = length_queued n.first n.tail (held l b) (line_room l b n.tail f s.room) in
           unfold on_opening queue state_of opening_of room_of in rw (length_snoc, length-map, a) (omega (arith, s.before))

@@ -19,10 +19,10 @@ use Rattle.marked.proofs.Owners.{owners_snoc, owner_after}
 use Rattle.line.proofs.Tasks.{task_owner, task_name}
 use Rattle.encoder.specs.declared.Counters.{Counters}
 use Rattle.encoder.specs.Held.{Reading, task_from, task_in, opening_of, state_of, Good}
-use Rattle.encoder.specs.Did.{on_opening, Did, PlainDid, is_full}
+use Rattle.encoder.specs.Did.{on_opening, Did, StateDid}
 use Rattle.encoder.proofs.Counted as counted
 use Rattle.encoder.proofs.Frames.{good_kept, list_kept, line_kept}
-use Rattle.encoder.proofs.Did.{plain_full, did_idle, did_made, did_then, did_as, beside_kept}
+use Rattle.encoder.proofs.Did.{did_idle, did_made, did_then, did_as, beside_kept}
 use Rattle.encoder.proofs.Widening.{Lengthens, open_owner_widens, open_name_widens, widens_opening}
 
 -- ---- a number that has no mark can be listed
@@ -57,8 +57,8 @@ add_owner_lengthens : (x : ℕ) (u : Opening) → Lengthens u (add_owner x u)
 unfolding add_owner
 add_owner_lengthens x u = record { waiting = whole; line = omega arith; several = omega arith }
 
-module _ (l : Limits) (n : Counters) where
-  module _ {x count : ℕ} {st st' : ℕ → List ℕ} (p : Pushed 1 2 n.owners x st count st') (c : Catalogue) (cl wt : List ℕ) where
+module _ (c : Catalogue) (l : Limits) (n : Counters) where
+  module _ {x count : ℕ} {st st' : ℕ → List ℕ} (p : Pushed 1 2 n.owners x st count st') (cl wt : List ℕ) where
     owner_state : (v : Reading) → state_of c l v (counted.with_owners count n) st' cl wt ≡ on_opening (add_owner x) (state_of c l v n st cl wt)
     unfolding state_of opening_of on_opening add_owner any
     owner_state v =
@@ -72,32 +72,25 @@ module _ (l : Limits) (n : Counters) where
     owner_did : Did c l (λ v. on_opening (add_owner x)) n st cl wt (counted.with_owners count n) st' cl wt
     owner_did = did_made (λ v. widens_opening (add_owner x) (add_owner_lengthens x)) refl (λ g. unfold any in beside_kept p.others refl refl refl) refl refl (λ k. refl) owner_good (λ g. owner_state)
 
-  pub open_owner_full : (o : ℕ) {st : ℕ → List ℕ} → is_full n ≡ true → PlainDid l (λ c v. on_opening (open_owner (owner_of o))) n st n st
-  open_owner_full o f = plain_full (λ c v. open_owner_widens _) f
-
   module _ (o : ℕ) {b : Bool} {st : ℕ → List ℕ} (m : Marked 1 2 n.owners st) (e : b ≡ is_marked 2 o st) where
     owner_open : b ≡ any (same_owner (owner_of o)) (map owner_of (listed n.owners 1 st))
     owner_open = owner_after o b m e
 
-    pub open_owner_again : b ≡ true → PlainDid l (λ c v. on_opening (open_owner (owner_of o))) n st n st
-    open_owner_again t = record { is = λ c. record { is = λ cl wt. did_idle (λ v. open_owner_widens _) (λ g _ v. idle c cl wt v) } }
+    pub open_owner_again : b ≡ true → StateDid c l (λ v. on_opening (open_owner (owner_of o))) n st n st
+    open_owner_again t = record { is = λ cl wt. did_idle (λ v. open_owner_widens _) (λ g _ v. idle cl wt v) }
       where
-        idle : (c : Catalogue) (cl wt : List ℕ) (v : Reading) → on_opening (open_owner (owner_of o)) (state_of c l v n st cl wt) ≡ state_of c l v n st cl wt
-        idle c cl wt v = unfold on_opening open_owner state_of opening_of unless in rw (← owner_open, t)
+        idle : (cl wt : List ℕ) (v : Reading) → on_opening (open_owner (owner_of o)) (state_of c l v n st cl wt) ≡ state_of c l v n st cl wt
+        idle cl wt v = unfold on_opening open_owner state_of opening_of unless in rw (← owner_open, t)
 
     pub open_owner_new : {count : ℕ} {st₁ st₂ : ℕ → List ℕ} {r : Counters} → b ≡ false → o < 1025 → Pushed 1 2 n.owners o st count st₁
-        → PlainDid l (λ c v. on_opening (queue (task_in c v o))) (counted.with_owners count n) st₁ r st₂
-        → PlainDid l (λ c v. on_opening (open_owner (owner_of o))) n st r st₂
+        → StateDid c l (λ v. on_opening (queue (task_in c v o))) (counted.with_owners count n) st₁ r st₂
+        → StateDid c l (λ v. on_opening (open_owner (owner_of o))) n st r st₂
     open_owner_new t h p q =
-        record {
-          is = λ c. record {
-            is = λ cl wt. did_as (did_then (owner_did p c cl wt) ((q.is c).is cl wt)) (λ v. open_owner_widens _) (λ g _ v. new c cl wt v);
-          };
-        }
+        record { is = λ cl wt. did_as (did_then (owner_did p cl wt) (q.is cl wt)) (λ v. open_owner_widens _) (λ g _ v. new cl wt v) }
       where
-        new : (c : Catalogue) (cl wt : List ℕ) (v : Reading)
+        new : (cl wt : List ℕ) (v : Reading)
             → on_opening (queue (task_in c v o)) (on_opening (add_owner o) (state_of c l v n st cl wt)) ≡ on_opening (open_owner (owner_of o)) (state_of c l v n st cl wt)
-        new c cl wt v = unfold on_opening add_owner open_owner state_of opening_of unless in rw (← owner_open, t, owner_task c v o h)
+        new cl wt v = unfold on_opening add_owner open_owner state_of opening_of unless in rw (← owner_open, t, owner_task c v o h)
 
 -- one name more
 unfoldable add_name : ℕ → Opening → Opening
@@ -107,8 +100,8 @@ add_name_lengthens : (x : ℕ) (u : Opening) → Lengthens u (add_name x u)
 unfolding add_name
 add_name_lengthens x u = record { waiting = whole; line = omega arith; several = omega arith }
 
-module _ (l : Limits) (n : Counters) where
-  module _ {x count : ℕ} {st st' : ℕ → List ℕ} (p : Pushed 3 4 n.names x st count st') (c : Catalogue) (cl wt : List ℕ) where
+module _ (c : Catalogue) (l : Limits) (n : Counters) where
+  module _ {x count : ℕ} {st st' : ℕ → List ℕ} (p : Pushed 3 4 n.names x st count st') (cl wt : List ℕ) where
     name_state : (v : Reading) → state_of c l v (counted.with_names count n) st' cl wt ≡ on_opening (add_name x) (state_of c l v n st cl wt)
     unfolding state_of opening_of on_opening add_name any
     name_state v =
@@ -122,29 +115,22 @@ module _ (l : Limits) (n : Counters) where
     name_did : Did c l (λ v. on_opening (add_name x)) n st cl wt (counted.with_names count n) st' cl wt
     name_did = did_made (λ v. widens_opening (add_name x) (add_name_lengthens x)) refl (λ g. unfold any in beside_kept p.others refl refl refl) refl refl (λ k. refl) name_good (λ g. name_state)
 
-  pub open_name_full : (x : ℕ) {st : ℕ → List ℕ} → is_full n ≡ true → PlainDid l (λ c v. on_opening (open_name x)) n st n st
-  open_name_full x f = plain_full (λ c v. open_name_widens _) f
-
   module _ (x : ℕ) {b : Bool} {st : ℕ → List ℕ} (m : Marked 3 4 n.names st) (e : b ≡ is_marked 4 x st) where
     name_open : b ≡ elem x (listed n.names 3 st)
     name_open = listed_after x b m e
 
-    pub open_name_again : b ≡ true → PlainDid l (λ c v. on_opening (open_name x)) n st n st
-    open_name_again t = record { is = λ c. record { is = λ cl wt. did_idle (λ v. open_name_widens _) (λ g _ v. idle c cl wt v) } }
+    pub open_name_again : b ≡ true → StateDid c l (λ v. on_opening (open_name x)) n st n st
+    open_name_again t = record { is = λ cl wt. did_idle (λ v. open_name_widens _) (λ g _ v. idle cl wt v) }
       where
-        idle : (c : Catalogue) (cl wt : List ℕ) (v : Reading) → on_opening (open_name x) (state_of c l v n st cl wt) ≡ state_of c l v n st cl wt
-        idle c cl wt v = unfold on_opening open_name state_of opening_of unless in rw (← name_open, t)
+        idle : (cl wt : List ℕ) (v : Reading) → on_opening (open_name x) (state_of c l v n st cl wt) ≡ state_of c l v n st cl wt
+        idle cl wt v = unfold on_opening open_name state_of opening_of unless in rw (← name_open, t)
 
     pub open_name_new : {count : ℕ} {st₁ st₂ : ℕ → List ℕ} {r : Counters} → b ≡ false → x < 64 → Pushed 3 4 n.names x st count st₁
-        → PlainDid l (λ c v. on_opening (queue (task_in c v (1025 + x)))) (counted.with_names count n) st₁ r st₂
-        → PlainDid l (λ c v. on_opening (open_name x)) n st r st₂
+        → StateDid c l (λ v. on_opening (queue (task_in c v (1025 + x)))) (counted.with_names count n) st₁ r st₂
+        → StateDid c l (λ v. on_opening (open_name x)) n st r st₂
     open_name_new t h p q =
-        record {
-          is = λ c. record {
-            is = λ cl wt. did_as (did_then (name_did p c cl wt) ((q.is c).is cl wt)) (λ v. open_name_widens _) (λ g _ v. new c cl wt v);
-          };
-        }
+        record { is = λ cl wt. did_as (did_then (name_did p cl wt) (q.is cl wt)) (λ v. open_name_widens _) (λ g _ v. new cl wt v) }
       where
-        new : (c : Catalogue) (cl wt : List ℕ) (v : Reading)
+        new : (cl wt : List ℕ) (v : Reading)
             → on_opening (queue (task_in c v (1025 + x))) (on_opening (add_name x) (state_of c l v n st cl wt)) ≡ on_opening (open_name x) (state_of c l v n st cl wt)
-        new c cl wt v = unfold on_opening add_name open_name state_of opening_of unless in rw (← name_open, t, name_task c v x h)
+        new cl wt v = unfold on_opening add_name open_name state_of opening_of unless in rw (← name_open, t, name_task c v x h)

@@ -28,11 +28,11 @@ use Rattle.decision_tracker.proofs.Laws.{decisions_kept}
 use Rattle.marked.specs.Marked.{listed}
 use Rattle.encoder.specs.declared.Counters.{Counters}
 use Rattle.encoder.specs.Held.{Reading, opening_of, state_of, Good}
-use Rattle.encoder.specs.Did.{room_of, beyond, on_opening, with_several, filled, PlainDid, is_full}
+use Rattle.encoder.specs.Did.{room_of, beyond, on_opening, with_several, filled, StateDid}
 use Rattle.state.specs.Limits.{limits_of}
 use Rattle.encoder.proofs.Counted as counted
 use Rattle.encoder.proofs.Frames.{good_kept, list_kept, line_kept}
-use Rattle.encoder.proofs.Did.{plain_full, did_filled, did_made, beside_kept}
+use Rattle.encoder.proofs.Did.{did_filled, did_made, beside_kept}
 use Rattle.encoder.proofs.Widening.{with_several_widens}
 
 -- ---- is one among them?
@@ -78,10 +78,7 @@ several_beyond : (l : Limits) (room : ℕ) (s : State) → 64 < length s.opening
 unfolding beyond
 several_beyond l room s h = rw (lt-ltb 64 (length s.opening.several) h, or_true (ltb room (length s.opening.line))) (or_true (above (limits_of l) s))
 
-module _ (l : Limits) (n : Counters) where
-  pub several_full : (x : ℕ) {st : ℕ → List ℕ} → is_full n ≡ true → PlainDid l (λ c v. on_opening (with_several x)) n st n st
-  several_full x f = plain_full (λ c v. with_several_widens _) f
-
+module _ (c : Catalogue) (l : Limits) (n : Counters) where
   module _ (x : ℕ) (b b' : List ℕ) (f : Fits l (length b)) (h : n.several < 64) (e : held l b' ≡ stored (held l b) 5 n.several x) where
     several_changed : Changed (5 ∷ []) (held l b) (held l b')
     several_changed = changed_stored 5 n.several x e (unfold any in refl)
@@ -92,36 +89,34 @@ module _ (l : Limits) (n : Counters) where
         rw (e, stored_here (held l b) 5 n.several x, add-one)
         (take-suc-set (held l b 5) n.several x (rw (length_fixed l b 5 (omega arith) f) h))
 
-    several_state : (c : Catalogue) (cl wt : List ℕ) (v : Reading)
+    several_state : (cl wt : List ℕ) (v : Reading)
         → state_of c l v (counted.with_several (n.several + 1) n) (held l b') cl wt ≡ on_opening (with_several x) (state_of c l v n (held l b) cl wt)
     unfolding state_of opening_of on_opening with_several any
-    several_state c cl wt v =
+    several_state cl wt v =
         let ch = several_changed in
         simp (several_listed, list_kept ch, line_kept ch, variables_kept ch, decisions_kept ch, ch.same)
 
-    several_good : (c : Catalogue) (cl wt : List ℕ) → Good c l n (held l b) cl wt → Good c l (counted.with_several (n.several + 1) n) (held l b') cl wt
+    several_good : (cl wt : List ℕ) → Good c l n (held l b) cl wt → Good c l (counted.with_several (n.several + 1) n) (held l b') cl wt
     unfolding any
-    several_good c cl wt g =
+    several_good cl wt g =
         let few : n.several + 1 ≤ 64 = omega arith in
         good_kept several_changed g (search) refl refl refl refl refl g.entries
 
-    pub several_more : PlainDid l (λ c v. on_opening (with_several x)) n (held l b) (counted.with_several (n.several + 1) n) (held l b')
+    pub several_more : StateDid c l (λ v. on_opening (with_several x)) n (held l b) (counted.with_several (n.several + 1) n) (held l b')
     several_more =
         record {
-          is = λ c. record {
-            is = λ cl wt. did_made (λ v. with_several_widens _) refl (λ g. unfold any in beside_kept (several_changed) refl refl refl) refl refl (λ k. refl) (several_good c cl wt) (λ g. several_state c cl wt);
-          };
+          is = λ cl wt. did_made (λ v. with_several_widens _) refl (λ g. unfold any in beside_kept (several_changed) refl refl refl) refl refl (λ k. refl) (several_good cl wt) (λ g. several_state cl wt);
         }
 
-  several_long_after : (x : ℕ) (b : List ℕ) (c : Catalogue) (cl wt : List ℕ) (v : Reading) → Fits l (length b) → 64 ≤ n.several → Good c l n (held l b) cl wt
+  several_long_after : (x : ℕ) (b : List ℕ) (cl wt : List ℕ) (v : Reading) → Fits l (length b) → 64 ≤ n.several → Good c l n (held l b) cl wt
       → 64 < length (on_opening (with_several x) (state_of c l v n (held l b) cl wt)).opening.several
   unfolding on_opening with_several state_of opening_of listed
-  several_long_after x b c cl wt v f h g =
+  several_long_after x b cl wt v f h g =
       let k = length_fixed l b 5 (omega arith) f in
       let a : length (take n.several (held l b 5)) ≡ n.several = length-take-le n.several (held l b 5) (omega (arith, g.state.several)) in
       rw (length_snoc (take n.several (held l b 5)) x, a) (omega arith)
 
   pub several_over : (x : ℕ) (b : List ℕ) {r : Counters} → Fits l (length b) → 64 ≤ n.several → r ≡ filled n
-      → PlainDid l (λ c v. on_opening (with_several x)) n (held l b) r (held l b)
+      → StateDid c l (λ v. on_opening (with_several x)) n (held l b) r (held l b)
   several_over x b f h e =
-      rw e (record { is = λ c. record { is = λ cl wt. did_filled (λ v. with_several_widens _) (λ g v. several_beyond l (room_of l n) _ (several_long_after x b c cl wt v f h g)) } })
+      rw e (record { is = λ cl wt. did_filled (λ v. with_several_widens _) (λ g v. several_beyond l (room_of l n) _ (several_long_after x b cl wt v f h g)) })

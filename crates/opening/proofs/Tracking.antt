@@ -18,10 +18,10 @@ use Rattle.marked.specs.Marked.{listed, is_marked, Marked, Free, Pushed}
 use Rattle.marked.proofs.Laws.{free_after, listed_after, mark_room}
 use Rattle.encoder.specs.declared.Counters.{Counters}
 use Rattle.encoder.specs.Held.{Reading, opening_of, state_of, Good}
-use Rattle.encoder.specs.Did.{on_opening, Did, StateDid, is_full}
+use Rattle.encoder.specs.Did.{on_opening, Did, StateDid}
 use Rattle.encoder.proofs.Counted as counted
 use Rattle.encoder.proofs.Frames.{good_kept, list_kept, line_kept}
-use Rattle.encoder.proofs.Did.{did_full, did_idle, did_made, did_as, beside_kept}
+use Rattle.encoder.proofs.Did.{did_idle, did_made, did_as, beside_kept}
 use Rattle.encoder.proofs.Widening.{Lengthens, name_for_tracking_widens, widens_opening}
 
 pub part_free : (l : Limits) (b : List ℕ) (n p : ℕ) (f : Bool) → Fits l (length b) → Marked 8 9 n (held l b) → p < 1024 → f ≡ is_marked 9 p (held l b)
@@ -52,9 +52,6 @@ module _ (l : Limits) (n : Counters) where
     named_did = did_made (λ v. widens_opening (add_named x) (add_named_lengthens x)) refl (λ g. unfold any in beside_kept p.others refl refl refl) refl refl (λ k. refl) named_good (λ g. named_state)
 
   module _ (c : Catalogue) (p : ℕ) {st : ℕ → List ℕ} where
-    pub tracking_full : is_full n ≡ true → StateDid c l (λ v. on_opening (name_for_tracking c p)) n st n st
-    tracking_full f = record { is = λ cl wt. did_full f (λ v. name_for_tracking_widens c p) }
-
     -- it is not to be named
     idle : (elem (name_of c p) (listed n.several 5 st) || elem p (listed n.named 8 st)) ≡ true → StateDid c l (λ v. on_opening (name_for_tracking c p)) n st n st
     idle t = record { is = λ cl wt. did_idle (λ v. name_for_tracking_widens c p) (λ g _ v. same cl wt v) }

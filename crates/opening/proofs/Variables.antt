@@ -24,18 +24,15 @@ use Rattle.decision_tracker.proofs.Laws.{decisions_kept}
 use Rattle.encoder.specs.declared.Counters.{Counters}
 use Rattle.solver.specs.Rows.{rows}
 use Rattle.encoder.specs.Held.{Reading, clauses_in, opening_of, state_of, Good}
-use Rattle.encoder.specs.Did.{room_of, beyond, filled, Looked, PlainDid, is_full}
+use Rattle.encoder.specs.Did.{room_of, beyond, filled, Looked, StateDid}
 use Rattle.state.specs.Limits.{limits_of}
 use Rattle.encoder.proofs.Counted as counted
 use Rattle.encoder.proofs.Frames.{state_kept, list_kept, line_kept, sound_still, clauses_still, good_within}
-use Rattle.encoder.proofs.Did.{plain_full, did_filled, did_made, beside_kept}
+use Rattle.encoder.proofs.Did.{did_filled, did_made, beside_kept}
 use Rattle.encoder.proofs.Widening.{add_variable_widens}
 
-module _ (l : Limits) (n : Counters) where
-  pub variable_full : (o : Origin) {st : ℕ → List ℕ} → is_full n ≡ true → PlainDid l (λ c v. add_variable o) n st n st
-  variable_full o f = plain_full (λ c v. add_variable_widens o) f
-
-  module _ {o : Origin} {count x : ℕ} {st st' : ℕ → List ℕ} (m : Made l n.variables o count x st st') (c : Catalogue) (cl wt : List ℕ) (g : Good c l n st cl wt) where
+module _ (c : Catalogue) (l : Limits) (n : Counters) where
+  module _ {o : Origin} {count x : ℕ} {st st' : ℕ → List ℕ} (m : Made l n.variables o count x st st') (cl wt : List ℕ) (g : Good c l n st cl wt) where
     prefix : Prefix (variables n.variables st) (with_variable o (variables n.variables st))
     prefix = with_variable_prefix o (variables n.variables st)
 
@@ -64,18 +61,16 @@ module _ (l : Limits) (n : Counters) where
         }
 
   pub variable_named : {o : Origin} {count x : ℕ} {st st' : ℕ → List ℕ} → Made l n.variables o count x st st'
-      → PlainDid l (λ c v. add_variable o) n st (counted.with_variables count n) st'
+      → StateDid c l (λ v. add_variable o) n st (counted.with_variables count n) st'
   variable_named {o} m =
       record {
-        is = λ c. record {
-          is = λ cl wt. did_made (λ v. add_variable_widens o) refl (λ g. unfold any in beside_kept m.grown.rest refl refl refl) refl refl (λ k. refl) (variable_good m c cl wt) (variable_state m c cl wt);
-        };
+        is = λ cl wt. did_made (λ v. add_variable_widens o) refl (λ g. unfold any in beside_kept m.grown.rest refl refl refl) refl refl (λ k. refl) (variable_good m cl wt) (variable_state m cl wt);
       }
 
-  variable_beyond : (o : Origin) (st : ℕ → List ℕ) (c : Catalogue) (cl wt : List ℕ) (v : Reading) → known (variables n.variables st) o ≡ false
+  variable_beyond : (o : Origin) (st : ℕ → List ℕ) (cl wt : List ℕ) (v : Reading) → known (variables n.variables st) o ≡ false
       → n.variables ≡ l.variables → Good c l n st cl wt → beyond l (room_of l n) (add_variable o (state_of c l v n st cl wt)) ≡ true
   unfolding beyond add_variable
-  variable_beyond o st c cl wt v k h g = rw (only_variables (limits_of l) (state_of c l v n st cl wt) (good_within g v) _, longer_now)
+  variable_beyond o st cl wt v k h g = rw (only_variables (limits_of l) (state_of c l v n st cl wt) (good_within g v) _, longer_now)
     where
       longer_now : ltb (limits_of l).variables (length (with_variable o (state_of c l v n st cl wt).variables)) ≡ true
       longer_now =
@@ -84,10 +79,10 @@ module _ (l : Limits) (n : Counters) where
           rw (with_new (variables n.variables st) o k, length_snoc (variables n.variables st) o, count n.variables st) (omega arith))
 
   pub variable_lacking : {o : Origin} {st st' : ℕ → List ℕ} {r : Counters} → Lacking l n.variables o st st' → r ≡ filled n
-      → PlainDid l (λ c v. add_variable o) n st r st'
+      → StateDid c l (λ v. add_variable o) n st r st'
   variable_lacking {o} {st} k e =
       rw (e, k.same)
-      (record { is = λ c. record { is = λ cl wt. did_filled (λ v. add_variable_widens o) (λ g v. variable_beyond o st c cl wt v k.unknown k.full g) } })
+      (record { is = λ cl wt. did_filled (λ v. add_variable_widens o) (λ g v. variable_beyond o st cl wt v k.unknown k.full g) })
 
 -- ---- an origin's variable
 

@@ -16,169 +16,181 @@ ghost use Rattle.marked.specs.Marked.{listed, owner_of, Marked};
 ghost use Rattle.entries.specs.Entries.{entry_of, Long};
 ghost use Rattle.line.specs.Tasks.{task_number};
 ghost use Rattle.encoder.specs.Held.{task_in};
-ghost use Rattle.encoder.specs.Did.{on_opening, with_several, Looked, StateDid, PlainDid, WaitingDid};
+ghost use Rattle.encoder.specs.Does.{StateDoes, PlainDoes, regions_of};
+ghost use Rattle.encoder.specs.Did.{on_opening, with_several, Looked};
+ghost use Rattle.opening.specs.Does.{WaitingDoes};
 
-use encoder::Counters;
+use encoder::State;
 use entries::Entry;
 use line::Task;
 use marked::MarkedList;
-use state::{Limits, Region};
+use state::Region;
 use tables::Tables;
 use variable_map::Origin;
 
 // ---- the line
 
 // One task more.
-pub fn queue(s: &mut [u8], l: Limits, n: Counters, task: Task) -> Counters
-    requires { Fits l (length s.old) × (task_number task < 65536) }
-    ensures { PlainDid l (λ c v. on_opening (queue (task_in c v (task_number task)))) n (held l s.old) result (held l s.new) }
+pub fn queue(state: &mut State, task: Task)
+    requires { task_number task < 65536 }
+    ensures { PlainDoes (λ c v. on_opening (queue (task_in c v (task_number task)))) state.old state.new }
 {
-    if n.full != 0 {
-        return n;
+    if state.used.full != 0 {
+        return;
     }
-    if n.tail < 3649 + l.waiting {
-        let tail = line::push(s, l, n.tail, task);
-        return Counters { tail, ..n };
+    if state.used.tail < 3649 + state.limits.waiting {
+        state.used.tail = line::push(state.area, state.limits, state.used.tail, task);
+    } else {
+        state.used.full = 1;
     }
-    encoder::filled(n)
 }
 
 // ---- owners and names open once
 
-pub fn open_owner(s: &mut [u8], l: Limits, n: Counters, o: u16) -> Counters
-    requires fits { Fits l (length s.old) }
-    requires marked { Marked 1 2 n.owners (held l s.old) }
+pub fn open_owner(state: &mut State, o: u16)
+    requires marked { Marked 1 2 state.old.used.owners (regions_of state.old) }
     requires o_bound { o < 1025 }
-    ensures { PlainDid l (λ c v. on_opening (open_owner (owner_of o))) n (held l s.old) result (held l s.new) }
+    ensures { PlainDoes (λ c v. on_opening (open_owner (owner_of o))) state.old state.new }
 {
-    if n.full != 0 {
-        return n;
+    if state.used.full != 0 {
+        return;
     }
-    if marked::contains(s, l, MarkedList::Owners, o) {
-        return n;
+    if state.lists(MarkedList::Owners, o) {
+        return;
     }
-    let owners = marked::push(s, l, MarkedList::Owners, n.owners, o);
-    queue(s, l, Counters { owners, ..n }, Task::Owner(o))
+    state.used.owners = marked::push(
+        state.area,
+        state.limits,
+        MarkedList::Owners,
+        state.used.owners,
+        o,
+    );
+    queue(state, Task::Owner(o));
 }
 
-pub fn open_name(s: &mut [u8], l: Limits, n: Counters, name: u16) -> Counters
-    requires fits { Fits l (length s.old) }
-    requires marked { Marked 3 4 n.names (held l s.old) }
+pub fn open_name(state: &mut State, name: u16)
+    requires marked { Marked 3 4 state.old.used.names (regions_of state.old) }
     requires name_bound { name < 64 }
-    ensures { PlainDid l (λ c v. on_opening (open_name name)) n (held l s.old) result (held l s.new) }
+    ensures { PlainDoes (λ c v. on_opening (open_name name)) state.old state.new }
 {
-    if n.full != 0 {
-        return n;
+    if state.used.full != 0 {
+        return;
     }
-    if marked::contains(s, l, MarkedList::Names, name) {
-        return n;
+    if state.lists(MarkedList::Names, name) {
+        return;
     }
-    let names = marked::push(s, l, MarkedList::Names, n.names, name);
-    queue(s, l, Counters { names, ..n }, Task::Name(name))
+    state.used.names = marked::push(
+        state.area,
+        state.limits,
+        MarkedList::Names,
+        state.used.names,
+        name,
+    );
+    queue(state, Task::Name(name));
 }
 
 // ---- names served with several allowed
 
-// Is this name among the first `count`?
-pub fn is_several(s: &[u8], l: Limits, count: usize, name: u16) -> bool
-    requires fits { Fits l (length s.now) }
-    requires count_bound { count ≤ 64 }
-    ensures { result ≡ elem name (listed count 5 (held l s.now)) }
+// Was this name served with several allowed?
+pub fn is_several(state: &State, name: u16) -> bool
+    requires { state.now.used.several ≤ 64 }
+    ensures { result ≡ elem name (listed state.now.used.several 5 (regions_of state.now)) }
 {
-    for i in 0..count {
-        if state::get(s, l, Region::Several, i) == name {
+    for i in 0..state.used.several {
+        if state::get(state.area, state.limits, Region::Several, i) == name {
             return true;
         }
     }
     false
 }
 
-pub fn push_several(s: &mut [u8], l: Limits, n: Counters, name: u16) -> Counters
-    requires { Fits l (length s.old) }
-    ensures { PlainDid l (λ c v. on_opening (with_several name)) n (held l s.old) result (held l s.new) }
+pub fn push_several(state: &mut State, name: u16)
+    ensures { PlainDoes (λ c v. on_opening (with_several name)) state.old state.new }
 {
-    if n.full != 0 {
-        return n;
+    if state.used.full != 0 {
+        return;
     }
-    if n.several < 64 {
-        state::set(s, l, Region::Several, n.several, name);
-        return Counters {
-            several: n.several + 1,
-            ..n
-        };
+    if state.used.several < 64 {
+        state::set(
+            state.area,
+            state.limits,
+            Region::Several,
+            state.used.several,
+            name,
+        );
+        state.used.several += 1;
+    } else {
+        state.used.full = 1;
     }
-    encoder::filled(n)
 }
 
 // ---- tracking
 
 // Part p is named for tracking, unless it is already or its name was served with several allowed.
-pub fn name_for_tracking(tables: &Tables, s: &mut [u8], l: Limits, n: Counters, p: u16) -> Counters
-    requires fits { Fits l (length s.old) }
-    requires several_bound { (n.several ≤ 64) × Marked 8 9 n.named (held l s.old) × (p < 1024) }
-    ensures { (m u : List ℕ) → StateDid (catalogue tables.now.counts m u tables.now.area.now) l
-        (λ v. on_opening (name_for_tracking (catalogue tables.now.counts m u tables.now.area.now) p))
-        n (held l s.old) result (held l s.new) }
+pub fn name_for_tracking(tables: &Tables, state: &mut State, p: u16)
+    requires { (state.old.used.several ≤ 64) × Marked 8 9 state.old.used.named (regions_of state.old) × (p < 1024) }
+    ensures { (m u : List ℕ) → StateDoes (catalogue tables.now.counts m u tables.now.area.now)
+        (λ v. on_opening (name_for_tracking (catalogue tables.now.counts m u tables.now.area.now) p)) state.old state.new }
 {
-    if n.full != 0 {
-        return n;
+    if state.used.full != 0 {
+        return;
     }
-    if marked::contains(s, l, MarkedList::Named, p) {
-        return n;
+    if state.lists(MarkedList::Named, p) {
+        return;
     }
     let name = tables.part_name(p as usize);
-    if is_several(s, l, n.several, name) {
-        return n;
+    if is_several(state, name) {
+        return;
     }
-    let named = marked::push(s, l, MarkedList::Named, n.named, p);
-    Counters { named, ..n }
+    state.used.named = marked::push(
+        state.area,
+        state.limits,
+        MarkedList::Named,
+        state.used.named,
+        p,
+    );
 }
 
 // ---- waiting entries
 
-pub fn add_waiting(w: &mut [u8], l: Limits, n: Counters, e: Entry) -> Counters
-    requires long { Long l (length w.old) }
-    requires drawn_value { n.drawn ≡ 0 }
-    ensures { WaitingDid l (λ v. add_waiting (entry_of e)) n w.old result w.new }
+pub fn add_waiting(state: &mut State, w: &mut [u8], e: Entry)
+    requires long { Long state.old.limits (length w.old) }
+    requires drawn_value { state.old.used.drawn ≡ 0 }
+    ensures { WaitingDoes (λ v. add_waiting (entry_of e)) state.old w.old state.new w.new }
 {
-    if n.full != 0 {
-        return n;
+    if state.used.full != 0 {
+        return;
     }
-    if n.waiting < l.waiting {
-        let waiting = entries::push_waiting(w, l, n.waiting, e);
-        return Counters { waiting, ..n };
+    if state.used.waiting < state.limits.waiting {
+        state.used.waiting = entries::push_waiting(w, state.limits, state.used.waiting, e);
+    } else {
+        state.used.full = 1;
     }
-    encoder::filled(n)
 }
 
 // ---- variables
 
 // An origin gets its variable when first named.
-pub fn name_variable(s: &mut [u8], l: Limits, n: Counters, o: Origin) -> Counters
-    requires fits { Fits l (length s.old) }
-    requires mapped { Mapped l n.variables (held l s.old) }
+pub fn name_variable(state: &mut State, o: Origin)
+    requires mapped { Mapped state.old.limits state.old.used.variables (regions_of state.old) }
     requires o_value { in_tables (origin_of o) ≡ true }
-    ensures { PlainDid l (λ c v. add_variable (origin_of o)) n (held l s.old) result (held l s.new) }
+    ensures { PlainDoes (λ c v. add_variable (origin_of o)) state.old state.new }
 {
-    if n.full != 0 {
-        return n;
+    if state.used.full != 0 {
+        return;
     }
-    match variable_map::name(s, l, n.variables, o) {
-        Some(named) => Counters {
-            variables: named.count,
-            ..n
-        },
-        None => encoder::filled(n),
+    match variable_map::name(state.area, state.limits, state.used.variables, o) {
+        Some(named) => state.used.variables = named.count,
+        None => state.used.full = 1,
     }
 }
 
 // The variable of an origin that has one.
 #[tactic(auto, using(crate::proofs::Variables::looked_is))]
-pub fn variable_of(s: &[u8], l: Limits, n: Counters, o: Origin) -> u16
-    requires fits { Fits l (length s.now) }
-    requires mapped { Mapped l n.variables (held l s.now) }
+pub fn variable_of(state: &State, o: Origin) -> u16
+    requires mapped { Mapped state.now.limits state.now.used.variables (regions_of state.now) }
     requires o_value { in_tables (origin_of o) ≡ true }
-    ensures { Looked (variables n.variables (held l s.now)) (origin_of o) result }
+    ensures { Looked (variables state.now.used.variables (regions_of state.now)) (origin_of o) result }
 {
-    variable_map::variable(s, l, n.variables, o).unwrap_or(0)
+    state.variable(o).unwrap_or(0)
 }

@@ -1,5 +1,5 @@
 -- The definitions' walk over a job, cut where the catalogue ends and where the sheet does.
-use mathlib.Core.Path.{◌≡◌, refl, ◌∙◌, ap}
+use mathlib.Core.Path.{◌≡◌, refl, sym, ◌∙◌, ap}
 use mathlib.Core.List.{List, []}
 use mathlib.Core.Logic.{◌⊎◌, inl, inr}
 use Prim.Native.Nat.{ℕ, ◌+◌}
@@ -11,7 +11,7 @@ use Rattle.rules.specs.Catalogue.{Catalogue, empty_catalogue}
 use Rattle.rules.specs.Refusals.{number_and_place}
 use Rattle.rules.specs.State.{start}
 use Rattle.rules.specs.Limits.{Terms}
-use Rattle.rules.specs.Job.{reading, carrying, stopped, walk, run_step, check_step, answer_of, printed, refused, ended}
+use Rattle.rules.specs.Job.{Progress, reading, carrying, stopped, walk, run_step, check_step, answer_of, printed, refused, ended}
 use Rattle.rules.proofs.Reached.{Given, checked_given}
 use Rattle.rules.proofs.WellFormed.{well_formed}
 use Rattle.rules.proofs.WalkLaws.{walk_record, walk_end, walk_still, run_reads, check_sheet, check_carries}
@@ -29,13 +29,14 @@ use Rattle.index.proofs.Owners.{keys_given}
 use Rattle.catalogue.specs.declared.Read.{Read}
 use Rattle.catalogue.specs.Walking.{place_of, progress_of, UpToSheet, ReadUp}
 use Rattle.state.specs.declared.Limits.{Limits}
+use Rattle.state.specs.Layout.{held}
 use Rattle.encoder.specs.declared.Counters.{Counters}
-use Rattle.encoder.specs.Held.{LongEnough}
+use Rattle.encoder.specs.declared.State.{State}
 use Rattle.index.specs.Catalogued.{Catalogued}
-use Rattle.carried.specs.Carrying.{end_from, Came, SheetDid}
-use Rattle.beginning.specs.Beginning.{Reaches}
+use Rattle.carried.specs.Carrying.{end_from, SheetDid}
+use Rattle.beginning.specs.Beginning.{Reaches, IsReached}
 use Rattle.ending.specs.declared.Accepted.{Accepted}
-use Rattle.ending.specs.Ending.{told, Comes, Finishes}
+use Rattle.ending.specs.Ending.{told, Comes, Finishes, IsFinished}
 use Rattle.outcome.specs.Outcomes.{RunsFrom, ReadWhole}
 
 -- a refusal leaves the listing area
@@ -139,24 +140,33 @@ from_refused {job = job} {f = f} out h k =
           (refused_comes job out f);
     }
 
+-- ---- the same limits
+
+module _ {l l' : Limits} (e : l ≡ l') where
+  reaches_within : {c : Catalogue} {n : Counters} (b : List ℕ) {cl wt : List ℕ} → Reaches c l n (held l b) cl wt → Reaches c l' n (held l' b) cl wt
+  reaches_within b h = rw (← e) h
+
+  finishes_within : {c : Catalogue} {n : Counters} (b : List ℕ) {cl wt : List ℕ} {r : Result Accepted RefusedAt} {out out' : List ℕ} → Finishes c l n (held l b) cl wt r out out'
+      → Finishes c l' n (held l' b) cl wt r out out'
+  finishes_within b h = rw (← e) h
+
+  runs_within : {job : List ℕ} {at : ℕ} {p : Progress} {r : Result Accepted RefusedAt} {out out' : List ℕ} → RunsFrom l job at p r out out' → RunsFrom l' job at p r out out'
+  runs_within h = rw (← e) h
+
 -- ---- the sheet
 
-module _ {c : Catalogue} {l : Limits} {job : List ℕ} {from : ℕ} {st' : ℕ → List ℕ} {cl' wt' : List ℕ} where
-  module _ {x : Result Counters RefusedAt} (d : SheetDid c l job from x st' cl' wt') where
-    pub sheet_refused : {e : RefusedAt} (out : List ℕ) → x ≡ Err e → RunsFrom l job from (reading c) (Err e) out out
-    sheet_refused {e} out k = record { is = λ z i g. rw (d.refused e k z i) (refused_comes job out e) }
+pub sheet_reaches : {c : Catalogue} {job : List ℕ} {from : ℕ} {x x' : State} {cl' wt' : List ℕ} → SheetDid c job from x (Ok tt) x' cl' wt' → Given c → IsReached c x' cl' wt'
+sheet_reaches d g =
+    let y = d.carried refl in
+    reaches_within (sym d.limits) _ (record { state = y.state; given = g; reached = y.reached; holds = y.holds })
 
-    module _ {m : Counters} (k : x ≡ Ok m) where
-      abbrev came : Came c l job from m st' cl' wt'
-      came = d.carried m k
+-- within these limits
+module _ {c : Catalogue} {l : Limits} {job : List ℕ} {from : ℕ} {x x' : State} {cl' wt' : List ℕ} (i : x.limits ≡ l) where
+  pub sheet_refused : {e : RefusedAt} (out : List ℕ) → SheetDid c job from x (Err e) x' cl' wt' → RunsFrom l job from (reading c) (Err e) out out
+  sheet_refused {e} out d = runs_within i (record { is = λ z k g. rw (d.refused e refl z k) (refused_comes job out e) })
 
-      pub sheet_reaches : Given c → Reaches c l m st' cl' wt'
-      sheet_reaches g = record { state = came.state; given = g; reached = came.reached; holds = came.holds }
-
-      pub sheet_finished : {r : Result Accepted RefusedAt} {out out' : List ℕ} → Finishes c l m st' cl' wt' r out out' → RunsFrom l job from (reading c) r out out'
-      sheet_finished h = record { is = λ z e g. rw (came.alike z e) (unfold ended in h.is came.state came.holds z job g) }
-
--- ---- lengths
-
-pub long_both : {l : Limits} {m n i j : ℕ} → m ≡ n → i ≡ j → LongEnough l n j → LongEnough l m i
-long_both e d f = rw (e, d) f
+  pub sheet_finished : {r : Result Accepted RefusedAt} {out out' : List ℕ} → SheetDid c job from x (Ok tt) x' cl' wt' → IsFinished c x' cl' wt' r out out' → RunsFrom l job from (reading c) r out out'
+  unfolding ended
+  sheet_finished d h =
+      let y = d.carried refl in
+      runs_within i (record { is = λ z e g. rw (y.alike z e) ((finishes_within d.limits _ h).is y.state y.holds z job g) })

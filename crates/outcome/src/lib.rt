@@ -25,24 +25,24 @@ fn run_sheet(
     job: &[u8],
     from: usize,
     catalogue: &Catalogue,
-    s: &mut [u8],
+    area: &mut [u8],
     clauses: &mut [u8],
     w: &mut [u8],
-    l: Limits,
+    limits: Limits,
     out: &mut [u8],
 ) -> Result<Accepted, RefusedAt>
     requires job_len_bound { length job.now ≤ 65536 }
     requires up_to_sheet { UpToSheet job.now from (counts_of catalogue.now) catalogue.now.index.areas.marks.now catalogue.now.index.areas.unions.now (bytes_of catalogue.now) }
     requires given { Given (catalogue_of catalogue.now) }
-    requires fits { Fits l (length s.old) }
-    requires long_enough { LongEnough l (length clauses.old) (length w.old) }
-    requires variables_nonzero { (0 < l.variables) × (0 < l.clauses) }
-    ensures { RunsFrom l job.now from (reading (catalogue_of catalogue.now)) result out.old out.new }
+    requires fits { Fits limits (length area.old) }
+    requires long_enough { LongEnough limits (length clauses.old) (length w.old) }
+    requires variables_nonzero { (0 < limits.variables) × (0 < limits.clauses) }
+    ensures { RunsFrom limits job.now from (reading (catalogue_of catalogue.now)) result out.old out.new }
 {
-    state::clear(s, l);
-    let n = carried::start(s, clauses, l);
-    let m = carried::carry_sheet(job, from, catalogue, s, clauses, w, l, n)?;
-    ending::finish(catalogue, s, clauses, w, l, m, out)
+    state::clear(area, limits);
+    let mut state = carried::start(area, clauses, limits);
+    carried::carry_sheet(job, from, catalogue, &mut state, clauses, w)?;
+    ending::finish(catalogue, &state, clauses, w, out)
 }
 
 // The catalogue is read, and its chains are made.
@@ -65,17 +65,17 @@ pub fn run<'a>(
     marks: &'a mut [u8],
     unions: &'a mut [u8],
     t: &'a mut [u8],
-    s: &mut [u8],
+    area: &mut [u8],
     clauses: &mut [u8],
     w: &mut [u8],
-    l: Limits,
+    limits: Limits,
     out: &mut [u8],
 ) -> Result<Accepted, RefusedAt>
     requires in_bounds { (65536 ≤ length marks.old) × (52428 ≤ length unions.old) × (50696 ≤ length t.old) × (length job.now ≤ 65536) }
-    requires fits { Fits l (length s.old) }
-    requires long_enough { LongEnough l (length clauses.old) (length w.old) }
-    requires variables_nonzero { (0 < l.variables) × (0 < l.clauses) }
-    ensures { RunsFrom l job.now 0 (reading empty_catalogue) result out.old out.new }
+    requires fits { Fits limits (length area.old) }
+    requires long_enough { LongEnough limits (length clauses.old) (length w.old) }
+    requires variables_nonzero { (0 < limits.variables) × (0 < limits.clauses) }
+    ensures { RunsFrom limits job.now 0 (reading empty_catalogue) result out.old out.new }
 {
     let read = read_whole(job, marks, unions, t)?;
     let tables = Tables {
@@ -89,5 +89,5 @@ pub fn run<'a>(
     };
     let index = Index { areas };
     let catalogue = Catalogue { index };
-    run_sheet(job, read.at, &catalogue, s, clauses, w, l, out)
+    run_sheet(job, read.at, &catalogue, area, clauses, w, limits, out)
 }

@@ -14,11 +14,10 @@ use Rattle.tables.specs.declared.Counts.{Counts}
 use Rattle.cache.specs.Areas.{catalogue}
 use Rattle.index.specs.Chains.{First, row_of, requirements_by_owner, constraints_by_owner, key_of, Skips}
 use Rattle.index.proofs.Owners.{skips_requirements, skips_constraints}
-use Rattle.state.specs.declared.Limits.{Limits}
-use Rattle.encoder.specs.declared.Counters.{Counters}
+use Rattle.encoder.specs.declared.State as encoder
 use Rattle.encoder.specs.Held.{Reading}
 use Rattle.encoder.specs.Did.{on_opening}
-use Rattle.encoder.proofs.Steps.{state_same}
+use Rattle.encoder.proofs.Does.{does_same}
 use Rattle.owners.specs.declared.Rule.{Rule}
 use Rattle.owners.specs.declared.Rule.TheVariants.{OpenRequirement, OpenConstraint, QueueRequirement, QueueConstraint}
 use Rattle.owners.specs.Owners.{is_of, rule_of, cardinal}
@@ -40,9 +39,6 @@ module _ (k : Counts) (m u t : List ℕ) (w : Rule) (o : Owner) where
   along_constraints e (inr q) f = rw q (skips_constraints k m u t o e f)
 
 module _ (k : Counts) (w : Rule) where
-  pub below_cardinal : {count i : ℕ} → count ≡ cardinal k w → i < count → i < cardinal k w
-  below_cardinal e h = rw e at h
-
   pub below_requirements : {i : ℕ} → i < cardinal k w → (w ≡ OpenRequirement) ⊎ (w ≡ QueueRequirement) → i < k.requirements
   unfolding cardinal
   below_requirements h (inl q) = rw q at h
@@ -77,7 +73,7 @@ module _ (c : Catalogue) (w : Rule) (o : Owner) {n i r : ℕ} (z : Skips n (is_o
       let e = rw q at (fold_passed (rule_of c v w o) i (r - i) (λ j u a b. passed c v w o j u (z.none j a (omega arith))) s.opening) in
       rw e
 
-  pub ruled_along : {l : Limits} {count : ℕ} {n₀ n₁ : Counters} {st₀ st : ℕ → List ℕ} → count ≡ n → Ruled c l w o count n₀ st₀ i n₁ st → Ruled c l w o count n₀ st₀ r n₁ st
-  ruled_along e x =
+  pub ruled_along : {count : ℕ} {x₀ x : encoder.State} → count ≡ n → Ruled c w o count x₀ i x → Ruled c w o count x₀ r x
+  ruled_along e y =
       let inside = z.inside in
-      record { most = omega arith; good = x.good; did = state_same x.did all_passed }
+      record { most = omega arith; good = y.good; does = does_same y.does all_passed }

@@ -1,5 +1,6 @@
 -- Names are opened: of a range, of a union's ranges one after another, of a goal.
 use mathlib.Core.Path.{◌≡◌, refl, sym, ap, ◌∙◌}
+use mathlib.Core.Bool.{Bool, true}
 use mathlib.Core.List.{List, [], ◌∷◌, ◌++◌}
 use Prim.Native.Nat.{ℕ, ◌+◌, ◌<◌, ◌≤◌}
 use native.Mathlib.Omega.{arith}
@@ -24,11 +25,12 @@ use Rattle.cache.proofs.Laws.{names_held, ranges_held, unions_held, range_name_h
 use Rattle.index.specs.Members.{At, Passes}
 use Rattle.index.specs.Indexed.{Indexed}
 use Rattle.index.proofs.Unions.{union_ranges, distinct_snoc, distinct_start, distinct_step, ranges_end, at_next}
-use Rattle.state.specs.declared.Limits.{Limits}
-use Rattle.encoder.specs.declared.Counters.{Counters}
-use Rattle.encoder.specs.Did.{on_opening, StateDid, PlainDid}
-use Rattle.encoder.specs.Held.{GoodAlone}
-use Rattle.encoder.proofs.Steps.{state_same, state_none, state_then, alone_after}
+use Rattle.marked.specs.Marked.{is_marked}
+use Rattle.encoder.specs.declared.State.{State}
+use Rattle.encoder.specs.Did.{on_opening}
+use Rattle.encoder.specs.Does.{StateDoes, PlainDoes, IsGood, regions_of}
+use Rattle.encoder.proofs.Does.{does_same, does_then, does_none, at_catalogue, good_then}
+use Rattle.opening.proofs.Opens.{open_name_again}
 
 -- ---- a range
 
@@ -40,10 +42,13 @@ module _ (k : Counts) (m us t : List ℕ) where
       let is : x ≡ range_name (catalogue k m us t) r = e ∙ sym (range_name_held k m us t r) in
       omega (arith, names_held k m us t, h.held.laid.names)
 
-  pub range_opened : {l : Limits} {n n' : Counters} {st st' : ℕ → List ℕ} (r x : ℕ) → x ≡ get_or (tables k t).ranges r 0
-      → PlainDid l (λ c v. on_opening (open_name x)) n st n' st'
-      → StateDid (catalogue k m us t) l (λ v. on_opening (open_name (range_name (catalogue k m us t) r))) n st n' st'
-  range_opened r x e d = state_same (d.is (catalogue k m us t)) (λ v s. rw (range_name_held k m us t r, ← e))
+  pub range_opened : {z z' : State} (r x : ℕ) → x ≡ get_or (tables k t).ranges r 0 → PlainDoes (λ c v. on_opening (open_name x)) z z'
+      → StateDoes (catalogue k m us t) (λ v. on_opening (open_name (range_name (catalogue k m us t) r))) z z'
+  range_opened r x e d = does_same (at_catalogue d) (λ v s. rw (range_name_held k m us t r, ← e))
+
+  pub range_open : {z : State} (r x : ℕ) {b : Bool} → x ≡ get_or (tables k t).ranges r 0 → IsGood (catalogue k m us t) z → b ≡ is_marked 4 x (regions_of z) → b ≡ true
+      → StateDoes (catalogue k m us t) (λ v. on_opening (open_name (range_name (catalogue k m us t) r))) z z
+  range_open {z} r x e g i h = range_opened r x e (record { limits = refl; area = refl; did = λ c. open_name_again c z.limits z.used x g.good.state.names i h })
 
 -- ---- a union
 
@@ -64,21 +69,20 @@ names_alike : (c : Catalogue) (xs ys : List ℕ) (o : Opening) → distinct xs �
 names_alike c xs ys o e = names_distinct c xs o ∙ (rw e (sym (names_distinct c ys o)))
 
 -- the loop at place i: the names of the ranges seen are opened, those of the rows before but for repeats
-pub record Opened (k : Counts) (m us t : List ℕ) (l : Limits) (u : ℕ) (n₀ : Counters) (st₀ : ℕ → List ℕ) (i : ℕ) (n : Counters) (st : ℕ → List ℕ) : Type 0 where
+pub record Opened (k : Counts) (m us t : List ℕ) (u : ℕ) (z₀ : State) (i : ℕ) (z : State) : Type 0 where
   pub indexed : Indexed k m us t
   pub seen : List ℕ
   pub at : At k.members (rows k.members us) u i
   pub ranges : distinct seen ≡ distinct (before u i (rows k.members us))
-  pub good : GoodAlone (catalogue k m us t) l n st
-  pub did : StateDid (catalogue k m us t) l (λ v. on_opening (open_names (catalogue k m us t) seen)) n₀ st₀ n st
+  pub good : IsGood (catalogue k m us t) z
+  pub does : StateDoes (catalogue k m us t) (λ v. on_opening (open_names (catalogue k m us t) seen)) z₀ z
 
 -- a row as the lent rows have it
 pub member_is : {n n' : ℕ} {us us' : List ℕ} (i : ℕ) (x : Member) → us' ≡ us → n' ≡ n → row_of x ≡ get_or (rows n' us') i no_row → row_of x ≡ get_or (rows n us) i no_row
 member_is i x e f q = rw (e, f) at q
 
-module _ {k : Counts} {m us t : List ℕ} {l : Limits} {u : ℕ} where
-  pub opened_start : {n : Counters} {st : ℕ → List ℕ} {i : ℕ} → Indexed k m us t → GoodAlone (catalogue k m us t) l n st → Passes k (rows k.members us) u 0 i
-      → Opened k m us t l u n st i n st
+module _ {k : Counts} {m us t : List ℕ} {u : ℕ} where
+  pub opened_start : {z : State} {i : ℕ} → Indexed k m us t → IsGood (catalogue k m us t) z → Passes k (rows k.members us) u 0 i → Opened k m us t u z i z
   unfolding distinct fold
   opened_start d g x =
       record {
@@ -87,10 +91,10 @@ module _ {k : Counts} {m us t : List ℕ} {l : Limits} {u : ℕ} where
         at = x.at;
         ranges = sym (distinct_start k m us t d x);
         good = g;
-        did = state_none (λ v s. unfold on_opening in rw (names_none (catalogue k m us t) s.opening));
+        does = does_none (λ v s. unfold on_opening in rw (names_none (catalogue k m us t) s.opening));
       }
 
-  module _ {n₀ n : Counters} {st₀ st : ℕ → List ℕ} {i : ℕ} (o : Opened k m us t l u n₀ st₀ i n st) where
+  module _ {z₀ z : State} {i : ℕ} (o : Opened k m us t u z₀ i z) where
     pub union_range : (x : Member) → WellFormed (catalogue k m us t) → u < k.unions → i < k.members
         → row_of x ≡ get_or (rows k.members us) i no_row → x.range < k.ranges
     union_range x w h b e =
@@ -101,23 +105,23 @@ module _ {k : Counts} {m us t : List ℕ} {l : Limits} {u : ℕ} where
         let is : x.range ≡ (get_or rs i no_row).range = rw (← e) (unfold row_of in refl) in
         omega (arith, ranges_held k m us t)
 
-    pub opened_step : {n' : Counters} {st' : ℕ → List ℕ} {j : ℕ} (x : Member) → i < k.members → row_of x ≡ get_or (rows k.members us) i no_row
-        → StateDid (catalogue k m us t) l (λ v. on_opening (open_name (range_name (catalogue k m us t) x.range))) n st n' st'
-        → Passes k (rows k.members us) (get_or (rows k.members us) i no_row).union (i + 1) j → Opened k m us t l u n₀ st₀ j n' st'
+    pub opened_step : {z' : State} {j : ℕ} (x : Member) → i < k.members → row_of x ≡ get_or (rows k.members us) i no_row
+        → StateDoes (catalogue k m us t) (λ v. on_opening (open_name (range_name (catalogue k m us t) x.range))) z z'
+        → Passes k (rows k.members us) (get_or (rows k.members us) i no_row).union (i + 1) j → Opened k m us t u z₀ j z'
     opened_step x h e d y =
         record {
           indexed = o.indexed;
           seen = snoc o.seen x.range;
           at = at_next k m us t o.indexed o.at x h e y;
           ranges = distinct_snoc o.seen x.range ∙ rw (o.ranges, ← distinct_step k m us t o.indexed o.at x h e y);
-          good = alone_after d o.good;
-          did = state_same (state_then o.did d) (λ v s. unfold on_opening in rw (names_more (catalogue k m us t) o.seen x.range s.opening));
+          good = good_then d o.good;
+          does = does_same (does_then o.does d) (λ v s. unfold on_opening in rw (names_more (catalogue k m us t) o.seen x.range s.opening));
         }
 
     pub opened_end : k.members ≤ i
-        → StateDid (catalogue k m us t) l (λ v. on_opening (open_names (catalogue k m us t) (goal_ranges (catalogue k m us t) (union u)))) n₀ st₀ n st
+        → StateDoes (catalogue k m us t) (λ v. on_opening (open_names (catalogue k m us t) (goal_ranges (catalogue k m us t) (union u)))) z₀ z
     opened_end h =
-        state_same o.did
+        does_same o.does
         (λ v s. unfold on_opening in
         rw (
           union_ranges k m us t o.indexed u,
@@ -137,11 +141,9 @@ module _ (k : Counts) (m us t : List ℕ) {g : Requirement} {x : ℕ} where
       let low : x < length (catalogue k m us t).unions = unfold goal_of in rw e at h in
       omega (arith, unions_held k m us t)
 
-module _ {g : Requirement} {x : ℕ} {c : Catalogue} {l : Limits} {n n' : Counters} {st st' : ℕ → List ℕ} where
-  pub single_opened : g ≡ Single x → StateDid c l (λ v. on_opening (open_name (range_name c x))) n st n' st'
-      → StateDid c l (λ v. on_opening (open_names c (goal_ranges c (goal_of g)))) n st n' st'
-  single_opened e d = state_same d (λ v s. rw e (unfold goal_of goal_ranges open_names fold in refl))
+module _ {g : Requirement} {x : ℕ} {c : Catalogue} {z z' : State} where
+  pub single_opened : g ≡ Single x → StateDoes c (λ v. on_opening (open_name (range_name c x))) z z' → StateDoes c (λ v. on_opening (open_names c (goal_ranges c (goal_of g)))) z z'
+  single_opened e d = does_same d (λ v s. rw e (unfold goal_of goal_ranges open_names fold in refl))
 
-  pub union_opened : g ≡ Union x → StateDid c l (λ v. on_opening (open_names c (goal_ranges c (union x)))) n st n' st'
-      → StateDid c l (λ v. on_opening (open_names c (goal_ranges c (goal_of g)))) n st n' st'
-  union_opened e d = state_same d (λ v s. rw e (unfold goal_of in refl))
+  pub union_opened : g ≡ Union x → StateDoes c (λ v. on_opening (open_names c (goal_ranges c (union x)))) z z' → StateDoes c (λ v. on_opening (open_names c (goal_ranges c (goal_of g)))) z z'
+  union_opened e d = does_same d (λ v s. rw e (unfold goal_of in refl))

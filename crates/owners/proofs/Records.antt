@@ -7,7 +7,7 @@ use Prim.Native.Nat.{ℕ, ◌+◌, ◌-◌, ◌<◌, ◌≤◌}
 use native.Mathlib.Omega.{arith}
 use lib.Dec.{eqb}
 use lib.ListN.{length, get_or}
-use borrow.Author.Tests.{eqb-true, eqb-false, eq-eqb, ne_eqb, not-true, not-false}
+use borrow.Author.Tests.{eqb-true, eqb-false, eq-eqb, ne_eqb}
 use Rattle.rules.specs.Lists.{filter, up_to, when}
 use Rattle.rules.specs.Catalogue as rules
 use Rattle.std.specs.Prelude as code
@@ -30,14 +30,14 @@ use Rattle.tables.specs.Tables.{tables, constraint_from, constraint_is}
 use Rattle.cache.specs.Areas.{catalogue}
 use Rattle.cache.proofs.Laws.{parts_held, ranges_held, requirements_held, constraints_held, requirement_held, constraint_held}
 use Rattle.index.specs.Indexed.{Indexed}
-use Rattle.state.specs.declared.Limits.{Limits}
 use Rattle.marked.specs.Marked.{owner_by, owner_of}
 use Rattle.marked.proofs.Owners.{root_is, part_is}
 use Rattle.line.proofs.Tasks.{task_condition, task_requirement, task_constraint}
-use Rattle.encoder.specs.declared.Counters.{Counters}
+use Rattle.encoder.specs.declared.State as encoder
 use Rattle.encoder.specs.Held.{Reading, fired_now, task_from, task_in}
-use Rattle.encoder.specs.Did.{on_opening, StateDid, PlainDid}
-use Rattle.encoder.proofs.Steps.{state_same, state_none}
+use Rattle.encoder.specs.Did.{on_opening}
+use Rattle.encoder.specs.Does.{StateDoes, PlainDoes}
+use Rattle.encoder.proofs.Does.{does_same, does_none, at_catalogue}
 use Rattle.owners.specs.declared.Rule.TheVariants.{OpenRequirement, OpenConstraint, QueueRequirement, QueueConstraint}
 use Rattle.owners.specs.Owners.{OwnerNumber, rule_of}
 
@@ -77,12 +77,12 @@ same_code Root (Part q) = refl
 same_code (Part p) Root = refl
 same_code (Part p) (Part q) = symmetric p q
 
-module _ (x o : owner.Owner) {r : Bool} (e : r ≡ not (equal x o)) where
-  owners_same : r ≡ false → same_owner (owner_is o) (owner_is x) ≡ true
-  owners_same h = sym (same_code x o) ∙ not-false (equal x o) (sym e ∙ h)
+module _ (x o : owner.Owner) {r : Bool} (e : r ≡ equal x o) where
+  owners_same : r ≡ true → same_owner (owner_is o) (owner_is x) ≡ true
+  owners_same h = sym (same_code x o) ∙ (sym e ∙ h)
 
-  owners_apart : r ≡ true → same_owner (owner_is o) (owner_is x) ≡ false
-  owners_apart h = sym (same_code x o) ∙ not-true (equal x o) (sym e ∙ h)
+  owners_apart : r ≡ false → same_owner (owner_is o) (owner_is x) ≡ false
+  owners_apart h = sym (same_code x o) ∙ (sym e ∙ h)
 
 -- for callers: its number here
 pub owner_below : (c : Catalogue) (o : ℕ) → OwnerGiven c (owner_of o) → length c.parts ≤ 1024 → o < 1025
@@ -150,12 +150,12 @@ module _ (k : Counts) (m us t : List ℕ) (q : ℕ) (it : ConditionalRequirement
   tested None = refl
   tested (Some x) = refl
 
-  module _ {b : Bool} (f : b ≡ is_some it.condition) where
-    conditional_by : b ≡ true → unconditional (catalogue k m us t) q ≡ false
-    conditional_by h = unconditional_is ∙ (tested it.condition ∙ ap not (sym f ∙ h))
+  module _ {b : Bool} (f : is_some it.condition ≡ not b) where
+    conditional_by : b ≡ false → unconditional (catalogue k m us t) q ≡ false
+    conditional_by h = unconditional_is ∙ (tested it.condition ∙ ap not (f ∙ ap not h))
 
-    direct_by : b ≡ false → unconditional (catalogue k m us t) q ≡ true
-    direct_by h = unconditional_is ∙ (tested it.condition ∙ ap not (sym f ∙ h))
+    direct_by : b ≡ true → unconditional (catalogue k m us t) q ≡ true
+    direct_by h = unconditional_is ∙ (tested it.condition ∙ ap not (f ∙ ap not h))
 
   pub required_owner : WellFormed (catalogue k m us t) → Indexed k m us t → q < k.requirements → OwnerNumber it.owner
   required_owner w h b =
@@ -168,52 +168,52 @@ module _ (k : Counts) (m us t : List ℕ) (q : ℕ) (it : ConditionalRequirement
       let given : q < length (catalogue k m us t).requirements = rw requirements_held b in
       subst (λ (x : Goal). GoalGiven (catalogue k m us t) x) goal_at_law (w.requirements q given).goal
 
-  module _ (o : owner.Owner) (r : Bool) (f : r ≡ not (equal it.owner o)) where
+  module _ (o : owner.Owner) (r : Bool) (f : r ≡ equal it.owner o) where
     same_owner_law : same_owner (owner_is o) (owner_at (catalogue k m us t) q) ≡ same_owner (owner_is o) (owner_is it.owner)
     same_owner_law = ap (same_owner (owner_is o)) owner_at_law
 
-    module _ {l : Limits} {n : Counters} {st : ℕ → List ℕ} where
-      pub open_other : r ≡ true → StateDid (catalogue k m us t) l (λ v. on_opening (rule_of (catalogue k m us t) v OpenRequirement (owner_is o) q)) n st n st
-      open_other ne = state_none (λ v s. unfold on_opening rule_of when in rw (same_owner_law, owners_apart it.owner o f ne))
+    module _ {z : encoder.State} where
+      pub open_other : r ≡ false → StateDoes (catalogue k m us t) (λ v. on_opening (rule_of (catalogue k m us t) v OpenRequirement (owner_is o) q)) z z
+      open_other ne = does_none (λ v s. unfold on_opening rule_of when in rw (same_owner_law, owners_apart it.owner o f ne))
 
-      pub queue_other : r ≡ true → StateDid (catalogue k m us t) l (λ v. on_opening (rule_of (catalogue k m us t) v QueueRequirement (owner_is o) q)) n st n st
-      queue_other ne = state_none (λ v s. unfold on_opening rule_of when in rw (same_owner_law, owners_apart it.owner o f ne))
+      pub queue_other : r ≡ false → StateDoes (catalogue k m us t) (λ v. on_opening (rule_of (catalogue k m us t) v QueueRequirement (owner_is o) q)) z z
+      queue_other ne = does_none (λ v s. unfold on_opening rule_of when in rw (same_owner_law, owners_apart it.owner o f ne))
 
-      pub open_conditional : {b : Bool} → b ≡ is_some it.condition → b ≡ true
-          → StateDid (catalogue k m us t) l (λ v. on_opening (rule_of (catalogue k m us t) v OpenRequirement (owner_is o) q)) n st n st
+      pub open_conditional : {b : Bool} → is_some it.condition ≡ not b → b ≡ false
+          → StateDoes (catalogue k m us t) (λ v. on_opening (rule_of (catalogue k m us t) v OpenRequirement (owner_is o) q)) z z
       open_conditional g u =
-          state_none (λ v s. unfold on_opening rule_of when in rw (conditional_by g u, and_false (same_owner (owner_is o) (owner_at (catalogue k m us t) q))))
+          does_none (λ v s. unfold on_opening rule_of when in rw (conditional_by g u, and_false (same_owner (owner_is o) (owner_at (catalogue k m us t) q))))
 
-    open_is : r ≡ false → unconditional (catalogue k m us t) q ≡ true → (v : Reading) (s : State)
+    open_is : r ≡ true → unconditional (catalogue k m us t) q ≡ true → (v : Reading) (s : State)
         → on_opening (open_names (catalogue k m us t) (goal_ranges (catalogue k m us t) (goal_of it.requirement))) s
         ≡ on_opening (rule_of (catalogue k m us t) v OpenRequirement (owner_is o) q) s
     unfolding on_opening rule_of when
     open_is h u v s =
         rw (← goal_at_law) (sym (rw (same_owner_law, owners_same it.owner o f h, u)))
 
-    queue_is : r ≡ false → (b : Bool) → unconditional (catalogue k m us t) q ≡ b → (v : Reading) (s : State)
+    queue_is : r ≡ true → (b : Bool) → unconditional (catalogue k m us t) q ≡ b → (v : Reading) (s : State)
         → on_opening (queue (task_by (catalogue k m us t) b q)) s ≡ on_opening (rule_of (catalogue k m us t) v QueueRequirement (owner_is o) q) s
     unfolding on_opening rule_of when
     queue_is h b u v s = sym (rw (same_owner_law, owners_same it.owner o f h, u))
 
-    module _ {l : Limits} {n n' : Counters} {st st' : ℕ → List ℕ} (h : r ≡ false) where
-      pub open_own : {b : Bool} → b ≡ is_some it.condition → b ≡ false
-          → StateDid (catalogue k m us t) l (λ v. on_opening (open_names (catalogue k m us t) (goal_ranges (catalogue k m us t) (goal_of it.requirement)))) n st n' st'
-          → StateDid (catalogue k m us t) l (λ v. on_opening (rule_of (catalogue k m us t) v OpenRequirement (owner_is o) q)) n st n' st'
-      open_own g u d = state_same d (open_is h (direct_by g u))
+    module _ {z z' : encoder.State} (h : r ≡ true) where
+      pub open_own : {b : Bool} → is_some it.condition ≡ not b → b ≡ true
+          → StateDoes (catalogue k m us t) (λ v. on_opening (open_names (catalogue k m us t) (goal_ranges (catalogue k m us t) (goal_of it.requirement)))) z z'
+          → StateDoes (catalogue k m us t) (λ v. on_opening (rule_of (catalogue k m us t) v OpenRequirement (owner_is o) q)) z z'
+      open_own g u d = does_same d (open_is h (direct_by g u))
 
-      pub queue_direct : Indexed k m us t → q < k.requirements → it.condition ≡ None → PlainDid l (λ c v. on_opening (queue (task_in c v (2113 + q)))) n st n' st'
-          → StateDid (catalogue k m us t) l (λ v. on_opening (rule_of (catalogue k m us t) v QueueRequirement (owner_is o) q)) n st n' st'
+      pub queue_direct : Indexed k m us t → q < k.requirements → it.condition ≡ None → PlainDoes (λ c v. on_opening (queue (task_in c v (2113 + q)))) z z'
+          → StateDoes (catalogue k m us t) (λ v. on_opening (rule_of (catalogue k m us t) v QueueRequirement (owner_is o) q)) z z'
       queue_direct a b u d =
           let low : q < 1024 = omega (arith, a.held.laid.requirements) in
-          state_same (d.is (catalogue k m us t)) (λ v s. rw (requirement_task_law (catalogue k m us t) v q low (direct_is u)) (queue_is h true (direct_is u) v s))
+          does_same (at_catalogue d) (λ v s. rw (requirement_task_law (catalogue k m us t) v q low (direct_is u)) (queue_is h true (direct_is u) v s))
 
       pub queue_conditional : Indexed k m us t → q < k.requirements → {x : ℕ} → it.condition ≡ Some x
-          → PlainDid l (λ c v. on_opening (queue (task_in c v (1089 + q)))) n st n' st'
-          → StateDid (catalogue k m us t) l (λ v. on_opening (rule_of (catalogue k m us t) v QueueRequirement (owner_is o) q)) n st n' st'
+          → PlainDoes (λ c v. on_opening (queue (task_in c v (1089 + q)))) z z'
+          → StateDoes (catalogue k m us t) (λ v. on_opening (rule_of (catalogue k m us t) v QueueRequirement (owner_is o) q)) z z'
       queue_conditional a b u d =
           let low : q < 1024 = omega (arith, a.held.laid.requirements) in
-          state_same (d.is (catalogue k m us t)) (λ v s. rw (condition_task (catalogue k m us t) v q low) (queue_is h false (conditional_is u) v s))
+          does_same (at_catalogue d) (λ v s. rw (condition_task (catalogue k m us t) v q low) (queue_is h false (conditional_is u) v s))
 
 -- ---- a constraint
 
@@ -240,24 +240,24 @@ module _ (k : Counts) (m us t : List ℕ) (i : ℕ) (it : Constraint) (e : const
       let given : i < length (catalogue k m us t).constraints = rw constraints_held b in
       omega (arith, (w.constraints i given).range, range_at, ranges_held k m us t)
 
-  module _ (o : owner.Owner) (r : Bool) (f : r ≡ not (equal it.owner o)) where
+  module _ (o : owner.Owner) (r : Bool) (f : r ≡ equal it.owner o) where
     same_constrained : same_owner (owner_is o) (constraint_at (catalogue k m us t) i).owner ≡ same_owner (owner_is o) (owner_is it.owner)
     same_constrained = ap (same_owner (owner_is o)) constrained_at
 
-    module _ {l : Limits} {n : Counters} {st : ℕ → List ℕ} (ne : r ≡ true) where
-      pub open_elsewhere : StateDid (catalogue k m us t) l (λ v. on_opening (rule_of (catalogue k m us t) v OpenConstraint (owner_is o) i)) n st n st
-      open_elsewhere = state_none (λ v s. unfold on_opening rule_of when in rw (same_constrained, owners_apart it.owner o f ne))
+    module _ {z : encoder.State} (ne : r ≡ false) where
+      pub open_elsewhere : StateDoes (catalogue k m us t) (λ v. on_opening (rule_of (catalogue k m us t) v OpenConstraint (owner_is o) i)) z z
+      open_elsewhere = does_none (λ v s. unfold on_opening rule_of when in rw (same_constrained, owners_apart it.owner o f ne))
 
-      pub queue_elsewhere : StateDid (catalogue k m us t) l (λ v. on_opening (rule_of (catalogue k m us t) v QueueConstraint (owner_is o) i)) n st n st
-      queue_elsewhere = state_none (λ v s. unfold on_opening rule_of when in rw (same_constrained, owners_apart it.owner o f ne))
+      pub queue_elsewhere : StateDoes (catalogue k m us t) (λ v. on_opening (rule_of (catalogue k m us t) v QueueConstraint (owner_is o) i)) z z
+      queue_elsewhere = does_none (λ v s. unfold on_opening rule_of when in rw (same_constrained, owners_apart it.owner o f ne))
 
-    module _ {l : Limits} {n n' : Counters} {st st' : ℕ → List ℕ} (h : r ≡ false) where
-      pub open_here : StateDid (catalogue k m us t) l (λ v. on_opening (open_name (range_name (catalogue k m us t) it.range))) n st n' st'
-          → StateDid (catalogue k m us t) l (λ v. on_opening (rule_of (catalogue k m us t) v OpenConstraint (owner_is o) i)) n st n' st'
-      open_here d = state_same d (λ v z. rw (← range_at) (sym (unfold on_opening rule_of when in rw (same_constrained, owners_same it.owner o f h))))
+    module _ {z z' : encoder.State} (h : r ≡ true) where
+      pub open_here : StateDoes (catalogue k m us t) (λ v. on_opening (open_name (range_name (catalogue k m us t) it.range))) z z'
+          → StateDoes (catalogue k m us t) (λ v. on_opening (rule_of (catalogue k m us t) v OpenConstraint (owner_is o) i)) z z'
+      open_here d = does_same d (λ v z. rw (← range_at) (sym (unfold on_opening rule_of when in rw (same_constrained, owners_same it.owner o f h))))
 
-      pub queue_here : Indexed k m us t → i < k.constraints → PlainDid l (λ c v. on_opening (queue (task_in c v (3137 + i)))) n st n' st'
-          → StateDid (catalogue k m us t) l (λ v. on_opening (rule_of (catalogue k m us t) v QueueConstraint (owner_is o) i)) n st n' st'
+      pub queue_here : Indexed k m us t → i < k.constraints → PlainDoes (λ c v. on_opening (queue (task_in c v (3137 + i)))) z z'
+          → StateDoes (catalogue k m us t) (λ v. on_opening (rule_of (catalogue k m us t) v QueueConstraint (owner_is o) i)) z z'
       queue_here a b d =
           let low : i < 512 = omega (arith, a.held.laid.constraints) in
-          state_same (d.is (catalogue k m us t)) (λ v s. rw (constraint_task (catalogue k m us t) v i low) (sym (unfold on_opening rule_of when in rw (same_constrained, owners_same it.owner o f h))))
+          does_same (at_catalogue d) (λ v s. rw (constraint_task (catalogue k m us t) v i low) (sym (unfold on_opening rule_of when in rw (same_constrained, owners_same it.owner o f h))))

@@ -15,11 +15,11 @@ use Rattle.rules.proofs.ListLaws.{up_to_last}
 use Rattle.tables.specs.declared.Counts.{Counts}
 use Rattle.cache.specs.Areas.{catalogue}
 use Rattle.cache.proofs.Laws.{requirements_held, constraints_held}
-use Rattle.state.specs.declared.Limits.{Limits}
-use Rattle.encoder.specs.declared.Counters.{Counters}
-use Rattle.encoder.specs.Held.{Reading, GoodAlone}
-use Rattle.encoder.specs.Did.{on_opening, StateDid}
-use Rattle.encoder.proofs.Steps.{state_same, state_none, state_then, alone_after}
+use Rattle.encoder.specs.declared.State.{State}
+use Rattle.encoder.specs.Held.{Reading}
+use Rattle.encoder.specs.Did.{on_opening}
+use Rattle.encoder.specs.Does.{StateDoes, IsGood}
+use Rattle.encoder.proofs.Does.{does_same, does_then, does_none, good_then}
 use Rattle.owners.specs.declared.Rule.{Rule}
 use Rattle.owners.specs.declared.Rule.TheVariants.{OpenRequirement, OpenConstraint, QueueRequirement, QueueConstraint}
 use Rattle.owners.specs.Owners.{rule_of, count_of, cardinal}
@@ -33,9 +33,9 @@ counted k m us t OpenConstraint = constraints_held k m us t
 counted k m us t QueueRequirement = requirements_held k m us t
 counted k m us t QueueConstraint = constraints_held k m us t
 
-pub rule_taken : {c : Catalogue} {l : Limits} {w w' : Rule} (o : Owner) (i : ℕ) {n n' : Counters} {st st' : ℕ → List ℕ} → w ≡ w'
-    → StateDid c l (λ v. on_opening (rule_of c v w' o i)) n st n' st' → StateDid c l (λ v. on_opening (rule_of c v w o i)) n st n' st'
-rule_taken o i e d = state_same d (λ v s. rw e)
+pub rule_taken : {c : Catalogue} {w w' : Rule} (o : Owner) (i : ℕ) {x x' : State} → w ≡ w' → StateDoes c (λ v. on_opening (rule_of c v w' o i)) x x'
+    → StateDoes c (λ v. on_opening (rule_of c v w o i)) x x'
+rule_taken o i e d = does_same d (λ v s. rw e)
 
 -- ---- one record after another
 
@@ -47,31 +47,29 @@ unfolding fold up_to
 fold_none f s = refl
 
 -- the loop at record i
-pub record Ruled (c : Catalogue) (l : Limits) (w : Rule) (o : Owner) (count : ℕ) (n₀ : Counters) (st₀ : ℕ → List ℕ) (i : ℕ) (n : Counters) (st : ℕ → List ℕ) : Type 0 where
+pub record Ruled (c : Catalogue) (w : Rule) (o : Owner) (count : ℕ) (x₀ : State) (i : ℕ) (x : State) : Type 0 where
   pub most : i ≤ count
-  pub good : GoodAlone c l n st
-  pub did : StateDid c l (λ v. on_opening (fold (rule_of c v w o) (up_to 0 i))) n₀ st₀ n st
+  pub good : IsGood c x
+  pub does : StateDoes c (λ v. on_opening (fold (rule_of c v w o) (up_to 0 i))) x₀ x
 
-module _ {c : Catalogue} {l : Limits} {w : Rule} {o : Owner} {count : ℕ} where
-  pub ruled_start : {n : Counters} {st : ℕ → List ℕ} → GoodAlone c l n st → Ruled c l w o count n st 0 n st
-  ruled_start g = record { most = omega arith; good = g; did = state_none (λ v s. unfold on_opening in rw (fold_none (rule_of c v w o) s.opening)) }
+module _ {c : Catalogue} {w : Rule} {o : Owner} {count : ℕ} where
+  pub ruled_start : {x : State} → IsGood c x → Ruled c w o count x 0 x
+  ruled_start g = record { most = omega arith; good = g; does = does_none (λ v s. unfold on_opening in rw (fold_none (rule_of c v w o) s.opening)) }
 
-  pub ruled_step : {n₀ n n' : Counters} {st₀ st st' : ℕ → List ℕ} {i : ℕ} → Ruled c l w o count n₀ st₀ i n st → i < count
-      → StateDid c l (λ v. on_opening (rule_of c v w o i)) n st n' st' → Ruled c l w o count n₀ st₀ (i + 1) n' st'
+  pub ruled_step : {x₀ x x' : State} {i : ℕ} → Ruled c w o count x₀ i x → i < count → StateDoes c (λ v. on_opening (rule_of c v w o i)) x x' → Ruled c w o count x₀ (i + 1) x'
   ruled_step {i = i} r h d =
       record {
         most = omega arith;
-        good = alone_after d r.good;
-        did = state_same (state_then r.did d) (λ v s. unfold on_opening in rw (fold_last (rule_of c v w o) i s.opening));
+        good = good_then d r.good;
+        does = does_same (does_then r.does d) (λ v s. unfold on_opening in rw (fold_last (rule_of c v w o) i s.opening));
       }
 
-pub ruled_end : (k : Counts) (m us t : List ℕ) {l : Limits} {w : Rule} {o : Owner} {count i : ℕ} {n₀ n : Counters} {st₀ st : ℕ → List ℕ}
-    → Ruled (catalogue k m us t) l w o count n₀ st₀ i n st → count ≤ i → count ≡ cardinal k w
-    → StateDid (catalogue k m us t) l (λ v. on_opening (fold (rule_of (catalogue k m us t) v w o) (up_to 0 (count_of (catalogue k m us t) w)))) n₀ st₀ n st
+pub ruled_end : (k : Counts) (m us t : List ℕ) {w : Rule} {o : Owner} {count i : ℕ} {x₀ x : State} → Ruled (catalogue k m us t) w o count x₀ i x → count ≤ i → count ≡ cardinal k w
+    → StateDoes (catalogue k m us t) (λ v. on_opening (fold (rule_of (catalogue k m us t) v w o) (up_to 0 (count_of (catalogue k m us t) w)))) x₀ x
 ruled_end k m us t {w = w} {i = i} r h e =
     let p = r.most in
     let is : count_of (catalogue k m us t) w ≡ i = omega (arith, counted k m us t w) in
-    state_same r.did (λ v s. rw is)
+    does_same r.does (λ v s. rw is)
 
 -- ---- the four rules
 
@@ -156,11 +154,11 @@ module _ (c : Catalogue) (v : Reading) (w : Owner) where
   unfolding serve_owner unless
   serves_known e s = rw (e, opens_first s) (queues_then (open_names c (ranges_first c w) s))
 
-pub known_served : {c : Catalogue} {l : Limits} (w : Owner) {n n₁ n₂ n₃ n₄ : Counters} {st st₁ st₂ st₃ st₄ : ℕ → List ℕ} → unknown_owner c w ≡ false
-    → StateDid c l (λ v. on_opening (fold (rule_of c v OpenRequirement w) (up_to 0 (count_of c OpenRequirement)))) n st n₁ st₁
-    → StateDid c l (λ v. on_opening (fold (rule_of c v OpenConstraint w) (up_to 0 (count_of c OpenConstraint)))) n₁ st₁ n₂ st₂
-    → StateDid c l (λ v. on_opening (fold (rule_of c v QueueRequirement w) (up_to 0 (count_of c QueueRequirement)))) n₂ st₂ n₃ st₃
-    → StateDid c l (λ v. on_opening (fold (rule_of c v QueueConstraint w) (up_to 0 (count_of c QueueConstraint)))) n₃ st₃ n₄ st₄
-    → StateDid c l (λ v. on_opening (serve_owner c w)) n st n₄ st₄
+pub known_served : {c : Catalogue} (w : Owner) {x x₁ x₂ x₃ x₄ : State} → unknown_owner c w ≡ false
+    → StateDoes c (λ v. on_opening (fold (rule_of c v OpenRequirement w) (up_to 0 (count_of c OpenRequirement)))) x x₁
+    → StateDoes c (λ v. on_opening (fold (rule_of c v OpenConstraint w) (up_to 0 (count_of c OpenConstraint)))) x₁ x₂
+    → StateDoes c (λ v. on_opening (fold (rule_of c v QueueRequirement w) (up_to 0 (count_of c QueueRequirement)))) x₂ x₃
+    → StateDoes c (λ v. on_opening (fold (rule_of c v QueueConstraint w) (up_to 0 (count_of c QueueConstraint)))) x₃ x₄
+    → StateDoes c (λ v. on_opening (serve_owner c w)) x x₄
 known_served {c} w e a b d f =
-    state_same (state_then (state_then (state_then a b) d) f) (λ v s. unfold on_opening in rw (serves_known c v w e s.opening))
+    does_same (does_then (does_then (does_then a b) d) f) (λ v s. unfold on_opening in rw (serves_known c v w e s.opening))

@@ -10,7 +10,7 @@ use Rattle.rules.specs.Lists.{fold, list_if, unless}
 use Rattle.rules.specs.Clause.{excluded, unknown_dependencies}
 use Rattle.rules.specs.Catalogue as rules
 use Rattle.rules.specs.Catalogue.{Owner, root, part, Catalogue, no_part, part_at, unknown_owner}
-use Rattle.rules.specs.Variables.{Origin, known, with_variable, with_variables, part_origin, part_variable}
+use Rattle.rules.specs.Variables.{Origin, known, with_variables, part_origin, part_variable}
 use Rattle.rules.specs.Opening.{owner, serve_owner, serve}
 use Rattle.rules.specs.Encoding.{served, task_origins, origins, task_clauses, clauses}
 use Rattle.rules.specs.State.{State, Run, emit}
@@ -25,20 +25,21 @@ use Rattle.tables.specs.Tables.{tables}
 use Rattle.cache.specs.Areas.{catalogue}
 use Rattle.cache.proofs.Laws.{parts_held, part_held}
 use Rattle.index.specs.Indexed.{Indexed}
-use Rattle.state.specs.declared.Limits.{Limits}
-use Rattle.variable_map.specs.Mapping.{in_tables, variables, Mapped}
+use Rattle.variable_map.specs.Mapping.{in_tables}
 use Rattle.requirement.specs.declared.Owner as code
 use Rattle.requirement.specs.declared.Owner.TheVariants.{Root, Part}
 use Rattle.requirement.specs.Requirements.{owner_is}
 use Rattle.marked.specs.Marked.{owner_of}
-use Rattle.encoder.specs.declared.Counters.{Counters}
-use Rattle.encoder.specs.declared.Run as encoder
-use Rattle.encoder.specs.Held.{run_of, Reading, state_of, LongEnough, Good}
-use Rattle.encoder.specs.Did.{Widens, on_opening, Looked, StateDid, ClausesDid, PlainDid, is_full}
-use Rattle.encoder.proofs.Did.{widens_then, did_as, did_then, did_stop}
+use Rattle.encoder.specs.declared.Run as runs
+use Rattle.encoder.specs.declared.State as encoder
+use Rattle.encoder.specs.Held.{run_of, Reading, state_of}
+use Rattle.encoder.specs.Did.{Widens, on_opening, Looked}
+use Rattle.encoder.specs.Does.{StateDoes, PlainDoes, ClausesDoes, IsGoodWith, regions_of, variables_of}
+use Rattle.encoder.proofs.Did.{widens_then, did_as, did_stop, told_full, told_going}
 use Rattle.encoder.proofs.Widening.{add_variable_widens, add_clause_widens}
-use Rattle.encoder.proofs.Steps.{forget_widens, nothing_kept}
-use Rattle.storing.specs.Adding.{reason_for, CanAdd, Adds}
+use Rattle.encoder.proofs.Steps.{good_alone, forget_widens, nothing_kept}
+use Rattle.encoder.proofs.Does.{at_catalogue, variables_now, state_then_clauses_do, good_with_then}
+use Rattle.storing.specs.Adding.{reason_for, Adds}
 use Rattle.owners.specs.Owners.{serving}
 
 -- ---- a known owner
@@ -70,13 +71,17 @@ module _ (c : Catalogue) (w : Owner) (e : unknown_owner c w ≡ false) where
   unfolding on_opening
   kept_known s f = let g : erased s.opening ≡ s.opening = ap (λ (u : State). u.opening) f in rw (← owner_erased c w s.opening, g)
 
-  pub served_known : {l : Limits} (r : encoder.Run) {n n' : Counters} {st st' : ℕ → List ℕ} (cl : List ℕ) → StateDid c l (λ v. on_opening (serve_owner c w)) n st n' st'
-      → ClausesDid c l (λ v. serving c (run_of r) (owner w)) n st cl n' st' cl
-  served_known {l} r {n} {st = st} cl d =
+  pub served_known : (r : runs.Run) {x x' : encoder.State} (cl : List ℕ) → StateDoes c (λ v. on_opening (serve_owner c w)) x x'
+      → ClausesDoes c (λ v. serving c (run_of r) (owner w)) x cl x' cl
+  served_known r {x} cl d =
       record {
-        is = λ wt. did_as (d.is cl wt)
-            (λ v s. rw (serving_known (run_of r) s) (forget_widens ((d.is cl wt).wide v s)))
-            (λ g f v. sym (serving_known (run_of r) (state_of c l v n st cl wt) ∙ kept_known (state_of c l v n st cl wt) (nothing_kept c l v n st cl wt)));
+        limits = d.limits;
+        area = d.area;
+        did = record {
+          is = λ wt. did_as (d.did.is cl wt)
+              (λ v s. rw (serving_known (run_of r) s) (forget_widens ((d.did.is cl wt).wide v s)))
+              (λ g f v. let s = state_of c x.limits v x.used (regions_of x) cl wt in sym (serving_known (run_of r) s ∙ kept_known s (nothing_kept c x.limits v x.used (regions_of x) cl wt)));
+        };
       }
 
 -- ---- a part with unknown dependencies
@@ -116,59 +121,50 @@ pub part_in_tables : (k : Counts) (m us t : List ℕ) {p : ℕ} → Indexed k m 
 unfolding in_tables
 part_in_tables k m us t {p} h b = lt-ltb p 1024 (omega (arith, h.held.laid.parts))
 
-excluded_is : (r : Run) (p x : ℕ) (s : State) → x ≡ part_variable (with_variable (part_origin p) s.variables) p
-    → add_clause r (excluded x p (reason_for true)) (add_variable (part_origin p) s) ≡ exclude_unknown r p (add_variable (part_origin p) s)
-unfolding exclude_unknown reason_for add_variable
-excluded_is r p x s e = rw e
-
-variables_after_law : (c : Catalogue) (l : Limits) (v : Reading) (n n' : Counters) (st st' : ℕ → List ℕ) (cl wt : List ℕ) (o : Origin)
-    → state_of c l v n' st' cl wt ≡ add_variable o (state_of c l v n st cl wt) → variables n'.variables st' ≡ with_variable o (state_of c l v n st cl wt).variables
-unfolding state_of add_variable
-variables_after_law c l v n n' st st' cl wt o e = ap (λ (z : State). z.variables) e
-
-module _ (c : Catalogue) {l : Limits} (r : encoder.Run) (p : ℕ) {n n' : Counters} {st st' : ℕ → List ℕ}
-    (e : unknown_owner c (part p) ≡ true) (d : PlainDid l (λ c v. add_variable (part_origin p)) n st n' st') where
-  pub unknown_full : {cl : List ℕ} → is_full n' ≡ true → ClausesDid c l (λ v. serving c (run_of r) (owner (part p))) n st cl n' st' cl
+module _ (c : Catalogue) (r : runs.Run) (p : ℕ) {x x' : encoder.State} (e : unknown_owner c (part p) ≡ true) (d : PlainDoes (λ c v. add_variable (part_origin p)) x x') where
+  pub unknown_full : {cl : List ℕ} → (x'.used.full ≡ 0 → ⊥) → ClausesDoes c (λ v. serving c (run_of r) (owner (part p))) x cl x' cl
   unknown_full {cl} f =
       record {
-        is = λ wt. did_as (did_stop {G = λ v. exclude_unknown (run_of r) p} ((d.is c).is cl wt) f (λ v s. exclude_widens (run_of r) p s))
-            (λ v s. unknown_widens c (run_of r) p e s)
-            (λ g u v. sym (unknown_is c (run_of r) p e (state_of c l v n st cl wt) (nothing_kept c l v n st cl wt)));
+        limits = d.limits;
+        area = d.area;
+        did = record {
+          is = λ wt. did_as (did_stop {G = λ v. exclude_unknown (run_of r) p} ((d.did c).is cl wt) (told_full f) (λ v s. exclude_widens (run_of r) p s))
+              (λ v s. unknown_widens c (run_of r) p e s)
+              (λ g u v. sym (unknown_is c (run_of r) p e (state_of c x.limits v x.used (regions_of x) cl wt) (nothing_kept c x.limits v x.used (regions_of x) cl wt)));
+        };
       }
 
-  pub unknown_excluded : {cl cl' : List ℕ} {n'' : Counters} {x : ℕ} → is_full n' ≡ false → Looked (variables n'.variables st') (part_origin p) x
-      → Adds l r (excluded x p (reason_for true)) n' st' cl n'' st' cl'
-      → ClausesDid c l (λ v. serving c (run_of r) (owner (part p))) n st cl n'' st' cl'
-  unknown_excluded {cl} {cl'} {x = x} f k g =
+  pub unknown_excluded : {cl cl' : List ℕ} {x'' : encoder.State} {y : ℕ} → IsGoodWith c x cl [] → x'.used.full ≡ 0 → Looked (variables_of x') (part_origin p) y
+      → Adds r (excluded y p (reason_for true)) x' cl x'' cl'
+      → ClausesDoes c (λ v. serving c (run_of r) (owner (part p))) x cl x'' cl'
+  unknown_excluded {cl} {cl'} {x''} {y} good f k g =
       record {
-        is = λ wt. did_as (did_then ((d.is c).is cl wt) (g.is c wt))
-            (λ v s. unknown_widens c (run_of r) p e s)
-            (λ h u v. same wt h u v ∙ sym (unknown_is c (run_of r) p e (state_of c l v n st cl wt) (nothing_kept c l v n st cl wt)));
+        limits = both.limits;
+        area = both.area;
+        did = record {
+          is = λ wt. did_as (both.did.is wt) (λ v s. unknown_widens c (run_of r) p e s)
+              (λ _ _ v. sym (unknown_is c (run_of r) p e (state_of c x.limits v x.used (regions_of x) cl wt) (nothing_kept c x.limits v x.used (regions_of x) cl wt)));
+        };
       }
     where
-      vars : (wt : List ℕ) → Good c l n st cl wt → is_full n ≡ false → (v : Reading)
-          → variables n'.variables st' ≡ with_variable (part_origin p) (state_of c l v n st cl wt).variables
-      vars wt h u v = variables_after_law c l v n n' st st' cl wt (part_origin p) (((d.is c).is cl wt).done h u f v)
+      there : known (variables_of x') (part_origin p) ≡ true
+      there = let v : Reading = record { truth = λ p. false; drawn = [] } in
+          rw (variables_now (at_catalogue d) (good_alone good) (told_going f) v) (unfold add_variable in with_variable_known (part_origin p) _)
 
-      same : (wt : List ℕ) → Good c l n st cl wt → is_full n ≡ false → (v : Reading)
-          → add_clause (run_of r) (excluded x p (reason_for true)) (add_variable (part_origin p) (state_of c l v n st cl wt))
-          ≡ exclude_unknown (run_of r) p (add_variable (part_origin p) (state_of c l v n st cl wt))
-      same wt h u v =
-          let now = vars wt h u v in
-          let there : known (variables n'.variables st') (part_origin p) ≡ true = rw now (with_variable_known (part_origin p) (state_of c l v n st cl wt).variables) in
-          excluded_is (run_of r) p x (state_of c l v n st cl wt) (k.is there ∙ rw now)
+      excludes : ClausesDoes c (λ v. exclude_unknown (run_of r) p) x' cl x'' cl'
+      excludes =
+          record {
+            limits = g.limits;
+            area = g.area;
+            did = record { is = λ wt. did_as (g.is c wt) (λ v s. exclude_widens (run_of r) p s) (λ _ _ v. unfold exclude_unknown reason_for state_of in rw (k.is there)) };
+          }
+
+      both : ClausesDoes c (λ v s. exclude_unknown (run_of r) p (add_variable (part_origin p) s)) x cl x'' cl'
+      both = state_then_clauses_do (at_catalogue d) excludes
 
 -- what a clause needs
-pub can_add : {c : Catalogue} {l : Limits} {n : Counters} {st : ℕ → List ℕ} {cl wt : List ℕ} {k : ℕ} → Good c l n st cl wt → LongEnough l (length cl) k → CanAdd l n st (length cl)
-can_add g h = record { kept = g.state.kept; clauses = g.clauses.room; literals = g.state.literals; most = h.most; long = h.clauses }
-
-pub named_good : {c : Catalogue} {l : Limits} {F : Catalogue → Reading → State → State} {n n' : Counters} {st st' : ℕ → List ℕ} {cl : List ℕ} → Good c l n st cl []
-    → PlainDid l F n st n' st' → Good c l n' st' cl []
-named_good {c} {cl = cl} g d = ((d.is c).is cl []).good g
-
-pub named_mapped : {c : Catalogue} {l : Limits} {F : Catalogue → Reading → State → State} {n n' : Counters} {st st' : ℕ → List ℕ} {cl : List ℕ} → Good c l n st cl []
-    → PlainDid l F n st n' st' → Mapped l n'.variables st'
-named_mapped g d = (named_good g d).state.mapped
+pub named_good : {c : Catalogue} {F : Catalogue → Reading → State → State} {x x' : encoder.State} {cl : List ℕ} → IsGoodWith c x cl [] → PlainDoes F x x' → IsGoodWith c x' cl []
+named_good g d = good_with_then (at_catalogue d) g
 
 -- ---- which of the two
 
@@ -193,11 +189,10 @@ module _ (k : Counts) (m us t : List ℕ) (o p : ℕ) (w : code.Owner) (f : owne
     unfolding unknown_owner
     part_known h = ap (λ (x : rules.Part). x.unknown) (part_held k m us t p) ∙ (sym e ∙ h)
 
-  pub served_unknown : {l : Limits} (r : Run) {n n' : Counters} {st st' : ℕ → List ℕ} {cl cl' : List ℕ}
-      → ClausesDid (catalogue k m us t) l (λ v. serving (catalogue k m us t) r (owner (part p))) n st cl n' st' cl'
-      → ClausesDid (catalogue k m us t) l (λ v. serving (catalogue k m us t) r (owner (owner_of o))) n st cl n' st' cl'
+  pub served_unknown : (r : Run) {x x' : encoder.State} {cl cl' : List ℕ} → ClausesDoes (catalogue k m us t) (λ v. serving (catalogue k m us t) r (owner (part p))) x cl x' cl'
+      → ClausesDoes (catalogue k m us t) (λ v. serving (catalogue k m us t) r (owner (owner_of o))) x cl x' cl'
   served_unknown r d = rw (part_of_law o f q) d
 
-pub served_as : {c : Catalogue} {o w : Owner} → w ≡ o → {l : Limits} (r : encoder.Run) {n n' : Counters} {st st' : ℕ → List ℕ} (cl : List ℕ)
-    → unknown_owner c w ≡ false → StateDid c l (λ v. on_opening (serve_owner c w)) n st n' st' → ClausesDid c l (λ v. serving c (run_of r) (owner o)) n st cl n' st' cl
+pub served_as : {c : Catalogue} {o w : Owner} → w ≡ o → (r : runs.Run) {x x' : encoder.State} (cl : List ℕ) → unknown_owner c w ≡ false
+    → StateDoes c (λ v. on_opening (serve_owner c w)) x x' → ClausesDoes c (λ v. serving c (run_of r) (owner o)) x cl x' cl
 served_as {c} {w = w} e r cl h d = rw e at (served_known c w h r cl d)

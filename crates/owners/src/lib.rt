@@ -9,94 +9,75 @@ ghost use Rattle.rules.specs.Opening.{owner, open_name, open_names, serve_owner}
 ghost use Rattle.rules.specs.Variables.{chosen};
 ghost use Rattle.rules.proofs.WellFormed.{OwnerGiven, GoalGiven};
 ghost use Rattle.requirement.specs.Requirements.{goal_of, owner_is};
-ghost use Rattle.cache.specs.Areas.{catalogue};
 ghost use Rattle.index.specs.Chains.{row_of, Skips};
-ghost use Rattle.state.specs.Layout.{held, Fits};
 ghost use Rattle.variable_map.specs.Mapping.{origin_of};
 ghost use Rattle.marked.specs.Marked.{owner_of};
-ghost use Rattle.encoder.specs.Held.{run_of, LongEnough, Good, GoodAlone};
-ghost use Rattle.encoder.specs.Did.{on_opening, StateDid, ClausesDid};
+ghost use Rattle.encoder.specs.Held.{run_of, LongEnough};
+ghost use Rattle.encoder.specs.Did.{on_opening};
+ghost use Rattle.encoder.specs.Does.{StateDoes, ClausesDoes, IsGood, IsGoodWith};
 ghost use Rattle.owners.specs.declared.Rule.TheVariants.{OpenRequirement, OpenConstraint, QueueRequirement, QueueConstraint};
 ghost use Rattle.owners.specs.Owners.{is_of, OwnerNumber, rule_of, count_of, cardinal, serving};
 ghost use Rattle.index.specs.Views.{catalogue_of, counts_of, catalogue_in, counts_in};
 
-use encoder::{Counters, Run};
+use encoder::{Run, State};
 use index::{Catalogue, Index};
 use line::Task;
-use marked::MarkedList;
+use marked::{MarkedList, ROOT};
 use requirement::{Owner, Requirement};
-use state::Limits;
 use tables::{Counts, Flag};
 use variable_map::Origin;
 
 // ---- names are opened
 
 // The name of a range.
-fn open_range(catalogue: &Catalogue, s: &mut [u8], l: Limits, n: Counters, r: u16) -> Counters
-    requires fits { Fits l (length s.old) }
-    requires good_alone { GoodAlone (catalogue_of catalogue.now) l n (held l s.old) }
+fn open_range(catalogue: &Catalogue, state: &mut State, r: u16)
+    requires good { IsGood (catalogue_of catalogue.now) state.old }
     requires r_lt_ranges { r < (counts_of catalogue.now).ranges }
-    ensures { StateDid (catalogue_of catalogue.now) l (λ v. on_opening (open_name (range_name (catalogue_of catalogue.now) r))) n (held l s.old) result (held l s.new) }
+    ensures { StateDoes (catalogue_of catalogue.now) (λ v. on_opening (open_name (range_name (catalogue_of catalogue.now) r))) state.old state.new }
 {
-    opening::open_name(s, l, n, catalogue.index.areas.tables.range_name(r as usize))
+    opening::open_name(state, catalogue.index.areas.tables.range_name(r as usize));
 }
 
 // The name of range r is open: to open it changes nothing.
-fn is_open(catalogue: &Catalogue, s: &[u8], l: Limits, n: Counters, r: u16) -> bool
-    requires fits { Fits l (length s.now) }
-    requires good_alone { GoodAlone (catalogue_of catalogue.now) l n (held l s.now) }
+fn is_open(catalogue: &Catalogue, state: &State, r: u16) -> bool
+    requires good { IsGood (catalogue_of catalogue.now) state.now }
     requires r_lt_ranges { r < (counts_of catalogue.now).ranges }
-    ensures { result ≡ true → StateDid (catalogue_of catalogue.now) l (λ v. on_opening (open_name (range_name (catalogue_of catalogue.now) r))) n (held l s.now) n (held l s.now) }
+    ensures { result ≡ true → StateDoes (catalogue_of catalogue.now) (λ v. on_opening (open_name (range_name (catalogue_of catalogue.now) r))) state.now state.now }
 {
-    marked::contains(
-        s,
-        l,
+    state.lists(
         MarkedList::Names,
         catalogue.index.areas.tables.range_name(r as usize),
     )
 }
 
-fn open_union(catalogue: &Catalogue, s: &mut [u8], l: Limits, n: Counters, u: u16) -> Counters
-    requires fits { Fits l (length s.old) }
-    requires good_alone { GoodAlone (catalogue_of catalogue.now) l n (held l s.old) }
+fn open_union(catalogue: &Catalogue, state: &mut State, u: u16)
+    requires good { IsGood (catalogue_of catalogue.now) state.old }
     requires u_lt_unions { u < (counts_of catalogue.now).unions }
-    ensures { StateDid (catalogue_of catalogue.now) l (λ v. on_opening (open_names (catalogue_of catalogue.now) (goal_ranges (catalogue_of catalogue.now) (union u)))) n (held l s.old) result (held l s.new) }
+    ensures { StateDoes (catalogue_of catalogue.now) (λ v. on_opening (open_names (catalogue_of catalogue.now) (goal_ranges (catalogue_of catalogue.now) (union u)))) state.old state.new }
 {
-    let mut m = n;
     let mut i = catalogue.index.first_of_union(u);
     while i < catalogue.index.areas.tables.counts.members {
         let member = catalogue.index.areas.as_members().at(i);
-        if !is_open(catalogue, s, l, m, member.range) {
-            m = open_range(catalogue, s, l, m, member.range);
+        if !is_open(catalogue, state, member.range) {
+            open_range(catalogue, state, member.range);
         }
         i = catalogue.index.next_of_union(i);
     }
-    m
 }
 
 // The names of a goal's ranges.
-pub fn open_goal(
-    catalogue: &Catalogue,
-    s: &mut [u8],
-    l: Limits,
-    n: Counters,
-    goal: Requirement,
-) -> Counters
-    requires fits { Fits l (length s.old) }
-    requires good_alone { GoodAlone (catalogue_of catalogue.now) l n (held l s.old) }
+pub fn open_goal(catalogue: &Catalogue, state: &mut State, goal: Requirement)
+    requires good { IsGood (catalogue_of catalogue.now) state.old }
     requires goal_given { GoalGiven (catalogue_of catalogue.now) (goal_of goal) }
-    ensures { StateDid (catalogue_of catalogue.now) l (λ v. on_opening (open_names (catalogue_of catalogue.now) (goal_ranges (catalogue_of catalogue.now) (goal_of goal)))) n (held l s.old) result (held l s.new) }
+    ensures { StateDoes (catalogue_of catalogue.now) (λ v. on_opening (open_names (catalogue_of catalogue.now) (goal_ranges (catalogue_of catalogue.now) (goal_of goal)))) state.old state.new }
 {
     match goal {
-        Requirement::Single(range) => open_range(catalogue, s, l, n, range),
-        Requirement::Union(union) => open_union(catalogue, s, l, n, union),
+        Requirement::Single(range) => open_range(catalogue, state, range),
+        Requirement::Union(union) => open_union(catalogue, state, union),
     }
 }
 
 // ---- owners by number
-
-// The number that stands for the root in the state area.
-const ROOT: u16 = 1024;
 
 // The owner of a number in the state area.
 #[tactic(auto, using(crate::proofs::Records::number_root, crate::proofs::Records::number_part))]
@@ -145,88 +126,51 @@ fn row_of(owner: Owner) -> usize
 
 // ---- an owner's records
 
-fn open_requirement(
-    catalogue: &Catalogue,
-    s: &mut [u8],
-    l: Limits,
-    n: Counters,
-    owner: Owner,
-    q: usize,
-) -> Counters
-    requires fits { Fits l (length s.old) }
-    requires good_alone { GoodAlone (catalogue_of catalogue.now) l n (held l s.old) }
+fn open_requirement(catalogue: &Catalogue, state: &mut State, owner: Owner, q: usize)
+    requires good { IsGood (catalogue_of catalogue.now) state.old }
     requires q_lt_requirements { q < (counts_of catalogue.now).requirements }
-    ensures { StateDid (catalogue_of catalogue.now) l (λ v. on_opening (rule_of (catalogue_of catalogue.now) v OpenRequirement (owner_is owner) q)) n (held l s.old) result (held l s.new) }
+    ensures { StateDoes (catalogue_of catalogue.now) (λ v. on_opening (rule_of (catalogue_of catalogue.now) v OpenRequirement (owner_is owner) q)) state.old state.new }
 {
     let it = catalogue.index.areas.tables.requirement_at(q);
-    if it.owner != owner || it.condition.is_some() {
-        return n;
+    if it.owner == owner && it.condition.is_none() {
+        open_goal(catalogue, state, it.requirement);
     }
-    open_goal(catalogue, s, l, n, it.requirement)
 }
 
-fn open_constraint(
-    catalogue: &Catalogue,
-    s: &mut [u8],
-    l: Limits,
-    n: Counters,
-    owner: Owner,
-    i: usize,
-) -> Counters
-    requires fits { Fits l (length s.old) }
-    requires good_alone { GoodAlone (catalogue_of catalogue.now) l n (held l s.old) }
+fn open_constraint(catalogue: &Catalogue, state: &mut State, owner: Owner, i: usize)
+    requires good { IsGood (catalogue_of catalogue.now) state.old }
     requires i_lt_constraints { i < (counts_of catalogue.now).constraints }
-    ensures { StateDid (catalogue_of catalogue.now) l (λ v. on_opening (rule_of (catalogue_of catalogue.now) v OpenConstraint (owner_is owner) i)) n (held l s.old) result (held l s.new) }
+    ensures { StateDoes (catalogue_of catalogue.now) (λ v. on_opening (rule_of (catalogue_of catalogue.now) v OpenConstraint (owner_is owner) i)) state.old state.new }
 {
     let it = catalogue.index.areas.tables.constraint_at(i);
-    if it.owner != owner {
-        return n;
+    if it.owner == owner {
+        open_range(catalogue, state, it.range);
     }
-    open_range(catalogue, s, l, n, it.range)
 }
 
-fn queue_requirement(
-    catalogue: &Catalogue,
-    s: &mut [u8],
-    l: Limits,
-    n: Counters,
-    owner: Owner,
-    q: usize,
-) -> Counters
-    requires fits { Fits l (length s.old) }
-    requires good_alone { GoodAlone (catalogue_of catalogue.now) l n (held l s.old) }
+fn queue_requirement(catalogue: &Catalogue, state: &mut State, owner: Owner, q: usize)
+    requires good { IsGood (catalogue_of catalogue.now) state.old }
     requires q_lt_requirements { q < (counts_of catalogue.now).requirements }
-    ensures { StateDid (catalogue_of catalogue.now) l (λ v. on_opening (rule_of (catalogue_of catalogue.now) v QueueRequirement (owner_is owner) q)) n (held l s.old) result (held l s.new) }
+    ensures { StateDoes (catalogue_of catalogue.now) (λ v. on_opening (rule_of (catalogue_of catalogue.now) v QueueRequirement (owner_is owner) q)) state.old state.new }
 {
     let it = catalogue.index.areas.tables.requirement_at(q);
-    if it.owner != owner {
-        return n;
+    if it.owner == owner {
+        match it.condition {
+            None => opening::queue(state, Task::Requirement(q as u16)),
+            Some(_) => opening::queue(state, Task::Condition(q as u16)),
+        }
     }
-    let task = match it.condition {
-        None => Task::Requirement(q as u16),
-        Some(_) => Task::Condition(q as u16),
-    };
-    opening::queue(s, l, n, task)
 }
 
-fn queue_constraint(
-    catalogue: &Catalogue,
-    s: &mut [u8],
-    l: Limits,
-    n: Counters,
-    owner: Owner,
-    i: usize,
-) -> Counters
-    requires fits { Fits l (length s.old) }
-    requires good_alone { GoodAlone (catalogue_of catalogue.now) l n (held l s.old) }
+fn queue_constraint(catalogue: &Catalogue, state: &mut State, owner: Owner, i: usize)
+    requires good { IsGood (catalogue_of catalogue.now) state.old }
     requires i_lt_constraints { i < (counts_of catalogue.now).constraints }
-    ensures { StateDid (catalogue_of catalogue.now) l (λ v. on_opening (rule_of (catalogue_of catalogue.now) v QueueConstraint (owner_is owner) i)) n (held l s.old) result (held l s.new) }
+    ensures { StateDoes (catalogue_of catalogue.now) (λ v. on_opening (rule_of (catalogue_of catalogue.now) v QueueConstraint (owner_is owner) i)) state.old state.new }
 {
     let it = catalogue.index.areas.tables.constraint_at(i);
-    if it.owner != owner {
-        return n;
+    if it.owner == owner {
+        opening::queue(state, Task::Constraint(i as u16));
     }
-    opening::queue(s, l, n, Task::Constraint(i as u16))
 }
 
 // What is done with each record of an owner: an unconditional requirement or a constraint opens its names; a requirement or a constraint is queued.
@@ -275,120 +219,75 @@ impl Rule {
     }
 
     // Record i is dealt with.
-    fn take(
-        self,
-        catalogue: &Catalogue,
-        s: &mut [u8],
-        l: Limits,
-        n: Counters,
-        owner: Owner,
-        i: usize,
-    ) -> Counters
-        requires fits { Fits l (length s.old) }
-        requires good_alone { GoodAlone (catalogue_of catalogue.now) l n (held l s.old) }
+    fn take(self, catalogue: &Catalogue, state: &mut State, owner: Owner, i: usize)
+        requires good { IsGood (catalogue_of catalogue.now) state.old }
         requires i_bound { i < cardinal (counts_of catalogue.now) self }
-        ensures { StateDid (catalogue_of catalogue.now) l (λ v. on_opening (rule_of (catalogue_of catalogue.now) v self (owner_is owner) i)) n (held l s.old) result (held l s.new) }
+        ensures { StateDoes (catalogue_of catalogue.now) (λ v. on_opening (rule_of (catalogue_of catalogue.now) v self (owner_is owner) i)) state.old state.new }
     {
         match self {
-            Rule::OpenRequirement => open_requirement(catalogue, s, l, n, owner, i),
-            Rule::OpenConstraint => open_constraint(catalogue, s, l, n, owner, i),
-            Rule::QueueRequirement => queue_requirement(catalogue, s, l, n, owner, i),
-            Rule::QueueConstraint => queue_constraint(catalogue, s, l, n, owner, i),
+            Rule::OpenRequirement => open_requirement(catalogue, state, owner, i),
+            Rule::OpenConstraint => open_constraint(catalogue, state, owner, i),
+            Rule::QueueRequirement => queue_requirement(catalogue, state, owner, i),
+            Rule::QueueConstraint => queue_constraint(catalogue, state, owner, i),
         }
     }
 
     // Each record of an owner, along its chain.
-    fn take_each(
-        self,
-        catalogue: &Catalogue,
-        s: &mut [u8],
-        l: Limits,
-        n: Counters,
-        owner: Owner,
-    ) -> Counters
-        requires fits { Fits l (length s.old) }
-        requires good_alone { GoodAlone (catalogue_of catalogue.now) l n (held l s.old) }
-        ensures { StateDid (catalogue_of catalogue.now) l (λ v. on_opening (fold (rule_of (catalogue_of catalogue.now) v self (owner_is owner)) (up_to 0 (count_of (catalogue_of catalogue.now) self)))) n (held l s.old) result (held l s.new) }
+    fn take_each(self, catalogue: &Catalogue, state: &mut State, owner: Owner)
+        requires good { IsGood (catalogue_of catalogue.now) state.old }
+        ensures { StateDoes (catalogue_of catalogue.now) (λ v. on_opening (fold (rule_of (catalogue_of catalogue.now) v self (owner_is owner)) (up_to 0 (count_of (catalogue_of catalogue.now) self)))) state.old state.new }
     {
         let count = self.count(catalogue.index.areas.tables.counts);
-        let mut m = n;
         let mut i = self.first(&catalogue.index, owner);
         while i < count {
-            m = self.take(catalogue, s, l, m, owner, i);
+            self.take(catalogue, state, owner, i);
             i = self.next(&catalogue.index, owner, i);
         }
-        m
     }
 }
 
 // ---- an owner's task
 
 // A known owner: its unconditional requirements and its constraints open their names first, then its tasks are queued.
-#[tactic(auto, using(state::proofs::Sizes::fits_same))]
-fn serve_known(
-    catalogue: &Catalogue,
-    s: &mut [u8],
-    l: Limits,
-    n: Counters,
-    owner: Owner,
-) -> Counters
-    requires fits { Fits l (length s.old) }
-    requires good_alone { GoodAlone (catalogue_of catalogue.now) l n (held l s.old) }
+fn serve_known(catalogue: &Catalogue, state: &mut State, owner: Owner)
+    requires good { IsGood (catalogue_of catalogue.now) state.old }
     requires known { unknown_owner (catalogue_of catalogue.now) (owner_is owner) ≡ false }
-    ensures { StateDid (catalogue_of catalogue.now) l (λ v. on_opening (serve_owner (catalogue_of catalogue.now) (owner_is owner))) n (held l s.old) result (held l s.new) }
+    ensures { StateDoes (catalogue_of catalogue.now) (λ v. on_opening (serve_owner (catalogue_of catalogue.now) (owner_is owner))) state.old state.new }
 {
-    let a = Rule::OpenRequirement.take_each(catalogue, s, l, n, owner);
-    let b = Rule::OpenConstraint.take_each(catalogue, s, l, a, owner);
-    let c = Rule::QueueRequirement.take_each(catalogue, s, l, b, owner);
-    Rule::QueueConstraint.take_each(catalogue, s, l, c, owner)
+    Rule::OpenRequirement.take_each(catalogue, state, owner);
+    Rule::OpenConstraint.take_each(catalogue, state, owner);
+    Rule::QueueRequirement.take_each(catalogue, state, owner);
+    Rule::QueueConstraint.take_each(catalogue, state, owner);
 }
 
 // A part with unknown dependencies is excluded.
-fn serve_unknown(
-    catalogue: &Catalogue,
-    s: &mut [u8],
-    clauses: &mut [u8],
-    l: Limits,
-    n: Counters,
-    r: Run,
-    p: u16,
-) -> Counters
-    requires fits { Fits l (length s.old) }
-    requires good { Good (catalogue_of catalogue.now) l n (held l s.old) clauses.old [] }
-    requires long_enough { LongEnough l (length clauses.old) 16384 }
-    requires number_nonzero { (0 < r.number) × (p < (counts_of catalogue.now).parts) × (unknown_owner (catalogue_of catalogue.now) (part p) ≡ true) }
-    ensures { ClausesDid (catalogue_of catalogue.now) l (λ v. serving (catalogue_of catalogue.now) (run_of r) (owner (part p))) n (held l s.old) clauses.old result (held l s.new) clauses.new }
+fn serve_unknown(catalogue: &Catalogue, state: &mut State, clauses: &mut [u8], run: Run, p: u16)
+    requires good { IsGoodWith (catalogue_of catalogue.now) state.old clauses.old [] }
+    requires long_enough { LongEnough state.old.limits (length clauses.old) 16384 }
+    requires number_nonzero { (0 < run.number) × (p < (counts_of catalogue.now).parts) × (unknown_owner (catalogue_of catalogue.now) (part p) ≡ true) }
+    ensures { ClausesDoes (catalogue_of catalogue.now) (λ v. serving (catalogue_of catalogue.now) (run_of run) (owner (part p))) state.old clauses.old state.new clauses.new }
 {
-    let m = opening::name_variable(s, l, n, Origin::Part(p));
-    if m.full != 0 {
-        return m;
+    opening::name_variable(state, Origin::Part(p));
+    if state.used.full == 0 {
+        let x = opening::variable_of(state, Origin::Part(p));
+        reporting::add_excluded(state, clauses, run, x, p, true);
     }
-    let x = opening::variable_of(s, l, m, Origin::Part(p));
-    reporting::add_excluded(s, clauses, l, m, r, x, p, true)
 }
 
 // The task of an owner by its number.
-pub fn serve_owner(
-    catalogue: &Catalogue,
-    s: &mut [u8],
-    clauses: &mut [u8],
-    l: Limits,
-    n: Counters,
-    r: Run,
-    o: u16,
-) -> Counters
-    requires fits { Fits l (length s.old) }
-    requires good { Good (catalogue_of catalogue.now) l n (held l s.old) clauses.old [] }
-    requires long_enough { LongEnough l (length clauses.old) 16384 }
-    requires number_nonzero { 0 < r.number }
+pub fn serve_owner(catalogue: &Catalogue, state: &mut State, clauses: &mut [u8], run: Run, o: u16)
+    requires good { IsGoodWith (catalogue_of catalogue.now) state.old clauses.old [] }
+    requires long_enough { LongEnough state.old.limits (length clauses.old) 16384 }
+    requires number_nonzero { 0 < run.number }
     requires o_bound { (o < 1025) × OwnerGiven (catalogue_of catalogue.now) (owner_of o) }
-    ensures { ClausesDid (catalogue_of catalogue.now) l (λ v. serving (catalogue_of catalogue.now) (run_of r) (owner (owner_of o))) n (held l s.old) clauses.old result (held l s.new) clauses.new }
+    ensures { ClausesDoes (catalogue_of catalogue.now) (λ v. serving (catalogue_of catalogue.now) (run_of run) (owner (owner_of o))) state.old clauses.old state.new clauses.new }
 {
     let owner = owner_by_number(o);
     if let Owner::Part(p) = owner {
         if catalogue.index.areas.tables.has(Flag::Unknown, p as usize) {
-            return serve_unknown(catalogue, s, clauses, l, n, r, p);
+            serve_unknown(catalogue, state, clauses, run, p);
+            return;
         }
     }
-    serve_known(catalogue, s, l, n, owner)
+    serve_known(catalogue, state, owner);
 }

@@ -13,10 +13,9 @@ use Rattle.rules.specs.Run.{serve_task}
 use Rattle.rules.proofs.Capped.{add_variable, add_variables_is}
 use Rattle.rules.proofs.DistinctEnough.{fold_map}
 use Rattle.rules.proofs.Forgotten.{erased, forget, emit_forgets}
-use Rattle.state.specs.declared.Limits.{Limits}
-use Rattle.encoder.specs.declared.Counters.{Counters}
+use Rattle.encoder.specs.declared.State as encoder
 use Rattle.encoder.specs.Held.{Reading, state_of}
-use Rattle.encoder.specs.Did.{ClausesDid}
+use Rattle.encoder.specs.Does.{ClausesDoes, regions_of}
 use Rattle.encoder.proofs.Did.{did_as}
 use Rattle.encoder.proofs.Steps.{forget_widens, nothing_kept}
 use Rattle.parts.specs.declared.Naming.TheVariants.{Variable}
@@ -40,10 +39,14 @@ module _ (c : Catalogue) (r : Run) (t : Task) (h : (f : ℕ → Bool) (o : Openi
       ∙ ap (λ (p : Opening). emit c r (served t) (set_opening p s)) (sym (h (decided_true s) o) ∙ ap (serve c (decided_true s) t) i)
 
   -- steps that do what a task does serve it
-  pub task_served : {l : Limits} {F : Reading → State → State} {n n' : Counters} {st st' : ℕ → List ℕ} {cl cl' : List ℕ} → ClausesDid c l F n st cl n' st' cl'
-      → ((v : Reading) (s : State) → F v s ≡ serve_task c r t s) → ClausesDid c l (λ v s. forget (serve_task c r t s)) n st cl n' st' cl'
-  task_served {l} {n = n} {st = st} {cl = cl} d e =
+  pub task_served : {F : Reading → State → State} {x x' : encoder.State} {cl cl' : List ℕ} → ClausesDoes c F x cl x' cl'
+      → ((v : Reading) (s : State) → F v s ≡ serve_task c r t s) → ClausesDoes c (λ v s. forget (serve_task c r t s)) x cl x' cl'
+  task_served {x = x} {cl = cl} d e =
       record {
-        is = λ wt. did_as (d.is wt) (λ v s. rw (← e v s) (forget_widens ((d.is wt).wide v s)))
-            (λ g f v. let s = state_of c l v n st cl wt in e v s ∙ sym (served_kept s (nothing_kept c l v n st cl wt)));
+        limits = d.limits;
+        area = d.area;
+        did = record {
+          is = λ wt. did_as (d.did.is wt) (λ v s. rw (← e v s) (forget_widens ((d.did.is wt).wide v s)))
+              (λ g f v. let s = state_of c x.limits v x.used (regions_of x) cl wt in e v s ∙ sym (served_kept s (nothing_kept c x.limits v x.used (regions_of x) cl wt)));
+        };
       }

@@ -12,8 +12,9 @@ use Rattle.rules.proofs.ClauseByClause.{add_clause}
 use Rattle.state.specs.declared.Limits.{Limits}
 use Rattle.cache.specs.Lists.{chosen}
 use Rattle.encoder.specs.declared.Run.{Run}
-use Rattle.encoder.specs.declared.Counters.{Counters}
-use Rattle.encoder.specs.Did.{on_opening, StateDid}
+use Rattle.encoder.specs.declared.State as encoder
+use Rattle.encoder.specs.Does.{StateDoes}
+use Rattle.encoder.specs.Did.{on_opening}
 use Rattle.parts.specs.declared.Parts.{Parts}
 use Rattle.parts.specs.declared.Parts.TheVariants.{Chosen, Locked, Others, Excluded}
 use Rattle.parts.specs.declared.Naming.{Naming}
@@ -35,13 +36,13 @@ naming_of c Tracked p s = on_opening (name_for_tracking c p) (add_variable (part
 naming_of c Candidate p s = on_opening (open_ready c p) (on_opening (name_for_tracking c p) (add_variable (part_origin p) s))
 
 -- naming part p changes nothing
-pub record Settled (c : Catalogue) (l : Limits) (n : Counters) (st : ℕ → List ℕ) (p : ℕ) : Type 0 where
-  pub is : (naming : Naming) → StateDid c l (λ v. naming_of c naming p) n st n st
+pub record Settled (c : Catalogue) (x : encoder.State) (p : ℕ) : Type 0 where
+  pub is : (naming : Naming) → StateDoes c (λ v. naming_of c naming p) x x
 
 -- b says that part p is one of these; where it says not, there is nothing to do for p
-pub record Due (c : Catalogue) (l : Limits) (n : Counters) (st : ℕ → List ℕ) (which : Parts) (p : ℕ) (b : Bool) : Type 0 where
+pub record Due (c : Catalogue) (x : encoder.State) (which : Parts) (p : ℕ) (b : Bool) : Type 0 where
   pub due : b ≡ true → selected_of c which p ≡ true
-  pub idle : b ≡ false → (naming : Naming) → StateDid c l (λ v. when (selected_of c which p) (naming_of c naming p)) n st n st
+  pub idle : b ≡ false → (naming : Naming) → StateDoes c (λ v. when (selected_of c which p) (naming_of c naming p)) x x
 
 -- part p, whose variable is x
 unfoldable pub clause_for : Adding → (x p : ℕ) → Clause

@@ -8,20 +8,18 @@ ghost use Rattle.rules.specs.Opening.{open_ready, name_for_tracking};
 ghost use Rattle.rules.specs.Variables.{known, part_origin};
 ghost use Rattle.tables.specs.Tables.{flag_of};
 ghost use Rattle.index.specs.Chains.{Skips};
-ghost use Rattle.state.specs.Layout.{held, Fits};
-ghost use Rattle.variable_map.specs.Mapping.{variables, Mapped};
-ghost use Rattle.encoder.specs.Held.{run_of, LongEnough, Good, GoodAlone, KnownUnlessFull};
-ghost use Rattle.encoder.specs.Did.{on_opening, StateDid, ClausesDid, is_full};
+ghost use Rattle.encoder.specs.Held.{run_of, LongEnough, KnownUnlessFull};
+ghost use Rattle.encoder.specs.Does.{StateDoes, ClausesDoes, IsGood, IsGoodWith, IsMapped, variables_of};
+ghost use Rattle.encoder.specs.Did.{on_opening, is_full};
 ghost use Rattle.parts.specs.declared.Naming.TheVariants.{Tracked, Candidate};
 ghost use Rattle.parts.specs.Parts.{selected_of, parts_for, naming_of, adding_of, CanAdd, Settled, Due};
 ghost use Rattle.index.specs.Views.{catalogue_in, counts_in};
 ghost use Rattle.tables.specs.Views.{tables_of as tables_at};
 
 use cache::Choice;
-use encoder::{Counters, Run};
+use encoder::{Run, State};
 use index::Index;
 use marked::MarkedList;
-use state::Limits;
 use tables::{Flag, Tables};
 use variable_map::Origin;
 
@@ -35,7 +33,7 @@ pub enum Parts {
 }
 
 // What is named: a variable; for a part that is also tracked; for a candidate, which is also opened if it is ready.
-// Kept: no plainer: a trait or closures in place of this enum and of `Adding` need an impl or a contract with all counters and areas for each of these arms.
+// Kept: no plainer: over a trait or closures, in place of this enum and of `Adding`, each of these arms would need an impl or a contract of its own over the state and the clauses.
 #[derive(Clone, Copy)]
 pub enum Naming {
     Variable,
@@ -109,209 +107,165 @@ impl Parts {
 // ---- naming
 
 // Part p has its variable.
-fn has_variable(s: &[u8], l: Limits, n: Counters, p: u16) -> bool
-    requires fits { Fits l (length s.now) }
-    requires mapped { Mapped l n.variables (held l s.now) × (p < 1024) }
-    ensures { result ≡ true → known (variables n.variables (held l s.now)) (part_origin p) ≡ true }
+fn has_variable(state: &State, p: u16) -> bool
+    requires { IsMapped state.now × (p < 1024) }
+    ensures { result ≡ true → known (variables_of state.now) (part_origin p) ≡ true }
 {
-    variable_map::variable(s, l, n.variables, Origin::Part(p)).is_some()
+    state.variable(Origin::Part(p)).is_some()
 }
 
-fn open_ready(index: &Index, s: &mut [u8], l: Limits, n: Counters, p: u16) -> Counters
-    requires fits { Fits l (length s.old) }
-    requires good_alone { GoodAlone (catalogue_in index.now) l n (held l s.old) }
+fn open_ready(index: &Index, state: &mut State, p: u16)
+    requires good { IsGood (catalogue_in index.now) state.old }
     requires p_bound { p < 1024 }
-    ensures { StateDid (catalogue_in index.now) l (λ v. on_opening (open_ready (catalogue_in index.now) p)) n (held l s.old) result (held l s.new) }
+    ensures { StateDoes (catalogue_in index.now) (λ v. on_opening (open_ready (catalogue_in index.now) p)) state.old state.new }
 {
     if index.areas.tables.has(Flag::Ready, p as usize) {
-        return opening::open_owner(s, l, n, p);
+        opening::open_owner(state, p);
     }
-    n
 }
 
-fn name_tracked(index: &Index, s: &mut [u8], l: Limits, n: Counters, p: u16) -> Counters
-    requires fits { Fits l (length s.old) }
-    requires good_alone { GoodAlone (catalogue_in index.now) l n (held l s.old) }
+fn name_tracked(index: &Index, state: &mut State, p: u16)
+    requires good { IsGood (catalogue_in index.now) state.old }
     requires p_bound { p < 1024 }
-    ensures { StateDid (catalogue_in index.now) l (λ v. naming_of (catalogue_in index.now) Tracked p) n (held l s.old) result (held l s.new) }
+    ensures { StateDoes (catalogue_in index.now) (λ v. naming_of (catalogue_in index.now) Tracked p) state.old state.new }
 {
-    if has_variable(s, l, n, p) {
-        return opening::name_for_tracking(&index.areas.tables, s, l, n, p);
+    if has_variable(state, p) {
+        opening::name_for_tracking(&index.areas.tables, state, p);
+        return;
     }
-    let m = opening::name_variable(s, l, n, Origin::Part(p));
-    opening::name_for_tracking(&index.areas.tables, s, l, m, p)
+    opening::name_variable(state, Origin::Part(p));
+    opening::name_for_tracking(&index.areas.tables, state, p);
 }
 
-fn name_candidate(index: &Index, s: &mut [u8], l: Limits, n: Counters, p: u16) -> Counters
-    requires fits { Fits l (length s.old) }
-    requires good_alone { GoodAlone (catalogue_in index.now) l n (held l s.old) }
+fn name_candidate(index: &Index, state: &mut State, p: u16)
+    requires good { IsGood (catalogue_in index.now) state.old }
     requires p_bound { p < 1024 }
-    ensures { StateDid (catalogue_in index.now) l (λ v. naming_of (catalogue_in index.now) Candidate p) n (held l s.old) result (held l s.new) }
+    ensures { StateDoes (catalogue_in index.now) (λ v. naming_of (catalogue_in index.now) Candidate p) state.old state.new }
 {
-    let m = name_tracked(index, s, l, n, p);
-    open_ready(index, s, l, m, p)
+    name_tracked(index, state, p);
+    open_ready(index, state, p);
 }
 
-fn name_part(
-    index: &Index,
-    s: &mut [u8],
-    l: Limits,
-    n: Counters,
-    naming: Naming,
-    p: u16,
-) -> Counters
-    requires fits { Fits l (length s.old) }
-    requires good_alone { GoodAlone (catalogue_in index.now) l n (held l s.old) }
+fn name_part(index: &Index, state: &mut State, naming: Naming, p: u16)
+    requires good { IsGood (catalogue_in index.now) state.old }
     requires p_bound { p < 1024 }
-    ensures { StateDid (catalogue_in index.now) l (λ v. naming_of (catalogue_in index.now) naming p) n (held l s.old) result (held l s.new) }
+    ensures { StateDoes (catalogue_in index.now) (λ v. naming_of (catalogue_in index.now) naming p) state.old state.new }
 {
     match naming {
-        Naming::Variable => opening::name_variable(s, l, n, Origin::Part(p)),
-        Naming::Tracked => name_tracked(index, s, l, n, p),
-        Naming::Candidate => name_candidate(index, s, l, n, p),
+        Naming::Variable => opening::name_variable(state, Origin::Part(p)),
+        Naming::Tracked => name_tracked(index, state, p),
+        Naming::Candidate => name_candidate(index, state, p),
     }
 }
 
 // Part p is named for tracking, or its name was served with several allowed: naming it for tracking changes nothing.
-fn is_tracked(index: &Index, s: &[u8], l: Limits, n: Counters, p: u16) -> bool
-    requires fits { Fits l (length s.now) }
-    requires good_alone { GoodAlone (catalogue_in index.now) l n (held l s.now) }
-    ensures { result ≡ true → StateDid (catalogue_in index.now) l (λ v. on_opening (name_for_tracking (catalogue_in index.now) p)) n (held l s.now) n (held l s.now) }
+fn is_tracked(index: &Index, state: &State, p: u16) -> bool
+    requires good { IsGood (catalogue_in index.now) state.now }
+    ensures { result ≡ true → StateDoes (catalogue_in index.now) (λ v. on_opening (name_for_tracking (catalogue_in index.now) p)) state.now state.now }
 {
     let name = index.areas.tables.part_name(p as usize);
-    marked::contains(s, l, MarkedList::Named, p) || opening::is_several(s, l, n.several, name)
+    state.lists(MarkedList::Named, p) || opening::is_several(state, name)
 }
 
 // Part p has its variable, is tracked, and is opened if it is ready: no naming of it changes anything.
-fn is_settled(index: &Index, s: &[u8], l: Limits, n: Counters, p: u16) -> bool
-    requires fits { Fits l (length s.now) }
-    requires good_alone { GoodAlone (catalogue_in index.now) l n (held l s.now) }
+fn is_settled(index: &Index, state: &State, p: u16) -> bool
+    requires good { IsGood (catalogue_in index.now) state.now }
     requires p_bound { p < 1024 }
-    ensures { result ≡ true → Settled (catalogue_in index.now) l n (held l s.now) p }
+    ensures { result ≡ true → Settled (catalogue_in index.now) state.now p }
 {
-    if !has_variable(s, l, n, p) {
+    if !has_variable(state, p) {
         return false;
     }
-    if !is_tracked(index, s, l, n, p) {
+    if !is_tracked(index, state, p) {
         return false;
     }
     if index.areas.tables.has(Flag::Ready, p as usize) {
-        return marked::contains(s, l, MarkedList::Owners, p);
+        return state.lists(MarkedList::Owners, p);
     }
     true
 }
 
 // Is part p not settled, and one of these?
-fn is_due(index: &Index, s: &[u8], l: Limits, n: Counters, which: Parts, p: usize) -> bool
-    requires fits { Fits l (length s.now) }
-    requires good_alone { GoodAlone (catalogue_in index.now) l n (held l s.now) }
+fn is_due(index: &Index, state: &State, which: Parts, p: usize) -> bool
+    requires good { IsGood (catalogue_in index.now) state.now }
     requires p_bound { p < 1024 }
-    ensures { Due (catalogue_in index.now) l n (held l s.now) which p result }
+    ensures { Due (catalogue_in index.now) state.now which p result }
 {
-    !is_settled(index, s, l, n, p as u16) && which.selects(index, p)
+    !is_settled(index, state, p as u16) && which.selects(index, p)
 }
 
 // Each of these parts is named.
-pub fn name_each(
-    index: &Index,
-    s: &mut [u8],
-    l: Limits,
-    n: Counters,
-    which: Parts,
-    naming: Naming,
-) -> Counters
-    requires fits { Fits l (length s.old) }
-    requires good_alone { GoodAlone (catalogue_in index.now) l n (held l s.old) }
-    ensures { StateDid (catalogue_in index.now) l (λ v. fold (naming_of (catalogue_in index.now) naming) (parts_for (catalogue_in index.now) which)) n (held l s.old) result (held l s.new) }
+pub fn name_each(index: &Index, state: &mut State, which: Parts, naming: Naming)
+    requires { IsGood (catalogue_in index.now) state.old }
+    ensures { StateDoes (catalogue_in index.now) (λ v. fold (naming_of (catalogue_in index.now) naming) (parts_for (catalogue_in index.now) which)) state.old state.new }
 {
-    let mut m = n;
     let mut p = which.first(index);
     while p < index.areas.tables.counts.parts {
-        if is_due(index, s, l, m, which, p) {
-            m = name_part(index, s, l, m, naming, p as u16);
+        if is_due(index, state, which, p) {
+            name_part(index, state, naming, p as u16);
         }
         p = which.next(index, p);
     }
-    m
 }
 
 // ---- adding
 
-fn add_part(
-    index: &Index,
-    s: &mut [u8],
-    clauses: &mut [u8],
-    l: Limits,
-    n: Counters,
-    r: Run,
-    adding: Adding,
-    p: u16,
-) -> Counters
-    requires fits { Fits l (length s.old) }
-    requires good { Good (catalogue_in index.now) l n (held l s.old) clauses.old [] }
-    requires long_enough { LongEnough l (length clauses.old) 16384 }
-    requires can_add { CanAdd l r adding }
+fn add_part(index: &Index, state: &mut State, clauses: &mut [u8], run: Run, adding: Adding, p: u16)
+    requires good { IsGoodWith (catalogue_in index.now) state.old clauses.old [] }
+    requires long_enough { LongEnough state.old.limits (length clauses.old) 16384 }
+    requires can_add { CanAdd state.old.limits run adding }
     requires p_bound { p < 1024 }
-    requires known_unless_full { KnownUnlessFull (is_full n) (variables n.variables (held l s.old)) (p ∷ []) }
-    ensures { ClausesDid (catalogue_in index.now) l (λ v. adding_of (run_of r) adding p) n (held l s.old) clauses.old result (held l s.new) clauses.new }
+    requires known_unless_full { KnownUnlessFull (is_full state.old.used) (variables_of state.old) (p ∷ []) }
+    ensures { ClausesDoes (catalogue_in index.now) (λ v. adding_of (run_of run) adding p) state.old clauses.old state.new clauses.new }
 {
-    let x = opening::variable_of(s, l, n, Origin::Part(p));
+    let x = opening::variable_of(state, Origin::Part(p));
     match adding {
-        Adding::Lock => reporting::add_lock(s, clauses, l, n, r, x),
-        Adding::Excluded => reporting::add_excluded(s, clauses, l, n, r, x, p, false),
-        Adding::Constrains(owner) => reporting::add_constrains(s, clauses, l, n, r, owner, x),
-        Adding::AuxOut(violation) => setting::add_aux_out(s, clauses, l, n, r, x, violation),
+        Adding::Lock => reporting::add_lock(state, clauses, run, x),
+        Adding::Excluded => reporting::add_excluded(state, clauses, run, x, p, false),
+        Adding::Constrains(owner) => reporting::add_constrains(state, clauses, run, owner, x),
+        Adding::AuxOut(violation) => setting::add_aux_out(state, clauses, run, x, violation),
     }
 }
 
 pub fn add_if(
     index: &Index,
-    s: &mut [u8],
+    state: &mut State,
     clauses: &mut [u8],
-    l: Limits,
-    n: Counters,
-    r: Run,
+    run: Run,
     which: Parts,
     adding: Adding,
     p: usize,
-) -> Counters
-    requires fits { Fits l (length s.old) }
-    requires good { Good (catalogue_in index.now) l n (held l s.old) clauses.old [] }
-    requires long_enough { LongEnough l (length clauses.old) 16384 }
-    requires can_add { CanAdd l r adding }
+)
+    requires good { IsGoodWith (catalogue_in index.now) state.old clauses.old [] }
+    requires long_enough { LongEnough state.old.limits (length clauses.old) 16384 }
+    requires can_add { CanAdd state.old.limits run adding }
     requires p_lt_parts { p < (counts_in index.now).parts }
-    requires known_unless_full { KnownUnlessFull (is_full n) (variables n.variables (held l s.old)) (parts_for (catalogue_in index.now) which) }
-    ensures { ClausesDid (catalogue_in index.now) l (λ v. when (selected_of (catalogue_in index.now) which p) (adding_of (run_of r) adding p)) n (held l s.old) clauses.old result (held l s.new) clauses.new }
+    requires known_unless_full { KnownUnlessFull (is_full state.old.used) (variables_of state.old) (parts_for (catalogue_in index.now) which) }
+    ensures { ClausesDoes (catalogue_in index.now) (λ v. when (selected_of (catalogue_in index.now) which p) (adding_of (run_of run) adding p)) state.old clauses.old state.new clauses.new }
 {
     if which.selects(index, p) {
-        return add_part(index, s, clauses, l, n, r, adding, p as u16);
+        add_part(index, state, clauses, run, adding, p as u16);
     }
-    n
 }
 
 // A clause is added for each of these parts, which have variables.
 pub fn add_each(
     index: &Index,
-    s: &mut [u8],
+    state: &mut State,
     clauses: &mut [u8],
-    l: Limits,
-    n: Counters,
-    r: Run,
+    run: Run,
     which: Parts,
     adding: Adding,
-) -> Counters
-    requires fits { Fits l (length s.old) }
-    requires good { Good (catalogue_in index.now) l n (held l s.old) clauses.old [] }
-    requires long_enough { LongEnough l (length clauses.old) 16384 }
-    requires can_add { CanAdd l r adding }
-    requires known_unless_full { KnownUnlessFull (is_full n) (variables n.variables (held l s.old)) (parts_for (catalogue_in index.now) which) }
-    ensures { ClausesDid (catalogue_in index.now) l (λ v. fold (adding_of (run_of r) adding) (parts_for (catalogue_in index.now) which)) n (held l s.old) clauses.old result (held l s.new) clauses.new }
+)
+    requires good { IsGoodWith (catalogue_in index.now) state.old clauses.old [] }
+    requires long_enough { LongEnough state.old.limits (length clauses.old) 16384 }
+    requires can_add { CanAdd state.old.limits run adding }
+    requires known_unless_full { KnownUnlessFull (is_full state.old.used) (variables_of state.old) (parts_for (catalogue_in index.now) which) }
+    ensures { ClausesDoes (catalogue_in index.now) (λ v. fold (adding_of (run_of run) adding) (parts_for (catalogue_in index.now) which)) state.old clauses.old state.new clauses.new }
 {
-    let mut m = n;
     let mut p = which.first(index);
     while p < index.areas.tables.counts.parts {
-        m = add_if(index, s, clauses, l, m, r, which, adding, p);
+        add_if(index, state, clauses, run, which, adding, p);
         p = which.next(index, p);
     }
-    m
 }

@@ -14,22 +14,20 @@ use Rattle.rules.proofs.Valid as rules
 use Rattle.tables.specs.declared.Counts.{Counts}
 use Rattle.cache.specs.Areas.{catalogue}
 use Rattle.cache.proofs.Laws.{requirements_held}
-use Rattle.state.specs.declared.Limits.{Limits}
-use Rattle.variable_map.specs.Mapping.{variables}
-use Rattle.decision_tracker.specs.Tracking.{decisions}
 use Rattle.line.specs.declared.Task.TheVariants.{Drawn}
 use Rattle.entries.specs.declared.Entry.{Entry}
 use Rattle.entries.specs.Entries.{no_entry, entry_of}
-use Rattle.encoder.specs.declared.Counters.{Counters}
+use Rattle.encoder.specs.declared.State.{State}
 use Rattle.encoder.specs.Held.{fired_now, drawn_task}
-use Rattle.goals.specs.Goals.{true_of}
+use Rattle.encoder.specs.Does.{regions_of}
+use Rattle.goals.specs.Goals.{truth_of}
 use Rattle.owners.specs.Owners.{serving}
 use Rattle.owners.proofs.Records.{none_fired}
 use Rattle.firing.specs.declared.Indices.{Indices}
 use Rattle.firing.specs.Firing.{judging, indices_in, Lists}
 use Rattle.firing.proofs.Callers.{truth_held, fired_given, fired_listed}
 use Rattle.naming.specs.Naming.{GivenIndices}
-use Rattle.naming.specs.Alike.{ClausesAlike}
+use Rattle.naming.specs.Alike.{ClausesDoAlike}
 use Rattle.naming.proofs.AlikeDid.{alike_as}
 use Rattle.serving.specs.Serving.{served_fired, served_drawn, TaskGiven}
 
@@ -51,22 +49,22 @@ module _ (c : Catalogue) (f : ℕ → Bool) (q : ℕ) where
     pub held_given : GivenIndices c q js
     held_given = record { given = rw held_listed (fired_given c f q) }
 
-module _ {c : Catalogue} {l : Limits} (r : Run) {n n' : Counters} {st st' : ℕ → List ℕ} {cl cl' : List ℕ} where
-  pub fired_served : (q : ℕ) {is : List ℕ} → is ≡ fired_now c (true_of (variables n.variables st) (decisions n.decisions st)) q
-      → ClausesAlike c l (λ v. serving c r (requirement q is)) n st cl n' st' cl' → ClausesAlike c l (λ v. served_fired c r q) n st cl n' st' cl'
+module _ {c : Catalogue} (r : Run) {x x' : State} {cl cl' : List ℕ} where
+  pub fired_served : (q : ℕ) {is : List ℕ} → is ≡ fired_now c (truth_of x) q
+      → ClausesDoAlike c (λ v. serving c r (requirement q is)) x cl x' cl' → ClausesDoAlike c (λ v. served_fired c r q) x cl x' cl'
   unfolding served_fired
   fired_served q e d =
-      record { is = λ wt. alike_as (d.is wt) (λ v. rw (truth_held c l v n st cl wt, e)) }
+      record { limits = d.limits; area = d.area; did = record { is = λ wt. alike_as (d.did.is wt) (λ v. rw (truth_held c x.limits v x.used (regions_of x) cl wt, e)) } }
 
   -- ---- a drawn one
 
   pub drawn_served : (ds : List (ℕ × ℕ)) (e : ℕ) (it : Entry) → entry_of it ≡ get_or ds e no_entry
-      → ClausesAlike c l (λ v. serving c r (requirement it.requirement (it.disjunct ∷ []))) n st cl n' st' cl'
-      → ClausesAlike c l (λ v. served_drawn c r ds e) n st cl n' st' cl'
+      → ClausesDoAlike c (λ v. serving c r (requirement it.requirement (it.disjunct ∷ []))) x cl x' cl'
+      → ClausesDoAlike c (λ v. served_drawn c r ds e) x cl x' cl'
   unfolding served_drawn
   drawn_served ds e it w d =
       let same : requirement it.requirement (it.disjunct ∷ []) ≡ drawn_task (entry_of it) = unfold drawn_task entry_of in refl in
-      subst (λ (t : Task). ClausesAlike c l (λ v. serving c r t) n st cl n' st' cl') (same ∙ ap drawn_task w) d
+      subst (λ (t : Task). ClausesDoAlike c (λ v. serving c r t) x cl x' cl') (same ∙ ap drawn_task w) d
 
 module _ {c : Catalogue} {ds : List (ℕ × ℕ)} {e : ℕ} (it : Entry) (g : TaskGiven c ds (Drawn e)) (w : entry_of it ≡ get_or ds e no_entry) where
   drawn_entry : rules.Entry c (entry_of it)

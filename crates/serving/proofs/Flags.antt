@@ -34,15 +34,17 @@ use Rattle.cache.specs.Areas.{catalogue}
 use Rattle.cache.proofs.Laws.{ranges_held, unions_held}
 use Rattle.state.specs.declared.Limits.{Limits}
 use Rattle.encoder.specs.declared.Counters.{Counters}
-use Rattle.encoder.specs.Held.{Reading, opening_of, state_of, Good}
+use Rattle.encoder.specs.declared.State as encoder
+use Rattle.encoder.specs.Held.{Reading, opening_of, state_of}
+use Rattle.encoder.specs.Does.{IsGoodWith}
 use Rattle.index.specs.Catalogued.{Catalogued}
 use Rattle.owners.specs.Owners.{serving}
 use Rattle.firing.proofs.Required.{goal_is, goal_given}
 use Rattle.naming.specs.Settled.{Settled, AllSettled, Settles}
-use Rattle.naming.specs.Alike.{AlikeDid, ClausesAlike}
+use Rattle.naming.specs.Alike.{AlikeDoes, ClausesDoAlike}
 use Rattle.naming.proofs.Settled.{any_stands, Stands}
-use Rattle.naming.proofs.AlikeDid.{settles_done, settles_stand}
-use Rattle.serving.specs.Flags.{goal_from, Flagged}
+use Rattle.naming.proofs.AlikeDid.{settled_done, settled_stand, clauses_alike_all}
+use Rattle.serving.specs.Flags.{goal_from, Flagged, AreFlagged}
 use Rattle.serving.specs.Line.{from}
 use Rattle.serving.proofs.Stands.{each_stands, ready_stands, serving_stands}
 
@@ -102,16 +104,17 @@ flagged_set {flags = flags} i h f =
     }
 
 -- none is lost where nothing is unsettled
-module _ {c : Catalogue} {l : Limits} {flags : List Bool} {n n' : Counters} {st st' : ℕ → List ℕ} where
-  pub flagged_stand : {F : Reading → State → State} {cl wt cl' wt' : List ℕ} → AlikeDid c l F n st cl wt n' st' cl' wt' → Good c l n st cl wt
-      → ((v : Reading) (s : State) → Stands s.opening (F v s).opening) → Flagged c l flags n st → Flagged c l flags n' st'
-  flagged_stand d g k f = record { settles = λ i h. settles_stand d g k (f.settles i h) }
+module _ {c : Catalogue} {flags : List Bool} {x x' : encoder.State} where
+  pub flagged_stand : {F : Reading → State → State} {cl wt cl' wt' : List ℕ} → AlikeDoes c F x cl wt x' cl' wt' → IsGoodWith c x cl wt
+      → ((v : Reading) (s : State) → Stands s.opening (F v s).opening) → AreFlagged c flags x → AreFlagged c flags x'
+  flagged_stand d g k f = record { settles = λ i h. settled_stand d g k (f.settles i h) }
 
   -- a requirement is, and its goal flagged
   pub flagged_more : (r : Run) (q : ℕ) (is : List ℕ) (i : ℕ) {cl cl' : List ℕ} → goal_from i ≡ goal_at c q
-      → ClausesAlike c l (λ v. serving c r (requirement q is)) n st cl n' st' cl' → Good c l n st cl [] → Flagged c l flags n st → Flagged c l (set flags i true) n' st'
+      → ClausesDoAlike c (λ v. serving c r (requirement q is)) x cl x' cl' → IsGoodWith c x cl [] → AreFlagged c flags x → AreFlagged c (set flags i true) x'
   flagged_more r q is i e d g f =
-      flagged_set i (rw e (settles_done (d.is []) g (λ v. requirement_settles c r q is))) (flagged_stand (d.is []) g (λ v. serving_stands c r (requirement q is)) f)
+      let k = clauses_alike_all {wt = []} d in
+      flagged_set i (rw e (settled_done k g (λ v. requirement_settles c r q is))) (flagged_stand k g (λ v. serving_stands c r (requirement q is)) f)
 
 -- the flag says that the requirement's candidates are settled
 pub flag_settles : {c : Catalogue} {l : Limits} {flags : List Bool} {n : Counters} {st : ℕ → List ℕ} (q i : ℕ) → goal_from i ≡ goal_at c q → Flagged c l flags n st

@@ -13,20 +13,14 @@ use Rattle.line.specs.declared.Task.{Task}
 use Rattle.line.specs.declared.Task.TheVariants.{Condition, Requirement, Constraint, Drawn}
 use Rattle.entries.specs.Entries.{drawn_in, Long}
 use Rattle.entries.proofs.Drain.{length_drawn}
-use Rattle.encoder.specs.declared.Counters.{Counters}
+use Rattle.encoder.specs.declared.State.{State}
 use Rattle.encoder.specs.Held.{LongEnough}
-use Rattle.naming.specs.Alike.{AlikeDid}
+use Rattle.naming.specs.Alike.{AlikeDoes}
 use Rattle.serving.specs.Serving.{served_as, TaskGiven}
 
--- ---- areas that are long enough
-
-module _ {l : Limits} {cl wt : ℕ} (h : LongEnough l cl wt) where
-  -- whatever the waiting area's length
-  pub long_most : LongEnough l cl 16384
-  long_most = record { clauses = h.clauses; most = h.most; waiting = h.waiting; entries = omega (arith, h.waiting) }
-
-  pub long_entries : Long l wt
-  long_entries = record { waiting = h.waiting; long = h.entries }
+-- the waiting area is long enough
+pub long_entries : {l : Limits} {cl wt : ℕ} → LongEnough l cl wt → Long l wt
+long_entries h = record { waiting = h.waiting; long = h.entries }
 
 -- ---- the number names something given
 
@@ -48,6 +42,6 @@ drawn_first l wt {drawn} g = omega (arith, g.given.0, length_drawn l drawn wt)
 
 -- ---- served as its kind is
 
-pub as_kind : {c : Catalogue} {l : Limits} (r : Run) (ds : List (ℕ × ℕ)) {n n' : Counters} {st st' : ℕ → List ℕ} {cl cl' wt wt' : List ℕ} {t k : Task}
-    → t ≡ k → AlikeDid c l (λ v. served_as c r ds v k) n st cl wt n' st' cl' wt' → AlikeDid c l (λ v. served_as c r ds v t) n st cl wt n' st' cl' wt'
+pub as_kind : {c : Catalogue} (r : Run) (ds : List (ℕ × ℕ)) {x x' : State} {cl cl' wt wt' : List ℕ} {t k : Task}
+    → t ≡ k → AlikeDoes c (λ v. served_as c r ds v k) x cl wt x' cl' wt' → AlikeDoes c (λ v. served_as c r ds v t) x cl wt x' cl' wt'
 as_kind r ds e d = rw e d

@@ -8,13 +8,16 @@ use Rattle.rules.proofs.Reached.{Given, Reached}
 use Rattle.rules.proofs.Line.{After, first_line, first_state, run_from}
 use Rattle.rules.proofs.Forgotten.{forget}
 use Rattle.state.specs.declared.Limits.{Limits}
+use Rattle.state.specs.Layout.{held}
 use Rattle.marked.specs.Marked.{Marked}
 use Rattle.line.specs.Line.{queued, line_at}
 use Rattle.line.specs.Tasks.{task_of}
 use Rattle.entries.specs.Entries.{drawn_in}
 use Rattle.encoder.specs.declared.Counters.{Counters}
+use Rattle.encoder.specs.declared.State as encoder
 use Rattle.encoder.specs.Held.{Reading, task_in, state_of, Good}
 use Rattle.encoder.specs.Did.{is_full}
+use Rattle.encoder.specs.Does.{regions_of}
 use Rattle.state.specs.Limits.{limits_of}
 use Rattle.naming.specs.Alike.{AlikeIn, AlikeDid}
 use Rattle.beginning.specs.Beginning.{reading_of}
@@ -86,3 +89,18 @@ pub record LineServed (c : Catalogue) (l : Limits) (r : Run) (drawn : ℕ) (n : 
       → is_full n ≡ false → is_full n' ≡ false → Point c l level r s₀ (reading_of s₀) n'.tail n' st' cl' wt'
   pub over : (level : ℕ) (s₀ : State) → drawn ≡ length s₀.opening.drawn → Point c l level r s₀ (reading_of s₀) 0 n st cl wt
       → is_full n ≡ false → is_full n' ≡ true → above (limits_of l) (run_once c level s₀) ≡ true
+
+-- ---- the same of the encoder's state: in the same area and within the same limits
+
+abbrev pub IsBegun : Catalogue → Run → (drawn : ℕ) → encoder.State → (cl wt : List ℕ) → Type 0
+IsBegun c r drawn x cl wt = Begun c x.limits r drawn x.used (regions_of x) cl wt
+
+pub record ServesNext (c : Catalogue) (r : Run) (drawn head : ℕ) (x : encoder.State) (cl wt : List ℕ) (x' : encoder.State) (cl' wt' : List ℕ) : Type 0 where
+  pub limits : x'.limits ≡ x.limits
+  pub area : x'.area.ghost_name ≡ x.area.ghost_name
+  pub serves : Serves c x.limits r drawn head x.used (regions_of x) cl wt x'.used (held x.limits x'.area.now) cl' wt'
+
+pub record ServesLine (c : Catalogue) (r : Run) (drawn : ℕ) (x : encoder.State) (cl wt : List ℕ) (x' : encoder.State) (cl' wt' : List ℕ) : Type 0 where
+  pub limits : x'.limits ≡ x.limits
+  pub area : x'.area.ghost_name ≡ x.area.ghost_name
+  pub served : LineServed c x.limits r drawn x.used (regions_of x) cl wt x'.used (held x.limits x'.area.now) cl' wt'

@@ -5,26 +5,25 @@ ghost use Rattle.std.specs.Prelude.{◌≡◌, [], ◌<◌, ◌≤◌, length};
 ghost use Rattle.rules.specs.Catalogue.{goal_at};
 ghost use Rattle.rules.specs.Opening.{requirement};
 ghost use Rattle.cache.specs.Areas.{catalogue};
-ghost use Rattle.state.specs.Layout.{held, Fits};
 ghost use Rattle.marked.specs.Marked.{Marked};
 ghost use Rattle.line.specs.declared.Task.TheVariants.{Drawn};
 ghost use Rattle.line.specs.Line.{line_at};
 ghost use Rattle.line.specs.Tasks.{task_of};
 ghost use Rattle.entries.specs.Entries.{drawn_in};
-ghost use Rattle.encoder.specs.Held.{run_of, LongEnough, Good};
+ghost use Rattle.encoder.specs.Held.{run_of, LongEnough};
+ghost use Rattle.encoder.specs.Does.{IsGoodWith, regions_of};
 ghost use Rattle.owners.specs.Owners.{serving};
 ghost use Rattle.naming.specs.Naming.{GivenIndices};
-ghost use Rattle.naming.specs.Alike.{AlikeDid, ClausesAlike};
-ghost use Rattle.serving.specs.Flags.{goal_from, Flagged};
+ghost use Rattle.naming.specs.Alike.{AlikeDoes, ClausesDoAlike};
+ghost use Rattle.serving.specs.Flags.{goal_from, AreFlagged};
 ghost use Rattle.serving.specs.Serving.{served_as, served_fired, served_drawn, TaskGiven};
-ghost use Rattle.serving.specs.Line.{Serves, Begun, LineServed};
+ghost use Rattle.serving.specs.Line.{ServesNext, IsBegun, ServesLine};
 ghost use Rattle.index.specs.Views.{catalogue_of, counts_of};
 
-use encoder::{Counters, Run};
+use encoder::{Run, State};
 use index::Catalogue;
 use line::Task;
 use requirement::Requirement;
-use state::Limits;
 
 // ---- goals whose candidates are settled
 
@@ -43,30 +42,26 @@ fn goal_place(catalogue: &Catalogue, q: usize) -> usize
 // Requirement q is handled for these disjuncts, and its goal flagged.
 fn serve_flagged(
     catalogue: &Catalogue,
-    s: &mut [u8],
+    state: &mut State,
     clauses: &mut [u8],
-    l: Limits,
-    n: Counters,
-    r: Run,
+    run: Run,
     q: usize,
     indices: &[u16],
     settled: &mut [bool; 640],
-) -> Counters
-    requires fits { Fits l (length s.old) }
-    requires good { Good (catalogue_of catalogue.now) l n (held l s.old) clauses.old [] }
-    requires long_enough { LongEnough l (length clauses.old) 16384 }
-    requires q_lt_requirements { (q < (counts_of catalogue.now).requirements) × (0 < r.number) }
-    requires marked { Marked 14 15 0 (held l s.old) }
+)
+    requires good { IsGoodWith (catalogue_of catalogue.now) state.old clauses.old [] }
+    requires long_enough { LongEnough state.old.limits (length clauses.old) 16384 }
+    requires q_lt_requirements { (q < (counts_of catalogue.now).requirements) × (0 < run.number) }
+    requires marked { Marked 14 15 0 (regions_of state.old) }
     requires given_indices { GivenIndices (catalogue_of catalogue.now) q indices.now }
-    requires flagged { Flagged (catalogue_of catalogue.now) l settled.old n (held l s.old) }
-    ensures clauses_alike { ClausesAlike (catalogue_of catalogue.now) l (λ v. serving (catalogue_of catalogue.now) (run_of r) (requirement q indices.now)) n (held l s.old) clauses.old result (held l s.new) clauses.new }
-    ensures flagged_2 { Flagged (catalogue_of catalogue.now) l settled.new result (held l s.new) }
+    requires flagged { AreFlagged (catalogue_of catalogue.now) settled.old state.old }
+    ensures clauses_alike { ClausesDoAlike (catalogue_of catalogue.now) (λ v. serving (catalogue_of catalogue.now) (run_of run) (requirement q indices.now)) state.old clauses.old state.new clauses.new }
+    ensures flagged_2 { AreFlagged (catalogue_of catalogue.now) settled.new state.new }
 {
     let i = goal_place(catalogue, q);
     let known = settled[i];
-    let m = handling::serve_requirement(catalogue, s, clauses, l, n, r, q, indices, known);
+    handling::serve_requirement(catalogue, state, clauses, run, q, indices, known);
     settled[i] = true;
-    m
 }
 
 // ---- tasks
@@ -74,29 +69,26 @@ fn serve_flagged(
 // Requirement q is handled for the disjuncts that hold now.
 fn serve_fired(
     catalogue: &Catalogue,
-    s: &mut [u8],
+    state: &mut State,
     clauses: &mut [u8],
-    l: Limits,
-    n: Counters,
-    r: Run,
+    run: Run,
     q: usize,
     settled: &mut [bool; 640],
-) -> Counters
-    requires fits { Fits l (length s.old) }
-    requires good { Good (catalogue_of catalogue.now) l n (held l s.old) clauses.old [] }
-    requires long_enough { LongEnough l (length clauses.old) 16384 }
-    requires q_lt_requirements { (q < (counts_of catalogue.now).requirements) × (0 < r.number) }
-    requires marked { Marked 14 15 0 (held l s.old) }
-    requires flagged { Flagged (catalogue_of catalogue.now) l settled.old n (held l s.old) }
-    ensures clauses_alike { ClausesAlike (catalogue_of catalogue.now) l (λ v. served_fired (catalogue_of catalogue.now) (run_of r) q) n (held l s.old) clauses.old result (held l s.new) clauses.new }
-    ensures flagged_2 { Flagged (catalogue_of catalogue.now) l settled.new result (held l s.new) }
+)
+    requires good { IsGoodWith (catalogue_of catalogue.now) state.old clauses.old [] }
+    requires long_enough { LongEnough state.old.limits (length clauses.old) 16384 }
+    requires q_lt_requirements { (q < (counts_of catalogue.now).requirements) × (0 < run.number) }
+    requires marked { Marked 14 15 0 (regions_of state.old) }
+    requires flagged { AreFlagged (catalogue_of catalogue.now) settled.old state.old }
+    ensures clauses_alike { ClausesDoAlike (catalogue_of catalogue.now) (λ v. served_fired (catalogue_of catalogue.now) (run_of run) q) state.old clauses.old state.new clauses.new }
+    ensures flagged_2 { AreFlagged (catalogue_of catalogue.now) settled.new state.new }
 {
     let it = catalogue.index.areas.tables.requirement_at(q);
     match it.condition {
-        None => serve_flagged(catalogue, s, clauses, l, n, r, q, &[], settled),
+        None => serve_flagged(catalogue, state, clauses, run, q, &[], settled),
         Some(_) => {
-            let fired = firing::judged(catalogue, s, l, n, q, true);
-            serve_flagged(catalogue, s, clauses, l, n, r, q, fired.as_slice(), settled)
+            let fired = firing::judged(catalogue, state, q, true);
+            serve_flagged(catalogue, state, clauses, run, q, fired.as_slice(), settled);
         }
     }
 }
@@ -104,141 +96,129 @@ fn serve_fired(
 // Entry e of the `drawn` ones is handled.
 fn serve_drawn(
     catalogue: &Catalogue,
-    s: &mut [u8],
+    state: &mut State,
     clauses: &mut [u8],
     w: &[u8],
-    l: Limits,
-    n: Counters,
-    r: Run,
+    run: Run,
     drawn: usize,
     e: usize,
     settled: &mut [bool; 640],
-) -> Counters
-    requires fits { Fits l (length s.old) }
-    requires good { Good (catalogue_of catalogue.now) l n (held l s.old) clauses.old [] }
-    requires long_enough { LongEnough l (length clauses.old) 16384 }
-    requires long_enough_2 { LongEnough l (length clauses.old) (length w.now) }
-    requires task_given { TaskGiven (catalogue_of catalogue.now) (drawn_in l drawn w.now) (Drawn e) }
-    requires number_nonzero { (0 < r.number) × (drawn ≤ l.waiting) × (e < drawn) }
-    requires marked { Marked 14 15 0 (held l s.old) }
-    requires flagged { Flagged (catalogue_of catalogue.now) l settled.old n (held l s.old) }
-    ensures clauses_alike { ClausesAlike (catalogue_of catalogue.now) l (λ v. served_drawn (catalogue_of catalogue.now) (run_of r) (drawn_in l drawn w.now) e) n (held l s.old) clauses.old result (held l s.new) clauses.new }
-    ensures flagged_2 { Flagged (catalogue_of catalogue.now) l settled.new result (held l s.new) }
+)
+    requires good { IsGoodWith (catalogue_of catalogue.now) state.old clauses.old [] }
+    requires long_enough { LongEnough state.old.limits (length clauses.old) 16384 }
+    requires long_enough_2 { LongEnough state.old.limits (length clauses.old) (length w.now) }
+    requires task_given { TaskGiven (catalogue_of catalogue.now) (drawn_in state.old.limits drawn w.now) (Drawn e) }
+    requires number_nonzero { (0 < run.number) × (drawn ≤ state.old.limits.waiting) × (e < drawn) }
+    requires marked { Marked 14 15 0 (regions_of state.old) }
+    requires flagged { AreFlagged (catalogue_of catalogue.now) settled.old state.old }
+    ensures clauses_alike { ClausesDoAlike (catalogue_of catalogue.now) (λ v. served_drawn (catalogue_of catalogue.now) (run_of run) (drawn_in state.old.limits drawn w.now) e) state.old clauses.old state.new clauses.new }
+    ensures flagged_2 { AreFlagged (catalogue_of catalogue.now) settled.new state.new }
 {
-    let entry = entries::drawn_at(w, l, drawn, e);
+    let entry = entries::drawn_at(w, state.limits, drawn, e);
     serve_flagged(
         catalogue,
-        s,
+        state,
         clauses,
-        l,
-        n,
-        r,
+        run,
         entry.requirement as usize,
         &[entry.disjunct],
         settled,
-    )
+    );
 }
 
 // This task; `drawn` entries were drawn when the run began.
 fn serve_task(
     catalogue: &Catalogue,
-    s: &mut [u8],
+    state: &mut State,
     clauses: &mut [u8],
     w: &mut [u8],
-    l: Limits,
-    n: Counters,
-    r: Run,
+    run: Run,
     drawn: usize,
     task: Task,
     settled: &mut [bool; 640],
-) -> Counters
-    requires fits { Fits l (length s.old) }
-    requires good { Good (catalogue_of catalogue.now) l n (held l s.old) clauses.old w.old }
-    requires long_enough { LongEnough l (length clauses.old) (length w.old) }
-    requires marked { Marked 14 15 0 (held l s.old) }
-    requires task_given { TaskGiven (catalogue_of catalogue.now) (drawn_in l drawn w.old) task }
-    requires number_nonzero { (0 < r.number) × (drawn ≤ l.waiting) × (n.drawn ≡ 0) }
-    requires flagged { Flagged (catalogue_of catalogue.now) l settled.old n (held l s.old) }
-    ensures alike_did { AlikeDid (catalogue_of catalogue.now) l (λ v. served_as (catalogue_of catalogue.now) (run_of r) (drawn_in l drawn w.old) v task) n (held l s.old) clauses.old w.old result (held l s.new) clauses.new w.new }
-    ensures flagged_2 { Flagged (catalogue_of catalogue.now) l settled.new result (held l s.new) }
+)
+    requires good { IsGoodWith (catalogue_of catalogue.now) state.old clauses.old w.old }
+    requires long_enough { LongEnough state.old.limits (length clauses.old) (length w.old) }
+    requires marked { Marked 14 15 0 (regions_of state.old) }
+    requires task_given { TaskGiven (catalogue_of catalogue.now) (drawn_in state.old.limits drawn w.old) task }
+    requires number_nonzero { (0 < run.number) × (drawn ≤ state.old.limits.waiting) × (state.old.used.drawn ≡ 0) }
+    requires flagged { AreFlagged (catalogue_of catalogue.now) settled.old state.old }
+    ensures alike_does { AlikeDoes (catalogue_of catalogue.now) (λ v. served_as (catalogue_of catalogue.now) (run_of run) (drawn_in state.old.limits drawn w.old) v task) state.old clauses.old w.old state.new clauses.new w.new }
+    ensures flagged_2 { AreFlagged (catalogue_of catalogue.now) settled.new state.new }
 {
     match task {
-        Task::Owner(o) => owners::serve_owner(catalogue, s, clauses, l, n, r, o),
-        Task::Name(name) => names::serve_name(catalogue, s, clauses, l, n, r, name),
-        Task::Condition(q) => firing::serve_condition(catalogue, s, w, l, n, q),
-        Task::Requirement(q) => serve_fired(catalogue, s, clauses, l, n, r, q as usize, settled),
+        Task::Owner(o) => owners::serve_owner(catalogue, state, clauses, run, o),
+        Task::Name(name) => names::serve_name(catalogue, state, clauses, run, name),
+        Task::Condition(q) => firing::serve_condition(catalogue, state, w, q),
+        Task::Requirement(q) => serve_fired(catalogue, state, clauses, run, q as usize, settled),
         Task::Constraint(i) => constraints::serve_constraint(
-            catalogue, s, clauses, l, n, r, i as usize,
+            catalogue, state, clauses, run, i as usize,
         ),
         Task::Drawn(e) => serve_drawn(
-            catalogue, s, clauses, w, l, n, r, drawn, e as usize, settled,
+            catalogue, state, clauses, w, run, drawn, e as usize, settled,
         ),
     }
 }
 
 // ---- the line
 
+// The task at a place of the line.
+fn task_at(state: &State, at: usize) -> Task
+    ensures { result ≡ task_of (line_at at (regions_of state.now)) }
+{
+    line::at(state.area, state.limits, at)
+}
+
 // The task at `head` is taken from the line; what it queues goes behind.
 fn serve_next(
     catalogue: &Catalogue,
-    s: &mut [u8],
+    state: &mut State,
     clauses: &mut [u8],
     w: &mut [u8],
-    l: Limits,
-    n: Counters,
-    r: Run,
+    run: Run,
     drawn: usize,
     head: usize,
     settled: &mut [bool; 640],
-) -> Counters
-    requires fits { Fits l (length s.old) }
-    requires good { Good (catalogue_of catalogue.now) l n (held l s.old) clauses.old w.old }
-    requires long_enough { LongEnough l (length clauses.old) (length w.old) }
-    requires marked { Marked 14 15 0 (held l s.old) }
-    requires task_given { TaskGiven (catalogue_of catalogue.now) (drawn_in l drawn w.old) (task_of (line_at head (held l s.old))) }
-    requires number_nonzero { (0 < r.number) × (drawn ≤ l.waiting) × (n.drawn ≡ 0) × (head < n.tail) }
-    requires flagged { Flagged (catalogue_of catalogue.now) l settled.old n (held l s.old) }
-    ensures serves { Serves (catalogue_of catalogue.now) l (run_of r) drawn head n (held l s.old) clauses.old w.old result (held l s.new) clauses.new w.new }
-    ensures flagged_2 { Flagged (catalogue_of catalogue.now) l settled.new result (held l s.new) }
+)
+    requires good { IsGoodWith (catalogue_of catalogue.now) state.old clauses.old w.old }
+    requires long_enough { LongEnough state.old.limits (length clauses.old) (length w.old) }
+    requires marked { Marked 14 15 0 (regions_of state.old) }
+    requires task_given { TaskGiven (catalogue_of catalogue.now) (drawn_in state.old.limits drawn w.old) (task_of (line_at head (regions_of state.old))) }
+    requires number_nonzero { (0 < run.number) × (drawn ≤ state.old.limits.waiting) × (state.old.used.drawn ≡ 0) × (head < state.old.used.tail) }
+    requires flagged { AreFlagged (catalogue_of catalogue.now) settled.old state.old }
+    ensures serves { ServesNext (catalogue_of catalogue.now) (run_of run) drawn head state.old clauses.old w.old state.new clauses.new w.new }
+    ensures flagged_2 { AreFlagged (catalogue_of catalogue.now) settled.new state.new }
 {
-    let task = line::at(s, l, head);
-    let behind = Counters {
-        first: head + 1,
-        ..n
-    };
-    serve_task(catalogue, s, clauses, w, l, behind, r, drawn, task, settled)
+    let task = task_at(state, head);
+    state.used.first = head + 1;
+    serve_task(catalogue, state, clauses, w, run, drawn, task, settled);
 }
 
 // The whole line. `settled` flags goals whose candidates are settled, in this run or before.
 pub fn serve_line(
     catalogue: &Catalogue,
-    s: &mut [u8],
+    state: &mut State,
     clauses: &mut [u8],
     w: &mut [u8],
-    l: Limits,
-    n: Counters,
-    r: Run,
+    run: Run,
     drawn: usize,
     settled: &mut [bool; 640],
-) -> Counters
-    requires fits { Fits l (length s.old) }
-    requires good { Good (catalogue_of catalogue.now) l n (held l s.old) clauses.old w.old }
-    requires long_enough { LongEnough l (length clauses.old) (length w.old) }
-    requires marked { Marked 14 15 0 (held l s.old) × (0 < r.number) }
-    requires begun { Begun (catalogue_of catalogue.now) l (run_of r) drawn n (held l s.old) clauses.old w.old }
-    requires flagged { Flagged (catalogue_of catalogue.now) l settled.old n (held l s.old) }
-    ensures line_served { LineServed (catalogue_of catalogue.now) l (run_of r) drawn n (held l s.old) clauses.old w.old result (held l s.new) clauses.new w.new }
-    ensures flagged_2 { Flagged (catalogue_of catalogue.now) l settled.new result (held l s.new) }
+)
+    requires good { IsGoodWith (catalogue_of catalogue.now) state.old clauses.old w.old }
+    requires long_enough { LongEnough state.old.limits (length clauses.old) (length w.old) }
+    requires marked { Marked 14 15 0 (regions_of state.old) × (0 < run.number) }
+    requires begun { IsBegun (catalogue_of catalogue.now) (run_of run) drawn state.old clauses.old w.old }
+    requires flagged { AreFlagged (catalogue_of catalogue.now) settled.old state.old }
+    ensures serves_line { ServesLine (catalogue_of catalogue.now) (run_of run) drawn state.old clauses.old w.old state.new clauses.new w.new }
+    ensures flagged_2 { AreFlagged (catalogue_of catalogue.now) settled.new state.new }
 {
-    let mut m = n;
     let mut head = 0;
     // Kept: no plainer: the line grows while it is served, so its end is not known at the start.
-    while head < m.tail {
-        if m.full != 0 {
-            return m;
+    while head < state.used.tail {
+        if state.used.full != 0 {
+            return;
         }
-        m = serve_next(catalogue, s, clauses, w, l, m, r, drawn, head, settled);
+        serve_next(catalogue, state, clauses, w, run, drawn, head, settled);
         head += 1;
     }
-    m
 }

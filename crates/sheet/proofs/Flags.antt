@@ -22,19 +22,20 @@ use Rattle.reader.specs.declared.Command.TheVariants as C
 use Rattle.reader.specs.Reading.{command_of}
 use Rattle.state.specs.declared.Limits.{Limits}
 use Rattle.encoder.specs.declared.Counters.{Counters}
+use Rattle.encoder.specs.declared.State as encoder
 use Rattle.state.specs.Limits.{limits_of}
 use Rattle.naming.specs.Settled.{AllSettled, Settles}
 use Rattle.naming.proofs.Settled.{Stands, stands_same, settled_stands, other_areas}
-use Rattle.beginning.specs.Beginning.{Reaches}
-use Rattle.serving.specs.Flags.{Flagged}
+use Rattle.beginning.specs.Beginning.{Reaches, IsReached}
+use Rattle.serving.specs.Flags.{AreFlagged}
 use Rattle.sheet.specs.Sheet.{Gives, CommandDid, FlaggedAfter}
 
-module _ {c : Catalogue} {l : Limits} {flags : List Bool} {st : ℕ → List ℕ} where
-  pub after_refused : {f : Refusal} → FlaggedAfter c l flags (Err f) st
-  after_refused = record { flagged = λ m e. absurd (not_one (cc)) }
+module _ {c : Catalogue} {flags : List Bool} {x : encoder.State} where
+  pub after_refused : {f : Refusal} → FlaggedAfter c flags (Err f) x
+  after_refused = record { flagged = λ e. absurd (not_one (cc)) }
 
-  pub after_carried : {n : Counters} → Flagged c l flags n st → FlaggedAfter c l flags (Ok n) st
-  after_carried {n} f = record { flagged = λ m e. let q : m ≡ n = cc in rw q f }
+  pub after_carried : AreFlagged c flags x → FlaggedAfter c flags (Ok tt) x
+  after_carried f = record { flagged = λ e. f }
 
 -- ---- by the definitions
 
@@ -99,9 +100,9 @@ module _ {c : Catalogue} {l : Limits} {n : Counters} {st : ℕ → List ℕ} {cl
             other_areas l v v m st' cl' wt' cl'' wt'' (rw (y.holds.is v) now);
       }
 
-pub command_flagged : {c : Catalogue} {l : Limits} {n : Counters} {st : ℕ → List ℕ} {cl wt : List ℕ} (o : Command) → NoRun o → Reaches c l n st cl wt
-    → {r : Result Counters Refusal} {st' : ℕ → List ℕ} {cl' wt' : List ℕ} {flags : List Bool} → CommandDid c l o n st cl wt r st' cl' wt' → Flagged c l flags n st → FlaggedAfter c l flags r st'
+pub command_flagged : {c : Catalogue} {x : encoder.State} {cl wt : List ℕ} (o : Command) → NoRun o → IsReached c x cl wt
+    → {r : Result (Unit {0}) Refusal} {x' : encoder.State} {cl' wt' : List ℕ} {flags : List Bool} → CommandDid c o x cl wt r x' cl' wt' → AreFlagged c flags x → FlaggedAfter c flags r x'
 command_flagged o z h d f =
     record {
-      flagged = λ m e. record { settles = λ i k. gives_settled h o z (d.carried m e h.state h.given h.reached h.holds) (f.settles i k) };
+      flagged = λ e. rw d.limits (record { settles = λ i k. gives_settled h o z (d.carried e h.state h.given h.reached h.holds) (f.settles i k) });
     }

@@ -21,8 +21,10 @@ use Rattle.tables.specs.declared.Counts.{Counts}
 use Rattle.cache.specs.Areas.{catalogue}
 use Rattle.cache.proofs.Laws.{conditions_held}
 use Rattle.state.specs.declared.Limits.{Limits}
+use Rattle.state.specs.Layout.{held}
 use Rattle.marked.specs.Marked.{Marked}
 use Rattle.encoder.specs.declared.Counters.{Counters}
+use Rattle.encoder.specs.declared.State as encoder
 use Rattle.encoder.specs.Held.{Reading, state_of, Good}
 use Rattle.encoder.specs.Did.{is_full}
 use Rattle.state.specs.Limits.{limits_of}
@@ -30,8 +32,8 @@ use Rattle.reader.specs.declared.Command as code
 use Rattle.reader.specs.declared.Command.TheVariants as C
 use Rattle.reader.specs.Reading.{command_of}
 use Rattle.encoder.proofs.Steps.{nothing_kept}
-use Rattle.encoding.specs.Running.{Holds}
-use Rattle.commands.specs.Commands.{Draws, Outcomes, PlainOutcomes, PartOutcomes}
+use Rattle.encoding.specs.Running.{Holds, IsHolding}
+use Rattle.commands.specs.Commands.{DrawDoes, Outcomes, Adds, Decides}
 use Rattle.commands.proofs.Outcomes.{part_outcome}
 use Rattle.commands.proofs.Drawing.{draw_carried, draw_missing}
 use Rattle.sheet.specs.Sheet.{Gives, CommandDid}
@@ -86,64 +88,65 @@ module _ {c : Catalogue} {l : Limits} {s : State} {n : Counters} {st : ℕ → L
 
 -- ---- carried out or refused
 
-module _ {c : Catalogue} {l : Limits} {o : Command} {n : Counters} {st : ℕ → List ℕ} {cl wt : List ℕ} {st' : ℕ → List ℕ} {cl' wt' : List ℕ} where
-  pub did_carried : {m : Counters} → ((s : State) → Given c → Reached (limits_of l) c s → Holds c l s n st cl wt → Gives c l o s n m st' cl' wt')
-      → CommandDid c l o n st cl wt (Ok m) st' cl' wt'
-  did_carried {m} p =
-      record {
-        carried = λ m' e. let q : m' ≡ m = cc in rw q p;
-        refused = λ f e. absurd (not_one (cc));
-      }
+module _ {c : Catalogue} {o : Command} {x x' : encoder.State} {cl wt cl' wt' : List ℕ} (limits : x'.limits ≡ x.limits) (area : x'.area.ghost_name ≡ x.area.ghost_name) where
+  pub did_carried : ((s : State) → Given c → Reached (limits_of x.limits) c s → IsHolding c s x cl wt → Gives c x.limits o s x.used x'.used (held x.limits x'.area.now) cl' wt')
+      → CommandDid c o x cl wt (Ok tt) x' cl' wt'
+  did_carried p = record { limits = limits; area = area; carried = λ e. p; refused = λ f e. absurd (not_one (cc)) }
 
-  pub did_refused : {f : Refusal} → ((s : State) → Given c → Reached (limits_of l) c s → Holds c l s n st cl wt → carry_out (limits_of l) c o s ≡ refuse (refusal_of f))
-      → CommandDid c l o n st cl wt (Err f) st' cl' wt'
+  pub did_refused : {f : Refusal} → ((s : State) → Given c → Reached (limits_of x.limits) c s → IsHolding c s x cl wt → carry_out (limits_of x.limits) c o s ≡ refuse (refusal_of f))
+      → CommandDid c o x cl wt (Err f) x' cl' wt'
   did_refused {f} p =
       record {
-        carried = λ m e. absurd (not_one (cc));
+        limits = limits;
+        area = area;
+        carried = λ e. absurd (not_one (cc));
         refused = λ g e. let q : g ≡ f = cc in rw q p;
       }
 
 -- ---- the commands
 
--- of one that changes the state area alone
-pub did_of : {c : Catalogue} {l : Limits} {o : Command} {n : Counters} {st st' : ℕ → List ℕ} {r : Result Counters Refusal} → Outcomes c l o n st r st' → (cl wt : List ℕ)
-    → CommandDid c l o n st cl wt r st' cl wt
+-- of one that changes the state alone
+pub did_of : {c : Catalogue} {o : Command} {x x' : encoder.State} {r : Result (Unit {0}) Refusal} → Outcomes c o x r x' → (cl wt : List ℕ) → CommandDid c o x cl wt r x' cl wt
 did_of {o = o} d cl wt =
     record {
-      carried = λ m e s _ _ h. let q = d.carried m e cl wt in held_carried o h (q.good h.good) (q.hand h.hand) q.full q.runs q.is;
+      limits = d.limits;
+      area = d.area;
+      carried = λ e s _ _ h. let q = d.carried e cl wt in held_carried o h (q.good h.good) (q.hand h.hand) q.full q.runs q.is;
       refused = λ f e s _ _ h. held_refused o h (refusal_of f) (d.refused f e cl wt);
     }
 
-module _ (k : Counts) (m u t : List ℕ) {l : Limits} {n : Counters} {st : ℕ → List ℕ} {cl wt : List ℕ} where
-  pub draw_did : {o : ℕ} {r : Counters} {wt' : List ℕ} → o < k.conditions → Draws (catalogue k m u t) l o n st wt r wt'
-      → CommandDid (catalogue k m u t) l (Command.draw o) n st cl wt (Ok r) st cl wt'
+module _ (k : Counts) (m u t : List ℕ) {x : encoder.State} {cl wt : List ℕ} where
+  pub draw_did : {o : ℕ} {x' : encoder.State} {wt' : List ℕ} → o < k.conditions → DrawDoes (catalogue k m u t) o x wt x' wt'
+      → CommandDid (catalogue k m u t) (Command.draw o) x cl wt (Ok tt) x' cl wt'
   draw_did {o} p d =
-      did_carried
-      (λ s _ _ h. held_carried (Command.draw o) h (d.good cl h.good) h.hand d.full d.runs (draw_carried l (catalogue k m u t) o d (rw conditions_held p) cl))
+      did_carried d.limits d.area
+      (λ s _ _ h.
+      let w = d.draws in
+      rw d.bytes (held_carried (Command.draw o) h (w.good cl h.good) h.hand w.full w.runs (draw_carried x.limits (catalogue k m u t) o w (rw conditions_held p) cl)))
 
-  pub draw_refused : {o : ℕ} → k.conditions ≤ o → CommandDid (catalogue k m u t) l (Command.draw o) n st cl wt (Err (Missing things.Condition 1)) st cl wt
-  draw_refused {o} p = did_refused (λ s _ _ _. draw_missing l (catalogue k m u t) o (rw conditions_held p) s)
+  pub draw_refused : {o : ℕ} → k.conditions ≤ o → CommandDid (catalogue k m u t) (Command.draw o) x cl wt (Err (Missing things.Condition 1)) x cl wt
+  draw_refused {o} p = did_refused refl refl (λ s _ _ _. draw_missing x.limits (catalogue k m u t) o (rw conditions_held p) s)
 
-  pub as_add : {r : Result Counters Refusal} {st' : ℕ → List ℕ} (x : code.Command) (o : ℕ) → x ≡ C.Add o → PartOutcomes k.parts l (Command.add o) n st r st'
-      → CommandDid (catalogue k m u t) l (command_of x) n st cl wt r st' cl wt
+  pub as_add : {r : Result (Unit {0}) Refusal} {x' : encoder.State} (y : code.Command) (o : ℕ) → y ≡ C.Add o → Adds k.parts (Command.add o) x r x'
+      → CommandDid (catalogue k m u t) (command_of y) x cl wt r x' cl wt
   unfolding command_of
-  as_add x o e d = rw e (did_of (part_outcome k m u t d) cl wt)
+  as_add y o e d = rw e (did_of (part_outcome k m u t d.outcomes) cl wt)
 
 -- ---- the code's command
 
-module _ {c : Catalogue} {l : Limits} {n : Counters} {st : ℕ → List ℕ} {cl wt : List ℕ} {r : Result Counters Refusal} {st' : ℕ → List ℕ} (x : code.Command) where
-  pub as_decide : (y v i : ℕ) → x ≡ C.Decide y v i → PlainOutcomes l (Command.decide y v i) n st r st' → CommandDid c l (command_of x) n st cl wt r st' cl wt
+module _ {c : Catalogue} {x : encoder.State} {cl wt : List ℕ} {r : Result (Unit {0}) Refusal} {x' : encoder.State} (y : code.Command) where
+  pub as_decide : (z v i : ℕ) → y ≡ C.Decide z v i → Decides (Command.decide z v i) x r x' → CommandDid c (command_of y) x cl wt r x' cl wt
   unfolding command_of
-  as_decide y v i e d = rw e (did_of (d.is c) cl wt)
+  as_decide z v i e d = rw e (did_of (d.outcomes.is c) cl wt)
 
-  pub as_undo : (i : ℕ) → x ≡ C.Undo i → PlainOutcomes l (Command.undo i) n st r st' → CommandDid c l (command_of x) n st cl wt r st' cl wt
+  pub as_undo : (i : ℕ) → y ≡ C.Undo i → Decides (Command.undo i) x r x' → CommandDid c (command_of y) x cl wt r x' cl wt
   unfolding command_of
-  as_undo i e d = rw e (did_of (d.is c) cl wt)
+  as_undo i e d = rw e (did_of (d.outcomes.is c) cl wt)
 
-  pub as_draw : {cl' wt' : List ℕ} (o : ℕ) → x ≡ C.Draw o → CommandDid c l (Command.draw o) n st cl wt r st' cl' wt' → CommandDid c l (command_of x) n st cl wt r st' cl' wt'
+  pub as_draw : {cl' wt' : List ℕ} (o : ℕ) → y ≡ C.Draw o → CommandDid c (Command.draw o) x cl wt r x' cl' wt' → CommandDid c (command_of y) x cl wt r x' cl' wt'
   unfolding command_of
   as_draw o e d = rw e d
 
-  pub as_run : {cl' wt' : List ℕ} (i : ℕ) → x ≡ C.Run i → CommandDid c l (Command.run i) n st cl wt r st' cl' wt' → CommandDid c l (command_of x) n st cl wt r st' cl' wt'
+  pub as_run : {cl' wt' : List ℕ} (i : ℕ) → y ≡ C.Run i → CommandDid c (Command.run i) x cl wt r x' cl' wt' → CommandDid c (command_of y) x cl wt r x' cl' wt'
   unfolding command_of
   as_run i e d = rw e d

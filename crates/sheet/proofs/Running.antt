@@ -21,12 +21,13 @@ use Rattle.rules.proofs.Forgotten.{forget_above}
 use Rattle.refusal.specs.declared.Refusal.TheVariants.{LevelLow, RunFull}
 use Rattle.refusal.specs.Refusing.{refusal_of}
 use Rattle.state.specs.declared.Limits.{Limits}
-use Rattle.decision_tracker.specs.Tracking.{decisions}
-use Rattle.encoder.specs.declared.Counters.{Counters}
+use Rattle.state.specs.Layout.{held}
+use Rattle.encoder.specs.declared.State as encoder
 use Rattle.encoder.specs.Did.{is_full}
+use Rattle.encoder.specs.Does.{decisions_of}
 use Rattle.state.specs.Limits.{limits_of}
 use Rattle.encoder.proofs.Frames.{good_within}
-use Rattle.encoding.specs.Running.{Holds, RunDid}
+use Rattle.encoding.specs.Running.{Holds, IsHolding, RunsOnce}
 use Rattle.sheet.specs.Sheet.{Gives, CommandDid}
 use Rattle.beginning.proofs.Held.{any_reading, held_decisions, held_runs}
 use Rattle.sheet.proofs.Outcomes.{did_carried, did_refused}
@@ -61,31 +62,30 @@ module _ (l : Limits) (c : Catalogue) (level : ℕ) (s : State) where
 
 -- ---- of the areas
 
-module _ {c : Catalogue} {l : Limits} {n : Counters} {st : ℕ → List ℕ} {cl wt : List ℕ} (level : ℕ) {b : Bool}
-    (e : b ≡ (eqb level 0 || ltb level (last_level (decisions n.decisions st)))) where
-  low_as : {s : State} → Holds c l s n st cl wt → too_low level s ≡ b
+module _ {c : Catalogue} (x : encoder.State) {cl wt : List ℕ} (level : ℕ) {b : Bool} (e : b ≡ (eqb level 0 || ltb level (last_level (decisions_of x)))) where
+  low_as : {s : State} → IsHolding c s x cl wt → too_low level s ≡ b
   unfolding too_low
   low_as h = sym (rw (held_decisions h) at e)
 
-  pub run_low : b ≡ true → CommandDid c l (Command.run level) n st cl wt (Err LevelLow) st cl wt
-  run_low t = did_refused (λ s _ _ h. low_run l c level s (low_as h ∙ t))
+  pub run_low : b ≡ true → CommandDid c (Command.run level) x cl wt (Err LevelLow) x cl wt
+  run_low t = did_refused refl refl (λ s _ _ h. low_run x.limits c level s (low_as h ∙ t))
 
-  module _ {m : Counters} {st' : ℕ → List ℕ} {cl' wt' : List ℕ} (f : b ≡ false) (d : RunDid c l level n st cl wt m st' cl' wt') where
-    pub run_full_law : is_full m ≡ true → CommandDid c l (Command.run level) n st cl wt (Err RunFull) st' cl' wt'
-    run_full_law t = did_refused (λ s g r h. full_run l c level s (low_as h ∙ f) (d.over s g r h t))
+  module _ {x' : encoder.State} {cl' wt' : List ℕ} (f : b ≡ false) (d : RunsOnce c level x cl wt x' cl' wt') where
+    pub run_full_law : is_full x'.used ≡ true → CommandDid c (Command.run level) x cl wt (Err RunFull) x' cl' wt'
+    run_full_law t = did_refused d.limits d.area (λ s g r h. full_run x.limits c level s (low_as h ∙ f) (d.did.over s g r h t))
 
-    pub run_done : is_full m ≡ false → CommandDid c l (Command.run level) n st cl wt (Ok m) st' cl' wt'
-    run_done t = did_carried gives
+    pub run_done : is_full x'.used ≡ false → CommandDid c (Command.run level) x cl wt (Ok tt) x' cl' wt'
+    run_done t = did_carried d.limits d.area gives
       where
-        held_within : {s : State} → Holds c l s m st' cl' wt' → above (limits_of l) s ≡ false
-        held_within {s} h = sym (forget_above (limits_of l) s) ∙ (rw (h.is any_reading) at (good_within h.good any_reading))
+        held_within : {s : State} → Holds c x.limits s x'.used (held x.limits x'.area.now) cl' wt' → above (limits_of x.limits) s ≡ false
+        held_within {s} h = sym (forget_above (limits_of x.limits) s) ∙ (rw (h.is any_reading) at (good_within h.good any_reading))
 
-        gives : (s : State) → Given c → Reached (limits_of l) c s → Holds c l s n st cl wt → Gives c l (Command.run level) s n m st' cl' wt'
+        gives : (s : State) → Given c → Reached (limits_of x.limits) c s → IsHolding c s x cl wt → Gives c x.limits (Command.run level) s x.used x'.used (held x.limits x'.area.now) cl' wt'
         gives s g r h =
-            let y = d.done s g r h t in
+            let y = d.did.done s g r h t in
             record {
               state = run_once c level s;
-              is = carried_run l c level s (low_as h ∙ f) (held_within y);
+              is = carried_run x.limits c level s (low_as h ∙ f) (held_within y);
               holds = y;
               runs = omega (arith, held_runs y, held_runs h, run_counted r level);
             }

@@ -26,19 +26,20 @@ use Rattle.requirement.specs.Requirements.{goal_of}
 use Rattle.requirement.proofs.Laws.{goal_from_parts}
 use Rattle.clause.specs.Literals.{literal_of, signed}
 use Rattle.state.specs.declared.Limits.{Limits}
-use Rattle.variable_map.specs.Mapping.{variables}
-use Rattle.decision_tracker.specs.Tracking.{decisions, seen}
+use Rattle.decision_tracker.specs.Tracking.{seen}
 use Rattle.solver.specs.declared.Clause.{Clause}
 use Rattle.solver.specs.declared.Clause.TheVariants as clauses
 use Rattle.solver.specs.Clauses.{clause_row, literal_count}
 use Rattle.encoder.specs.declared.Counters.{Counters}
-use Rattle.encoder.specs.declared.Run as encoder
+use Rattle.encoder.specs.declared.Run as runs
+use Rattle.encoder.specs.declared.State as encoder
 use Rattle.encoder.specs.Held.{run_of, Reading, literals_in, state_of, Good}
 use Rattle.encoder.specs.Clauses.{candidate_variables, clause_is}
-use Rattle.encoder.specs.Did.{room_of, beyond, filled, is_full}
+use Rattle.encoder.specs.Did.{room_of, beyond, filled}
+use Rattle.encoder.specs.Does.{regions_of, variables_of, decisions_of}
 use Rattle.state.specs.Limits.{limits_of}
 use Rattle.encoder.proofs.Frames.{good_within}
-use Rattle.encoder.proofs.Did.{did_full, did_filled}
+use Rattle.encoder.proofs.Did.{did_full, did_filled, told_full}
 use Rattle.encoder.proofs.Widening.{add_clause_widens}
 use Rattle.storing.specs.declared.Outcome.{Outcome}
 use Rattle.storing.specs.declared.Outcome.TheVariants as outcomes
@@ -47,13 +48,12 @@ use Rattle.storing.proofs.Adding.{Does, Reports, row_reports, row_sets}
 
 -- ---- a clause without a goal
 
-pair_fits : (c : Catalogue) {l : Limits} {n : Counters} {st : ℕ → List ℕ} {bytes : ℕ} {pair : Clause} {k : rules.Clause} → IsPair pair k → CanAdd l n st bytes
-    → Fitting c l n st pair
-pair_fits c {n = n} {st = st} p h =
+pair_fits : (c : Catalogue) {x : encoder.State} {bytes : ℕ} {pair : Clause} {k : rules.Clause} → IsPair pair k → CanAdd x bytes → Fitting c x.limits x.used (regions_of x) pair
+pair_fits c {x} p h =
     record {
       room = omega (arith, h.literals, p.none);
       sound = λ i. record { stored = λ e. absurd (p.not_requires i e); named = λ e. absurd (p.not_requires i e); gated = λ e. absurd (p.not_gated i e) };
-      counted = ap condition_literals (p.clause c (variables n.variables st) (st 19)) ∙ (p.literals ∙ sym p.none);
+      counted = ap condition_literals (p.clause c (variables_of x) (regions_of x 19)) ∙ (p.literals ∙ sym p.none);
     }
 
 -- the run, if it is a conflict
@@ -61,18 +61,26 @@ run_if : (b : Bool) (x : ℕ) → unwrap_or (then_some b x) 0 ≡ cond b x 0
 run_if true x = refl
 run_if false x = refl
 
-module _ {l : Limits} {r : encoder.Run} {n m : Counters} {st : ℕ → List ℕ} {cl cl' : List ℕ} {pair : Clause} {bytes : ℕ} {k : rules.Clause}
-    (p : IsPair pair k) (h : CanAdd l n st bytes) where
-  pair_reports : {run : ℕ} (b : Bool) → (b ≡ true → 0 < r.number) → run ≡ cond b r.number 0 → Reports (run_of r) k (decisions n.decisions st) b
-      → Stores l pair run n cl m cl' → Adds l r k n st cl m st cl'
-  pair_reports b o e d g = record { is = λ c wt. row_reports r (λ vs. k) (pair_fits c p h) (λ vs. p.clause c vs (st 19)) b o e d g }
+module _ {r : runs.Run} {x x' : encoder.State} {cl cl' : List ℕ} {pair : Clause} {bytes : ℕ} {k : rules.Clause} (p : IsPair pair k) (h : CanAdd x bytes) where
+  pair_reports : {run : ℕ} (b : Bool) → (b ≡ true → 0 < r.number) → run ≡ cond b r.number 0 → Reports (run_of r) k (decisions_of x) b
+      → Stores pair run x cl x' cl' → Adds r k x cl x' cl'
+  pair_reports b o e d g =
+      record {
+        limits = g.limits;
+        area = g.area;
+        is = λ c wt. row_reports r (λ vs. k) (pair_fits c p h) (λ vs. p.clause c vs (regions_of x 19)) b o e d g;
+      }
 
-  pair_idle : Does (run_of r) k (decisions n.decisions st) (λ i u. u) → Stores l pair 0 n cl m cl' → Adds l r k n st cl m st cl'
+  pair_idle : Does (run_of r) k (decisions_of x) (λ i u. u) → Stores pair 0 x cl x' cl' → Adds r k x cl x' cl'
   pair_idle d g = pair_reports false (λ e. absurd (false≢true e)) refl (unfold when in d) g
 
-  pair_sets : (z : code.Literal) {st' : ℕ → List ℕ} → Does (run_of r) k (decisions n.decisions st) (λ i. force (run_of r) i (literal_of z))
-      → Sets l r pair z n st cl m st' cl' → Adds l r k n st cl m st' cl'
-  pair_sets z d g = record { is = λ c wt. row_sets r (λ vs. k) (pair_fits c p h) (λ vs. p.clause c vs (st 19)) z d g }
+  pair_sets : (z : code.Literal) → Does (run_of r) k (decisions_of x) (λ i. force (run_of r) i (literal_of z)) → Sets r pair z x cl x' cl' → Adds r k x cl x' cl'
+  pair_sets z d g =
+      record {
+        limits = g.limits;
+        area = g.area;
+        is = λ c wt. row_sets r (λ vs. k) (pair_fits c p h) (λ vs. p.clause c vs (regions_of x 19)) z d g;
+      }
 
 -- ---- clauses that only report
 
@@ -112,52 +120,50 @@ is_forbid : (x : ℕ) (z : code.Literal) → IsPair (clauses.Forbid x z) (forbid
 unfolding clause_is clause_row literal_count condition_literals
 is_forbid x z = record { not_requires = λ i e. omega arith; not_gated = λ i e. omega arith; clause = λ c vs w. refl; none = refl; literals = refl }
 
-module _ {l : Limits} {r : encoder.Run} {n m : Counters} {st : ℕ → List ℕ} {cl cl' : List ℕ} {bytes : ℕ} (h : CanAdd l n st bytes) where
-  pub lock_added : {x : ℕ} → Stores l (clauses.Lock x) 0 n cl m cl' → Adds l r (lock x) n st cl m st cl'
+module _ {r : runs.Run} {s s' : encoder.State} {cl cl' : List ℕ} {bytes : ℕ} (h : CanAdd s bytes) where
+  pub lock_added : {x : ℕ} → Stores (clauses.Lock x) 0 s cl s' cl' → Adds r (lock x) s cl s' cl'
   lock_added g = pair_idle (is_lock _) h (unfold effect in λ i u e. refl) g
 
   module _ (o : 0 < r.number) {conflict : Option ℕ} where
-    pub excluded_unknown : {x p : ℕ} {b unknown : Bool} {k : Clause} → Stores l k (unwrap_or conflict 0) n cl m cl' → k ≡ clauses.Unknown x p
-        → b ≡ is_true (decisions n.decisions st) x → conflict ≡ then_some b r.number → unknown ≡ true → Adds l r (excluded x p (reason_for unknown)) n st cl m st cl'
+    pub excluded_unknown : {x p : ℕ} {b unknown : Bool} {k : Clause} → Stores k (unwrap_or conflict 0) s cl s' cl' → k ≡ clauses.Unknown x p
+        → b ≡ is_true (decisions_of s) x → conflict ≡ then_some b r.number → unknown ≡ true → Adds r (excluded x p (reason_for unknown)) s cl s' cl'
     unfolding reason_for
     excluded_unknown {b = b} g q e f u = rw u (pair_reports (is_unknown _ _) h b (λ t. o) (rw f (run_if b r.number)) (unfold effect in λ j s d. rw (d, ← e)) (rw q at g))
 
-    pub excluded_else : {x p : ℕ} {b unknown : Bool} {k : Clause} → Stores l k (unwrap_or conflict 0) n cl m cl' → k ≡ clauses.Excluded x p
-        → b ≡ is_true (decisions n.decisions st) x → conflict ≡ then_some b r.number → unknown ≡ false → Adds l r (excluded x p (reason_for unknown)) n st cl m st cl'
+    pub excluded_else : {x p : ℕ} {b unknown : Bool} {k : Clause} → Stores k (unwrap_or conflict 0) s cl s' cl' → k ≡ clauses.Excluded x p
+        → b ≡ is_true (decisions_of s) x → conflict ≡ then_some b r.number → unknown ≡ false → Adds r (excluded x p (reason_for unknown)) s cl s' cl'
     unfolding reason_for
     excluded_else {b = b} g q e f u = rw u (pair_reports (is_excluded _ _) h b (λ t. o) (rw f (run_if b r.number)) (unfold effect in λ j s d. rw (d, ← e)) (rw q at g))
 
-    module _ {owner x : ℕ} {a b : Bool} (ea : a ≡ is_true (decisions n.decisions st) x) (eb : b ≡ is_false (decisions n.decisions st) owner)
+    module _ {owner x : ℕ} {a b : Bool} (ea : a ≡ is_true (decisions_of s) x) (eb : b ≡ is_false (decisions_of s) owner)
         (f : conflict ≡ then_some (a && not b) r.number) where
-      pub constrains_added : Stores l (clauses.Constrains owner x) (unwrap_or conflict 0) n cl m cl' → Adds l r (constrains owner x) n st cl m st cl'
+      pub constrains_added : Stores (clauses.Constrains owner x) (unwrap_or conflict 0) s cl s' cl' → Adds r (constrains owner x) s cl s' cl'
       constrains_added g = pair_reports (is_constrains _ _) h (a && not b) (λ t. o) (rw f (run_if (a && not b) r.number)) (unfold effect in λ j s d. rw (d, ← ea, ← eb)) g
 
-      pub aux_owner_added : Stores l (clauses.AuxOwner owner x) (unwrap_or conflict 0) n cl m cl' → Adds l r (aux_owner owner x) n st cl m st cl'
+      pub aux_owner_added : Stores (clauses.AuxOwner owner x) (unwrap_or conflict 0) s cl s' cl' → Adds r (aux_owner owner x) s cl s' cl'
       aux_owner_added g = pair_reports (is_aux_owner _ _) h (a && not b) (λ t. o) (rw f (run_if (a && not b) r.number)) (unfold effect in λ j s d. rw (d, ← ea, ← eb)) g
 
 -- ---- clauses that may set a literal
 
-module _ {l : Limits} {r : encoder.Run} {n m : Counters} {st : ℕ → List ℕ} {cl cl' : List ℕ} {bytes : ℕ} (h : CanAdd l n st bytes) where
-  module _ {x y : ℕ} {b : Bool} (e : b ≡ is_true (decisions n.decisions st) x) where
-    pub aux_out_sets : {z : code.Literal} {st' : ℕ → List ℕ} → Sets l r (clauses.AuxOut x y) z n st cl m st' cl' → literal_of z ≡ signed y true
-        → b ≡ true → Adds l r (aux_out x y) n st cl m st' cl'
+module _ {r : runs.Run} {s s' : encoder.State} {cl cl' : List ℕ} {bytes : ℕ} (h : CanAdd s bytes) where
+  module _ {x y : ℕ} {b : Bool} (e : b ≡ is_true (decisions_of s) x) where
+    pub aux_out_sets : {z : code.Literal} → Sets r (clauses.AuxOut x y) z s cl s' cl' → literal_of z ≡ signed y true → b ≡ true → Adds r (aux_out x y) s cl s' cl'
     aux_out_sets {z} g f t = pair_sets (is_aux_out _ _) h z (unfold effect when signed in λ j s d. rw (d, ← e, t, f)) g
 
-    pub aux_out_idle : Stores l (clauses.AuxOut x y) 0 n cl m cl' → b ≡ false → Adds l r (aux_out x y) n st cl m st cl'
+    pub aux_out_idle : Stores (clauses.AuxOut x y) 0 s cl s' cl' → b ≡ false → Adds r (aux_out x y) s cl s' cl'
     aux_out_idle g t = pair_idle (is_aux_out _ _) h (unfold effect when in λ j s d. rw (d, ← e, t)) g
 
-  module _ {x y : ℕ} {b : Bool} (e : b ≡ (is_true (decisions n.decisions st) x && leb r.before y)) where
-    pub any_one_sets : {z : code.Literal} {st' : ℕ → List ℕ} → Sets l r (clauses.AnyOne y x) z n st cl m st' cl' → literal_of z ≡ signed y true
-        → b ≡ true → Adds l r (any_one y x) n st cl m st' cl'
+  module _ {x y : ℕ} {b : Bool} (e : b ≡ (is_true (decisions_of s) x && leb r.before y)) where
+    pub any_one_sets : {z : code.Literal} → Sets r (clauses.AnyOne y x) z s cl s' cl' → literal_of z ≡ signed y true → b ≡ true → Adds r (any_one y x) s cl s' cl'
     any_one_sets {z} g f t = pair_sets (is_any_one _ _) h z (unfold effect when signed run_of in λ j s d. rw (d, ← e, t, f)) g
 
-    pub any_one_idle : Stores l (clauses.AnyOne y x) 0 n cl m cl' → b ≡ false → Adds l r (any_one y x) n st cl m st cl'
+    pub any_one_idle : Stores (clauses.AnyOne y x) 0 s cl s' cl' → b ≡ false → Adds r (any_one y x) s cl s' cl'
     any_one_idle g t = pair_idle (is_any_one _ _) h (unfold effect when run_of in λ j s d. rw (d, ← e, t)) g
 
 -- ---- a gate's own requires
 
-gated_fits : (c : Catalogue) (gate : ℕ) (q : Requirement) {l : Limits} {n : Counters} {st : ℕ → List ℕ} {k : ℕ} → CanAdd l n st k → AllNamed c n st (goal_of q)
-    → Fitting c l n st (clauses.Gated gate q)
+gated_fits : (c : Catalogue) (gate : ℕ) (q : Requirement) {x : encoder.State} {k : ℕ} → CanAdd x k → AllNamed c x (goal_of q)
+    → Fitting c x.limits x.used (regions_of x) (clauses.Gated gate q)
 unfolding clause_row clause_is literal_count condition_literals
 gated_fits c gate q h a =
     record {
@@ -170,19 +176,22 @@ gated_is : (c : Catalogue) (gate : ℕ) (q : Requirement) (vs : List Origin) (w 
 unfolding clause_is
 gated_is c gate q vs w = refl
 
-module _ {l : Limits} {r : encoder.Run} {n m : Counters} {st : ℕ → List ℕ} {cl cl' : List ℕ} {k gate : ℕ} {q : Requirement} {all : Bool} (h : CanAdd l n st k) where
-  pub gated_sets : {z : code.Literal} {st' : ℕ → List ℕ} → Sets l r (clauses.Gated gate q) z n st cl m st' cl' → literal_of z ≡ signed gate false → all ≡ true
-      → AddsGated l r gate (goal_of q) all n st cl m st' cl'
+module _ {r : runs.Run} {x x' : encoder.State} {cl cl' : List ℕ} {k gate : ℕ} {q : Requirement} {all : Bool} (h : CanAdd x k) where
+  pub gated_sets : {z : code.Literal} → Sets r (clauses.Gated gate q) z x cl x' cl' → literal_of z ≡ signed gate false → all ≡ true → AddsGated r gate (goal_of q) all x cl x' cl'
   gated_sets {z} g f t =
       record {
-        is = λ c wt a e. row_sets r (λ vs. gated gate (candidate_variables c vs (goal_of q))) (gated_fits c gate q h a) (λ vs. gated_is c gate q vs (st 19)) z
+        limits = g.limits;
+        area = g.area;
+        is = λ c wt a e. row_sets r (λ vs. gated gate (candidate_variables c vs (goal_of q))) {x = x} (gated_fits c gate q h a) (λ vs. gated_is c gate q vs (regions_of x 19)) z
             (unfold effect when signed in λ i s d. rw (d, ← e, t, f)) g;
       }
 
-  pub gated_idle : Stores l (clauses.Gated gate q) 0 n cl m cl' → all ≡ false → AddsGated l r gate (goal_of q) all n st cl m st cl'
+  pub gated_idle : Stores (clauses.Gated gate q) 0 x cl x' cl' → all ≡ false → AddsGated r gate (goal_of q) all x cl x' cl'
   gated_idle g t =
       record {
-        is = λ c wt a e. row_reports r (λ vs. gated gate (candidate_variables c vs (goal_of q))) (gated_fits c gate q h a) (λ vs. gated_is c gate q vs (st 19)) false
+        limits = g.limits;
+        area = g.area;
+        is = λ c wt a e. row_reports r (λ vs. gated gate (candidate_variables c vs (goal_of q))) {x = x} (gated_fits c gate q h a) (λ vs. gated_is c gate q vs (regions_of x 19)) false
             (λ q. absurd (false≢true q)) refl (unfold effect when in λ i s d. rw (d, ← e, t)) g;
       }
 
@@ -193,11 +202,11 @@ requires_is : (c : Catalogue) (owner start count : ℕ) (q : Requirement) (vs : 
 unfolding clause_is
 requires_is c owner start count q vs w ks e = rw e
 
-requires_fits : (c : Catalogue) (owner count : ℕ) (q : Requirement) {l : Limits} {n : Counters} {st : ℕ → List ℕ} {ks : List Literal}
-    → AllNamed c n st (goal_of q) → n.literals + count ≤ l.literals → literals_in (st 19) n.literals count ≡ ks → length ks ≡ count
-    → Fitting c l n st (clauses.Requires owner n.literals count q)
+requires_fits : (c : Catalogue) (owner count : ℕ) (q : Requirement) (x : encoder.State) {ks : List Literal}
+    → AllNamed c x (goal_of q) → x.used.literals + count ≤ x.limits.literals → literals_in (regions_of x 19) x.used.literals count ≡ ks → length ks ≡ count
+    → Fitting c x.limits x.used (regions_of x) (clauses.Requires owner x.used.literals count q)
 unfolding clause_row clause_is literal_count condition_literals
-requires_fits c owner count q a h e f =
+requires_fits c owner count q x a h e f =
     record {
       room = h;
       sound = λ i. record { stored = λ _. omega arith; named = λ _. rw goal_from_parts a; gated = λ _. rw goal_from_parts a };
@@ -221,29 +230,32 @@ longer : (l : Limits) (n : Counters) (k : rules.Clause) {count : ℕ} → condit
     → l.literals < n.literals + condition_literals k
 longer l n k e h = rw e h
 
-pub requires_full : {l : Limits} {r : encoder.Run} {n : Counters} {st : ℕ → List ℕ} {cl : List ℕ} {owner count : ℕ} {g : Goal} {all : Bool}
-    → is_full n ≡ true → AddsRequires l r owner count g all n st cl n cl
-requires_full f = record { is = λ c wt ks q a e d. did_full f (λ v s. add_clause_widens _ _ s) }
+module _ {r : runs.Run} {x : encoder.State} {cl : List ℕ} {owner count : ℕ} {all : Bool} where
+  pub requires_full : {g : Goal} → (x.used.full ≡ 0 → ⊥) → AddsRequires r owner count g all x cl x cl
+  requires_full f = record { limits = refl; area = refl; is = λ c wt ks q a e d. did_full (told_full f) (λ v s. add_clause_widens _ _ s) }
 
-pub requires_over : {l : Limits} {r : encoder.Run} {n m : Counters} {st : ℕ → List ℕ} {cl : List ℕ} {owner count : ℕ} {goal : Goal} {all : Bool}
-    → l.literals < n.literals + count → m ≡ filled n → AddsRequires l r owner count goal all n st cl m cl
-requires_over {l} {r} {n} {st = st} {cl = cl} {owner = owner} {goal = goal} h e =
-    rw e
-    (record {
-      is = λ c wt ks q a _ d. did_filled (λ v s. add_clause_widens _ _ s)
-          (λ g v. literals_over (run_of r) (requires owner ks (candidate_variables c (state_of c l v n st cl wt).variables goal)) v g
-          (longer l n (requires owner ks (candidate_variables c (state_of c l v n st cl wt).variables goal)) (more_literals owner ks _ ∙ q) h));
-    })
+  pub requires_over : {x' : encoder.State} {goal : Goal} → x'.limits ≡ x.limits → x'.area ≡ x.area → x.limits.literals < x.used.literals + count → x'.used ≡ filled x.used
+      → AddsRequires r owner count goal all x cl x' cl
+  requires_over {goal = goal} i j h e =
+      record {
+        limits = i;
+        area = rw j;
+        is = λ c wt ks q a _ d. rw (e, j) (did_filled (λ v s. add_clause_widens _ _ s)
+            (λ g v. literals_over (run_of r) (requires owner ks (candidate_variables c (state_of c x.limits v x.used (regions_of x) cl wt).variables goal)) v g
+            (longer x.limits x.used (requires owner ks (candidate_variables c (state_of c x.limits v x.used (regions_of x) cl wt).variables goal)) (more_literals owner ks _ ∙ q) h)));
+      }
 
-pub requires_stored : {l : Limits} {r : encoder.Run} {n m : Counters} {st : ℕ → List ℕ} {cl cl' : List ℕ} {owner count : ℕ} {goal : Requirement} {all b : Bool} {conflict : Option ℕ}
-    → n.literals + count ≤ l.literals → 0 < r.number → b ≡ is_false (decisions n.decisions st) owner → conflict ≡ then_some (all && not b) r.number
-    → Stores l (clauses.Requires owner n.literals count goal) (unwrap_or conflict 0) n cl m cl' → AddsRequires l r owner count (goal_of goal) all n st cl m cl'
-requires_stored {r = r} {n = n} {st = st} {owner = owner} {count = count} {goal = goal} {all = all} {b = b} h o e f g =
-    record {
-      is = λ c wt ks q a p d. row_reports r (λ vs. requires owner ks (candidate_variables c vs (goal_of goal))) (requires_fits c owner count goal a h (p h) q)
-          (λ vs. requires_is c owner n.literals count goal vs (st 19) ks (p h)) (all && not b) (λ _. o) (rw f (run_if (all && not b) r.number))
-          (unfold effect in λ i s u. rw (u, ← d h, ← e)) g;
-    }
+  pub requires_stored : {x' : encoder.State} {cl' : List ℕ} {goal : Requirement} {b : Bool} {conflict : Option ℕ}
+      → x.used.literals + count ≤ x.limits.literals → 0 < r.number → b ≡ is_false (decisions_of x) owner → conflict ≡ then_some (all && not b) r.number
+      → Stores (clauses.Requires owner x.used.literals count goal) (unwrap_or conflict 0) x cl x' cl' → AddsRequires r owner count (goal_of goal) all x cl x' cl'
+  requires_stored {goal = goal} {b = b} h o e f g =
+      record {
+        limits = g.limits;
+        area = g.area;
+        is = λ c wt ks q a p d. row_reports r (λ vs. requires owner ks (candidate_variables c vs (goal_of goal))) {x = x} (requires_fits c owner count goal x a h (p h) q)
+            (λ vs. requires_is c owner x.used.literals count goal vs (regions_of x 19) ks (p h)) (all && not b) (λ _. o) (rw f (run_if (all && not b) r.number))
+            (unfold effect in λ i s u. rw (u, ← d h, ← e)) g;
+      }
 
 -- ---- two literals
 
@@ -268,19 +280,19 @@ does : (r : Run) (ds : List Decision) (a b : Literal) (k : rules.Clause) {o p : 
 unfolding propagate outcome_in
 does r ds a b k f t e i s d = e i s ∙ (by_outcome r i _ _ a b s ∙ rw (d, ← f, t))
 
-module _ {l : Limits} {r : encoder.Run} {n m : Counters} {st : ℕ → List ℕ} {cl cl' : List ℕ} {pair : Clause} {bytes : ℕ} {a b : code.Literal} {o : Outcome}
-    (h : CanAdd l n st bytes) (f : o ≡ outcome_in (decisions n.decisions st) (literal_of a) (literal_of b)) where
-  pub pair_nothing : o ≡ outcomes.Nothing → Stores l pair 0 n cl m cl' → AddsPair l r pair a b n st cl m st cl'
+module _ {r : runs.Run} {x x' : encoder.State} {cl cl' : List ℕ} {pair : Clause} {bytes : ℕ} {a b : code.Literal} {o : Outcome}
+    (h : CanAdd x bytes) (f : o ≡ outcome_in (decisions_of x) (literal_of a) (literal_of b)) where
+  pub pair_nothing : o ≡ outcomes.Nothing → Stores pair 0 x cl x' cl' → AddsPair r pair a b x cl x' cl'
   pair_nothing t g = record { is = λ k p e. pair_idle p h (does (run_of r) _ (literal_of a) (literal_of b) k f t e) g }
 
-  pub pair_conflict : CanPair l r a b → o ≡ outcomes.Conflict → Stores l pair r.number n cl m cl' → AddsPair l r pair a b n st cl m st cl'
+  pub pair_conflict : CanPair x.limits r a b → o ≡ outcomes.Conflict → Stores pair r.number x cl x' cl' → AddsPair r pair a b x cl x' cl'
   unfolding when
   pair_conflict c t g = record { is = λ k p e. pair_reports p h true (λ _. c.run) refl (does (run_of r) _ (literal_of a) (literal_of b) k f t e) g }
 
-  pub pair_sets_first : {st' : ℕ → List ℕ} → o ≡ outcomes.SetsFirst → Sets l r pair a n st cl m st' cl' → AddsPair l r pair a b n st cl m st' cl'
+  pub pair_sets_first : o ≡ outcomes.SetsFirst → Sets r pair a x cl x' cl' → AddsPair r pair a b x cl x' cl'
   pair_sets_first t g = record { is = λ k p e. pair_sets p h a (does (run_of r) _ (literal_of a) (literal_of b) k f t e) g }
 
-  pub pair_sets_second : {st' : ℕ → List ℕ} → o ≡ outcomes.SetsSecond → Sets l r pair b n st cl m st' cl' → AddsPair l r pair a b n st cl m st' cl'
+  pub pair_sets_second : o ≡ outcomes.SetsSecond → Sets r pair b x cl x' cl' → AddsPair r pair a b x cl x' cl'
   pair_sets_second t g = record { is = λ k p e. pair_sets p h b (does (run_of r) _ (literal_of a) (literal_of b) k f t e) g }
 
 -- a literal's variable exists
@@ -288,19 +300,18 @@ pub made_exists : (l : Limits) (z : code.Literal) (x : ℕ) (b : Bool) → liter
 unfolding signed
 made_exists l z x b e h = rw e h
 
-pub forbid_can : {l : Limits} {r : encoder.Run} {a b : code.Literal} (x : ℕ) → 0 < r.number → literal_of a ≡ signed x false → x < l.variables
+pub forbid_can : {l : Limits} {r : runs.Run} {a b : code.Literal} (x : ℕ) → 0 < r.number → literal_of a ≡ signed x false → x < l.variables
     → (literal_of b).variable < l.variables → CanPair l r a b
 forbid_can {l} {a = a} x o e h k = record { run = o; first = made_exists l a x false e h; second = k }
 
-pub any_gate_can : {l : Limits} {r : encoder.Run} {a b : code.Literal} (x y : ℕ) → 0 < r.number → literal_of a ≡ signed x true → literal_of b ≡ signed y false
+pub any_gate_can : {l : Limits} {r : runs.Run} {a b : code.Literal} (x y : ℕ) → 0 < r.number → literal_of a ≡ signed x true → literal_of b ≡ signed y false
     → x < l.variables → y < l.variables → CanPair l r a b
 any_gate_can {l} {a = a} {b = b} x y o e f h k = record { run = o; first = made_exists l a x true e h; second = made_exists l b y false f k }
 
-module _ {l : Limits} {r : encoder.Run} {n m : Counters} {st st' : ℕ → List ℕ} {cl cl' : List ℕ} {x : ℕ} where
-  pub forbid_added : {a b : code.Literal} → AddsPair l r (clauses.Forbid x b) a b n st cl m st' cl' → literal_of a ≡ signed x false
-      → Adds l r (forbid x (literal_of b)) n st cl m st' cl'
+module _ {r : runs.Run} {s s' : encoder.State} {cl cl' : List ℕ} {x : ℕ} where
+  pub forbid_added : {a b : code.Literal} → AddsPair r (clauses.Forbid x b) a b s cl s' cl' → literal_of a ≡ signed x false → Adds r (forbid x (literal_of b)) s cl s' cl'
   forbid_added {b = b} g e = g.is (forbid x (literal_of b)) (is_forbid x b) (unfold effect signed in λ i s. rw e)
 
-  pub any_gate_added : {y : ℕ} {a b : code.Literal} → AddsPair l r (clauses.AnyGate x y) a b n st cl m st' cl' → literal_of a ≡ signed x true
-      → literal_of b ≡ signed y false → Adds l r (any_gate x y) n st cl m st' cl'
+  pub any_gate_added : {y : ℕ} {a b : code.Literal} → AddsPair r (clauses.AnyGate x y) a b s cl s' cl' → literal_of a ≡ signed x true
+      → literal_of b ≡ signed y false → Adds r (any_gate x y) s cl s' cl'
   any_gate_added {y} g e f = g.is (any_gate x y) (is_any_gate x y) (unfold effect signed in λ i s. rw (e, f))

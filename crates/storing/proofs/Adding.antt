@@ -17,27 +17,33 @@ use Rattle.rules.proofs.ClauseByClause.{add_clause}
 use Rattle.clause.specs.declared.Literal as code
 use Rattle.clause.specs.Literals.{literal_of}
 use Rattle.state.specs.declared.Limits.{Limits}
+use Rattle.state.specs.Layout.{held}
 use Rattle.variable_map.specs.Mapping.{variables}
-use Rattle.decision_tracker.specs.Tracking.{decisions}
 use Rattle.solver.specs.declared.Clause.{Clause}
 use Rattle.encoder.specs.declared.Counters.{Counters}
-use Rattle.encoder.specs.declared.Run as encoder
-use Rattle.encoder.specs.Held.{run_of, Reading, conflict_if, state_of, Good, LongEnough}
+use Rattle.encoder.specs.declared.Run as runs
+use Rattle.encoder.specs.declared.State as encoder
+use Rattle.encoder.specs.Held.{run_of, Reading, conflict_if, state_of, LongEnough}
 use Rattle.encoder.specs.Clauses.{clause_is}
 use Rattle.encoder.specs.Did.{room_of, Widens, Did, is_full}
+use Rattle.encoder.specs.Does.{ClausesDoes, IsGoodWith, regions_of, variables_of, decisions_of}
 use Rattle.encoder.proofs.Frames.{clauses_counted}
-use Rattle.encoder.proofs.Did.{widens_then, stays_beyond, did_as, did_then}
+use Rattle.encoder.proofs.Did.{widens_then, stays_beyond, did_as, did_then, told_full, told_going}
 use Rattle.encoder.proofs.Widening.{add_clause_widens}
-use Rattle.storing.specs.Adding.{with_clause, CanAdd, Fitting, Stores, Forces, Sets}
+use Rattle.storing.specs.Adding.{with_clause, CanAdd, CanForce, Fitting, Stores, Forces, Sets, Adds}
 use Rattle.storing.proofs.Storing.{with_clause_widens}
 use Rattle.storing.proofs.Setting.{force_widens}
 
 -- ---- for callers: between two steps a clause can be added
 
-pub good_can_add : {c : Catalogue} {l : Limits} {n : Counters} {st : ℕ → List ℕ} {cl wt : List ℕ} {k e : ℕ}
-    → Good c l n st cl wt → LongEnough l k e → CanAdd l n st k
+pub good_can_add : {c : Catalogue} {x : encoder.State} {cl wt : List ℕ} {k e : ℕ} → IsGoodWith c x cl wt → LongEnough x.limits k e → CanAdd x k
 good_can_add g h =
     record { kept = g.state.kept; clauses = g.clauses.room; literals = g.state.literals; most = h.most; long = h.clauses }
+
+-- and one that was added is a step
+pub adds_do : {c : Catalogue} {r : runs.Run} {k : rules.Clause} {x x' : encoder.State} {cl cl' : List ℕ} → Adds r k x cl x' cl'
+    → ClausesDoes c (λ v. add_clause (run_of r) k) x cl x' cl'
+adds_do {c} d = record { limits = d.limits; area = d.area; did = record { is = d.is c } }
 
 -- ---- a clause that is stored and then sets a literal
 
@@ -62,15 +68,32 @@ count_before : (c : Catalogue) (l : Limits) (v : Reading) (n : Counters) (st : �
 unfolding state_of
 count_before c l v n st cl wt = clauses_counted c (variables n.variables st) (st 19) n.clauses cl
 
-module _ {l : Limits} {r : encoder.Run} {k : Clause} {x : code.Literal} {n m : Counters} {st : ℕ → List ℕ} {cl cl' : List ℕ} where
-  pub setting_full : Stores l k 0 n cl m cl' → is_full m ≡ true → Sets l r k x n st cl m st cl'
-  setting_full g f = record { is = λ c wt p. did_part (g.is c st wt p) f (λ v s. force_widens _ _ _ _) }
+pub stored_can_force : {k : Clause} {z : code.Literal} {x x' : encoder.State} {cl cl' : List ℕ} {bytes : ℕ} → CanAdd x bytes → Stores k 0 x cl x' cl' → x'.used.full ≡ 0 → (literal_of z).variable < x.limits.variables → CanForce x' z
+stored_can_force h g f b =
+    record {
+      kept = rw (g.limits, g.same, g.decisions) h.kept;
+      some = omega (arith, g.count (told_going f));
+      few = omega (arith, g.room, h.most);
+      exists = rw g.limits b;
+    }
 
-  pub setting_more : {m' : Counters} {st' : ℕ → List ℕ} → Stores l k 0 n cl m cl' → is_full m ≡ false → Forces l r x m st m' st' → Sets l r k x n st cl m' st' cl'
+module _ {r : runs.Run} {k : Clause} {z : code.Literal} {x x' : encoder.State} {cl cl' : List ℕ} where
+  pub setting_full : Stores k 0 x cl x' cl' → (x'.used.full ≡ 0 → ⊥) → Sets r k z x cl x' cl'
+  setting_full g f =
+      record {
+        limits = g.limits;
+        area = g.area;
+        is = λ c wt p. rw g.same (did_part (g.is c (regions_of x) wt p) (told_full f) (λ v s. force_widens _ _ _ _));
+      }
+
+  pub setting_more : {x'' : encoder.State} → Stores k 0 x cl x' cl' → x'.used.full ≡ 0
+      → Forces r z x' x'' → Sets r k z x cl x'' cl'
   setting_more g f h =
       record {
-        is = λ c wt p. did_as (did_then (g.is c st wt p) (h.is c cl' wt)) (λ v s. widens_then (with_clause_widens _ _ s) (force_widens _ _ _ _))
-            (λ _ _ v. let e : m.clauses - 1 ≡ length (state_of c l v n st cl wt).clauses = omega (arith, g.count f, count_before c l v n st cl wt) in rw e);
+        limits = h.does.limits ∙ g.limits;
+        area = h.does.area ∙ g.area;
+        is = λ c wt p. did_as (did_then (g.is c (regions_of x) wt p) (rw (g.limits, g.same) at ((h.does.did c).is cl' wt))) (λ v s. widens_then (with_clause_widens _ _ s) (force_widens _ _ _ _))
+            (λ _ _ v. let e : x'.used.clauses - 1 ≡ length (state_of c x.limits v x.used (regions_of x) cl wt).clauses = omega (arith, g.count (told_going f), count_before c x.limits v x.used (regions_of x) cl wt) in rw e);
       }
 
 -- ---- clauses by what they do when they are made
@@ -107,18 +130,18 @@ module _ (r : Run) (k : rules.Clause) (s : State) where
   stored_sets x e = ap (force r (length s.clauses) x) plainly ∙ sym (e (length s.clauses) (set_clauses (snoc s.clauses k) s) refl)
 
 -- a clause that is K of the variables
-module _ {c : Catalogue} {l : Limits} (r : encoder.Run) {k : Clause} (K : List Origin → rules.Clause) {n m : Counters} {st : ℕ → List ℕ} {cl cl' wt : List ℕ}
-    (p : Fitting c l n st k) (is : (vs : List Origin) → clause_is c vs (st 19) k ≡ K vs) where
+module _ {c : Catalogue} (r : runs.Run) {k : Clause} (K : List Origin → rules.Clause) {x x' : encoder.State} {cl cl' wt : List ℕ}
+    (p : Fitting c x.limits x.used (regions_of x) k) (is : (vs : List Origin) → clause_is c vs (regions_of x 19) k ≡ K vs) where
   pub row_reports : {run : ℕ} (b : Bool) → (b ≡ true → 0 < r.number) → run ≡ cond b r.number 0
-      → Reports (run_of r) (K (variables n.variables st)) (decisions n.decisions st) b → Stores l k run n cl m cl'
-      → Did c l (λ v s. add_clause (run_of r) (K s.variables) s) n st cl wt m st cl' wt
+      → Reports (run_of r) (K (variables_of x)) (decisions_of x) b → Stores k run x cl x' cl'
+      → Did c x.limits (λ v s. add_clause (run_of r) (K s.variables) s) x.used (regions_of x) cl wt x'.used (held x.limits x'.area.now) cl' wt
   row_reports b h e d g =
-      did_as (g.is c st wt p) (λ v s. add_clause_widens _ _ s)
-      (λ _ _ v. rw (is, e) (unfold run_of state_of in stored_reports (run_of r) (K (variables n.variables st)) (state_of c l v n st cl wt) b h d))
+      rw g.same
+      (did_as (g.is c (regions_of x) wt p) (λ v s. add_clause_widens _ _ s)
+      (λ _ _ v. rw (is, e) (unfold run_of state_of in stored_reports (run_of r) (K (variables_of x)) (state_of c x.limits v x.used (regions_of x) cl wt) b h d)))
 
-  pub row_sets : (x : code.Literal) {st' : ℕ → List ℕ}
-      → Does (run_of r) (K (variables n.variables st)) (decisions n.decisions st) (λ i. force (run_of r) i (literal_of x)) → Sets l r k x n st cl m st' cl'
-      → Did c l (λ v s. add_clause (run_of r) (K s.variables) s) n st cl wt m st' cl' wt
-  row_sets x d g =
+  pub row_sets : (z : code.Literal) → Does (run_of r) (K (variables_of x)) (decisions_of x) (λ i. force (run_of r) i (literal_of z)) → Sets r k z x cl x' cl'
+      → Did c x.limits (λ v s. add_clause (run_of r) (K s.variables) s) x.used (regions_of x) cl wt x'.used (held x.limits x'.area.now) cl' wt
+  row_sets z d g =
       did_as (g.is c wt p) (λ v s. add_clause_widens _ _ s)
-      (λ _ _ v. rw is (unfold state_of in stored_sets (run_of r) (K (variables n.variables st)) (state_of c l v n st cl wt) (literal_of x) d))
+      (λ _ _ v. rw is (unfold state_of in stored_sets (run_of r) (K (variables_of x)) (state_of c x.limits v x.used (regions_of x) cl wt) (literal_of z) d))

@@ -27,13 +27,14 @@ use Rattle.solver.specs.declared.Clause.TheVariants as clauses
 use Rattle.solver.specs.Rows.{Row, rows}
 use Rattle.solver.specs.Clauses.{clause_row, literal_count}
 use Rattle.encoder.specs.declared.Counters.{Counters}
+use Rattle.encoder.specs.declared.State as encoder
 use Rattle.encoder.specs.Held.{Reading, conflict_if, conflicts_from, clause_in, clauses_in, opening_of, state_of, Sound, Good}
-use Rattle.encoder.specs.Did.{room_of, beyond, Widens, filled, is_full}
+use Rattle.encoder.specs.Did.{room_of, beyond, Widens, filled}
 use Rattle.state.specs.Limits.{limits_of}
 use Rattle.encoder.specs.Clauses.{clause_is}
 use Rattle.encoder.proofs.Clauses.{clause_row_is}
 use Rattle.encoder.proofs.Frames.{state_kept, clauses_counted}
-use Rattle.encoder.proofs.Did.{did_full, did_filled, did_made, beside_same}
+use Rattle.encoder.proofs.Did.{did_full, did_filled, did_made, beside_same, told_full}
 use Rattle.storing.specs.Adding.{with_clause, Fitting, Stores}
 
 conflicts_more : (i : ℕ) (rs : List Row) (r : Row) → conflicts_from i (snoc rs r) ≡ conflicts_from i rs ++ conflict_if r.conflict (i + length rs)
@@ -143,34 +144,42 @@ module _ (l : Limits) (n : Counters) (k : Clause) (run : ℕ) (cl : List ℕ) wh
           entries = g.entries;
         }
 
-module _ {l : Limits} {n : Counters} {k : Clause} {run : ℕ} {cl : List ℕ} where
-  pub store_full : n.clauses ≤ l.clauses → is_full n ≡ true → Stores l k run n cl n cl
+module _ {x : encoder.State} {k : Clause} {run : ℕ} {cl : List ℕ} where
+  pub store_full : x.used.clauses ≤ x.limits.clauses → (x.used.full ≡ 0 → ⊥) → Stores k run x cl x cl
   store_full h f =
       record {
+        limits = refl;
+        area = refl;
+        same = refl;
         decisions = refl;
         room = h;
-        count = λ e. absurd (true≢false (sym f ∙ e));
-        is = λ c st wt p. did_full f (λ v s. with_clause_widens _ _ s);
+        count = λ e. absurd (true≢false (sym (told_full f) ∙ e));
+        is = λ c st wt p. did_full (told_full f) (λ v s. with_clause_widens _ _ s);
       }
 
-  pub store_over : {m : Counters} → n.clauses ≤ l.clauses → l.clauses ≤ n.clauses → m ≡ filled n → Stores l k run n cl m cl
-  store_over h o e =
-      rw e
-      (record {
-        decisions = unfold filled in refl;
-        room = unfold filled in h;
-        count = λ f. absurd (true≢false (unfold filled in f));
-        is = λ c st wt p. did_filled (λ v s. with_clause_widens _ _ s) (λ g v. clauses_over l n k run cl c st wt o v);
-      })
+  module _ {x' : encoder.State} (i : x'.limits ≡ x.limits) (j : x'.area ≡ x.area) where
+    pub store_over : x.used.clauses ≤ x.limits.clauses → x.limits.clauses ≤ x.used.clauses → x'.used ≡ filled x.used → Stores k run x cl x' cl
+    store_over h o e =
+        record {
+          limits = i;
+          area = rw j;
+          same = rw j;
+          decisions = rw e (unfold filled in refl);
+          room = rw e (unfold filled in h);
+          count = λ f. absurd (true≢false (unfold filled in (rw e at f)));
+          is = λ c st wt p. rw e (did_filled (λ v s. with_clause_widens _ _ s) (λ g v. clauses_over x.limits x.used k run cl c st wt o v));
+        }
 
-  pub store_more : {cl' : List ℕ} {count literals : ℕ} {row : Row} → n.clauses < l.clauses → count ≡ n.clauses + 1 → rows count cl' ≡ snoc (rows n.clauses cl) row
-      → row ≡ clause_row k run → literals ≡ literal_count k → Stores l k run n cl (counting count (n.literals + literals) n) cl'
-  store_more h z e q d =
-      let a = rw q at e in
-      rw d
-      (record {
-        decisions = refl;
-        room = omega arith;
-        count = λ f. z;
-        is = λ c st wt p. did_made (λ v s. with_clause_widens _ _ s) refl (λ g. beside_same) refl refl (λ i. refl) (store_good l n k run cl _ _ a c st wt (omega arith) p) (λ g. store_state l n k run cl _ _ a c st wt);
-      })
+    pub store_more : {cl' : List ℕ} {count literals : ℕ} {row : Row} → x.used.clauses < x.limits.clauses → x'.used ≡ counting count (x.used.literals + literals) x.used
+        → count ≡ x.used.clauses + 1 → rows count cl' ≡ snoc (rows x.used.clauses cl) row → row ≡ clause_row k run → literals ≡ literal_count k → Stores k run x cl x' cl'
+    store_more h u z e q d =
+        let a = rw q at e in
+        record {
+          limits = i;
+          area = rw j;
+          same = rw j;
+          decisions = rw u;
+          room = rw u (omega arith);
+          count = λ f. rw u z;
+          is = λ c st wt p. rw (u, d) (did_made (λ v s. with_clause_widens _ _ s) refl (λ g. beside_same) refl refl (λ i. refl) (store_good x.limits x.used k run cl _ _ a c st wt (omega arith) p) (λ g. store_state x.limits x.used k run cl _ _ a c st wt));
+        }

@@ -14,25 +14,28 @@ use Rattle.rules.proofs.ClauseByClause.{add_clause}
 use Rattle.clause.specs.Literals.{literal_of}
 use Rattle.clause.specs.declared.Literal as code
 use Rattle.state.specs.declared.Limits.{Limits}
+use Rattle.state.specs.Layout.{held}
 use Rattle.variable_map.specs.Mapping.{variables}
-use Rattle.decision_tracker.specs.Tracking.{decisions, seen, Kept}
+use Rattle.decision_tracker.specs.Tracking.{seen}
 use Rattle.solver.specs.declared.Clause.{Clause}
 use Rattle.solver.specs.Clauses.{clause_row, literal_count}
 use Rattle.encoder.specs.declared.Counters.{Counters}
 use Rattle.encoder.specs.declared.Run.{Run}
+use Rattle.encoder.specs.declared.State as encoder
 use Rattle.encoder.specs.Held.{run_of, literals_in, conflict_if, Sound}
 use Rattle.encoder.specs.Clauses.{candidate_variables, clause_is}
 use Rattle.encoder.specs.Did.{Did, is_full}
+use Rattle.encoder.specs.Does.{PlainDoes, IsTracked, regions_of, variables_of, decisions_of}
 use Rattle.storing.specs.declared.Outcome.{Outcome}
 use Rattle.storing.specs.declared.Outcome.TheVariants as outcomes
 
--- Of n, what is used when a clause is added: the decisions, and room. `bytes`: the length of the clauses' area.
-pub record CanAdd (l : Limits) (n : Counters) (st : ℕ → List ℕ) (bytes : ℕ) : Type 0 where
-  pub kept : Kept l n.decisions st
-  pub clauses : n.clauses ≤ l.clauses
-  pub literals : n.literals ≤ l.literals
-  pub most : l.clauses ≤ 16384
-  pub long : l.clauses * 20 ≤ bytes
+-- Of the encoder's state, what is used when a clause is added: the decisions, and room. `bytes`: the length of the clauses' area.
+pub record CanAdd (x : encoder.State) (bytes : ℕ) : Type 0 where
+  pub kept : IsTracked x
+  pub clauses : x.used.clauses ≤ x.limits.clauses
+  pub literals : x.used.literals ≤ x.limits.literals
+  pub most : x.limits.clauses ≤ 16384
+  pub long : x.limits.clauses * 20 ≤ bytes
 
 unfoldable pub reason_for : (unknown : Bool) → Reason
 reason_for true = unknown_dependencies
@@ -48,35 +51,41 @@ pub record Fitting (c : Catalogue) (l : Limits) (n : Counters) (st : ℕ → Lis
   pub sound : (i : ℕ) → Sound c (variables n.variables st) (n.literals + literal_count k) (clause_row k i)
   pub counted : condition_literals (clause_is c (variables n.variables st) (st 19) k) ≡ literal_count k
 
--- The clause stands behind the others, or it is full. `run`: the run in which it is a conflict, or 0.
-pub record Stores (l : Limits) (k : Clause) (run : ℕ) (n : Counters) (cl : List ℕ) (n' : Counters) (cl' : List ℕ) : Type 0 where
-  pub decisions : n'.decisions ≡ n.decisions
-  pub room : n'.clauses ≤ l.clauses
-  pub count : is_full n' ≡ false → n'.clauses ≡ n.clauses + 1
-  pub is : (c : Catalogue) (st : ℕ → List ℕ) (wt : List ℕ) → Fitting c l n st k
-      → Did c l (λ v s. with_clause (clause_is c s.variables (st 19) k) run s) n st cl wt n' st cl' wt
+-- The clause stands behind the others, or it is full; the state's area stays as it was. `run`: the run in which it is a conflict, or 0.
+pub record Stores (k : Clause) (run : ℕ) (x : encoder.State) (cl : List ℕ) (x' : encoder.State) (cl' : List ℕ) : Type 0 where
+  pub limits : x'.limits ≡ x.limits
+  pub area : x'.area.ghost_name ≡ x.area.ghost_name
+  pub same : x'.area.now ≡ x.area.now
+  pub decisions : x'.used.decisions ≡ x.used.decisions
+  pub room : x'.used.clauses ≤ x.limits.clauses
+  pub count : is_full x'.used ≡ false → x'.used.clauses ≡ x.used.clauses + 1
+  pub is : (c : Catalogue) (st : ℕ → List ℕ) (wt : List ℕ) → Fitting c x.limits x.used st k
+      → Did c x.limits (λ v s. with_clause (clause_is c s.variables (st 19) k) run s) x.used st cl wt x'.used st cl' wt
 
 -- what is used when the last clause sets a literal
-pub record CanForce (l : Limits) (n : Counters) (st : ℕ → List ℕ) (x : code.Literal) : Type 0 where
-  pub kept : Kept l n.decisions st
-  pub some : 0 < n.clauses
-  pub few : n.clauses ≤ 16384
-  pub exists : (literal_of x).variable < l.variables
+pub record CanForce (x : encoder.State) (z : code.Literal) : Type 0 where
+  pub kept : IsTracked x
+  pub some : 0 < x.used.clauses
+  pub few : x.used.clauses ≤ 16384
+  pub exists : (literal_of z).variable < x.limits.variables
 
 -- the last clause sets a literal
-pub record Forces (l : Limits) (r : Run) (x : code.Literal) (n : Counters) (st : ℕ → List ℕ) (n' : Counters) (st' : ℕ → List ℕ) : Type 0 where
-  pub is : (c : Catalogue) (cl wt : List ℕ) → Did c l (λ v. force (run_of r) (n.clauses - 1) (literal_of x)) n st cl wt n' st' cl wt
+pub record Forces (r : Run) (z : code.Literal) (x x' : encoder.State) : Type 0 where
+  pub does : PlainDoes (λ c v. force (run_of r) (x.used.clauses - 1) (literal_of z)) x x'
 
 -- a clause is stored, and sets a literal
-pub record Sets (l : Limits) (r : Run) (k : Clause) (x : code.Literal)
-    (n : Counters) (st : ℕ → List ℕ) (cl : List ℕ) (n' : Counters) (st' : ℕ → List ℕ) (cl' : List ℕ) : Type 0 where
-  pub is : (c : Catalogue) (wt : List ℕ) → Fitting c l n st k
-      → Did c l (λ v s. force (run_of r) (length s.clauses) (literal_of x) (with_clause (clause_is c s.variables (st 19) k) 0 s))
-      n st cl wt n' st' cl' wt
+pub record Sets (r : Run) (k : Clause) (z : code.Literal) (x : encoder.State) (cl : List ℕ) (x' : encoder.State) (cl' : List ℕ) : Type 0 where
+  pub limits : x'.limits ≡ x.limits
+  pub area : x'.area.ghost_name ≡ x.area.ghost_name
+  pub is : (c : Catalogue) (wt : List ℕ) → Fitting c x.limits x.used (regions_of x) k
+      → Did c x.limits (λ v s. force (run_of r) (length s.clauses) (literal_of z) (with_clause (clause_is c s.variables (regions_of x 19) k) 0 s))
+      x.used (regions_of x) cl wt x'.used (held x.limits x'.area.now) cl' wt
 
 -- clause k is added in run r
-pub record Adds (l : Limits) (r : Run) (k : rules.Clause) (n : Counters) (st : ℕ → List ℕ) (cl : List ℕ) (n' : Counters) (st' : ℕ → List ℕ) (cl' : List ℕ) : Type 0 where
-  pub is : (c : Catalogue) (wt : List ℕ) → Did c l (λ v. add_clause (run_of r) k) n st cl wt n' st' cl' wt
+pub record Adds (r : Run) (k : rules.Clause) (x : encoder.State) (cl : List ℕ) (x' : encoder.State) (cl' : List ℕ) : Type 0 where
+  pub limits : x'.limits ≡ x.limits
+  pub area : x'.area.ghost_name ≡ x.area.ghost_name
+  pub is : (c : Catalogue) (wt : List ℕ) → Did c x.limits (λ v. add_clause (run_of r) k) x.used (regions_of x) cl wt x'.used (held x.limits x'.area.now) cl' wt
 
 -- what a clause of two literals does, by what the decisions say of them
 unfoldable pub outcome_of : (first second : Option Bool) → Outcome
@@ -106,28 +115,31 @@ pub record IsPair (pair : Clause) (k : rules.Clause) : Type 0 where
   pub literals : condition_literals k ≡ 0
 
 -- if the clause's two literals are a and b, it is added
-pub record AddsPair (l : Limits) (r : Run) (pair : Clause) (a b : code.Literal)
-    (n : Counters) (st : ℕ → List ℕ) (cl : List ℕ) (n' : Counters) (st' : ℕ → List ℕ) (cl' : List ℕ) : Type 0 where
+pub record AddsPair (r : Run) (pair : Clause) (a b : code.Literal) (x : encoder.State) (cl : List ℕ) (x' : encoder.State) (cl' : List ℕ) : Type 0 where
   pub is : (k : rules.Clause) → IsPair pair k → ((i : ℕ) (s : State) → effect (run_of r) i k s ≡ propagate (run_of r) i (literal_of a) (literal_of b) s)
-      → Adds l r k n st cl n' st' cl'
+      → Adds r k x cl x' cl'
 
 -- ---- of a goal whose candidates have variables
 
-abbrev pub AllNamed : Catalogue → Counters → (ℕ → List ℕ) → Goal → Type 0
-AllNamed c n st g = Each (λ p. known (variables n.variables st) (part_origin p) ≡ true) (candidates c g)
+abbrev pub AllNamed : Catalogue → encoder.State → Goal → Type 0
+AllNamed c x g = Each (λ p. known (variables_of x) (part_origin p) ≡ true) (candidates c g)
 
-abbrev pub false_now : Catalogue → Counters → (ℕ → List ℕ) → List Literal → Goal → Bool
-false_now c n st ks g = all_false (decisions n.decisions st) (ks ++ map pos (candidate_variables c (variables n.variables st) g))
+abbrev pub false_now : Catalogue → encoder.State → List Literal → Goal → Bool
+false_now c x ks g = all_false (decisions_of x) (ks ++ map pos (candidate_variables c (variables_of x) g))
 
 -- The condition literals ks are the `count` numbers behind those of the stored clauses, if there is room for them. `all`: all literals but the owner's are false.
-pub record AddsRequires (l : Limits) (r : Run) (owner count : ℕ) (g : Goal) (all : Bool)
-    (n : Counters) (st : ℕ → List ℕ) (cl : List ℕ) (n' : Counters) (cl' : List ℕ) : Type 0 where
-  pub is : (c : Catalogue) (wt : List ℕ) (ks : List Literal) → length ks ≡ count → AllNamed c n st g
-      → (n.literals + count ≤ l.literals → literals_in (st 19) n.literals count ≡ ks)
-      → (n.literals + count ≤ l.literals → all ≡ false_now c n st ks g)
-      → Did c l (λ v s. add_clause (run_of r) (requires owner ks (candidate_variables c s.variables g)) s) n st cl wt n' st cl' wt
+pub record AddsRequires (r : Run) (owner count : ℕ) (g : Goal) (all : Bool) (x : encoder.State) (cl : List ℕ) (x' : encoder.State) (cl' : List ℕ) : Type 0 where
+  pub limits : x'.limits ≡ x.limits
+  pub area : x'.area.ghost_name ≡ x.area.ghost_name
+  pub is : (c : Catalogue) (wt : List ℕ) (ks : List Literal) → length ks ≡ count → AllNamed c x g
+      → (x.used.literals + count ≤ x.limits.literals → literals_in (regions_of x 19) x.used.literals count ≡ ks)
+      → (x.used.literals + count ≤ x.limits.literals → all ≡ false_now c x ks g)
+      → Did c x.limits (λ v s. add_clause (run_of r) (requires owner ks (candidate_variables c s.variables g)) s)
+      x.used (regions_of x) cl wt x'.used (held x.limits x'.area.now) cl' wt
 
-pub record AddsGated (l : Limits) (r : Run) (gate : ℕ) (g : Goal) (all : Bool)
-    (n : Counters) (st : ℕ → List ℕ) (cl : List ℕ) (n' : Counters) (st' : ℕ → List ℕ) (cl' : List ℕ) : Type 0 where
-  pub is : (c : Catalogue) (wt : List ℕ) → AllNamed c n st g → all ≡ false_now c n st [] g
-      → Did c l (λ v s. add_clause (run_of r) (gated gate (candidate_variables c s.variables g)) s) n st cl wt n' st' cl' wt
+pub record AddsGated (r : Run) (gate : ℕ) (g : Goal) (all : Bool) (x : encoder.State) (cl : List ℕ) (x' : encoder.State) (cl' : List ℕ) : Type 0 where
+  pub limits : x'.limits ≡ x.limits
+  pub area : x'.area.ghost_name ≡ x.area.ghost_name
+  pub is : (c : Catalogue) (wt : List ℕ) → AllNamed c x g → all ≡ false_now c x [] g
+      → Did c x.limits (λ v s. add_clause (run_of r) (gated gate (candidate_variables c s.variables g)) s)
+      x.used (regions_of x) cl wt x'.used (held x.limits x'.area.now) cl' wt

@@ -19,12 +19,11 @@ use Rattle.rules.proofs.Each.{each_out}
 use Rattle.rules.proofs.Member.{all_out, up_to_in}
 use Rattle.rules.proofs.AtMostOne.{helpers_least}
 use Rattle.rules.proofs.Capped.{add_variable}
-use Rattle.state.specs.declared.Limits.{Limits}
-use Rattle.state.specs.Layout.{held, Fits}
 use Rattle.state.proofs.Rows.{rows_more}
 use Rattle.variable_map.specs.Mapping.{in_tables}
-use Rattle.encoder.specs.declared.Counters.{Counters}
-use Rattle.encoder.specs.Did.{Looked, PlainDid}
+use Rattle.encoder.specs.declared.State.{State}
+use Rattle.encoder.specs.Did.{Looked}
+use Rattle.encoder.specs.Does.{PlainDoes}
 use Rattle.tracking.specs.Joining.{NamesAll, GoodAny, first_helpers, join_origins, helper_variables, HelpersKnown}
 use Rattle.tracking.proofs.Steps.{any_named, names_none, names_more, names_first}
 
@@ -79,32 +78,27 @@ unfolding first_helpers
 helpers_more name j = rows_more (forbid name) j
 
 -- the loop at helper j
-pub record Naming (l : Limits) (name h : ℕ) (n₀ : Counters) (b₀ b : List ℕ) (n : Counters) (j : ℕ) : Type 0 where
-  pub fits : Fits l (length b)
-  pub same : length b ≡ length b₀
-  pub good : GoodAny l n (held l b)
+pub record Naming (name h : ℕ) (x₀ x : State) (j : ℕ) : Type 0 where
+  pub good : GoodAny x
   pub within : j ≤ h
-  pub did : NamesAll l (first_helpers name j) n₀ (held l b₀) n (held l b)
+  pub did : NamesAll (first_helpers name j) x₀ x
 
-pub naming_start : (l : Limits) (name h : ℕ) (n : Counters) (b : List ℕ) → Fits l (length b) → GoodAny l n (held l b) → Naming l name h n b b n 0
-naming_start l name h n b f g = record { fits = f; same = refl; good = g; within = zero-le; did = unfold first_helpers up_to in names_none }
+pub naming_start : (name h : ℕ) (x : State) → GoodAny x → Naming name h x x 0
+naming_start name h x g = record { good = g; within = zero-le; did = unfold first_helpers up_to in names_none }
 
-module _ {l : Limits} {name h : ℕ} {n₀ n : Counters} {b₀ b : List ℕ} {j : ℕ} (x : Naming l name h n₀ b₀ b n j) where
-  pub naming_step : (n' : Counters) (b' : List ℕ) → j < h → length b' ≡ length b
-      → PlainDid l (λ c v. add_variable (forbid name j)) n (held l b) n' (held l b') → Naming l name h n₀ b₀ b' n' (j + 1)
-  naming_step n' b' k q d =
+module _ {name h : ℕ} {x₀ x : State} {j : ℕ} (n : Naming name h x₀ x j) where
+  pub naming_step : (x' : State) → j < h → PlainDoes (λ c v. add_variable (forbid name j)) x x' → Naming name h x₀ x' (j + 1)
+  naming_step x' k d =
       record {
-        fits = rw q x.fits;
-        same = q ∙ x.same;
-        good = any_named (forbid name j) x.good d;
+        good = any_named (forbid name j) n.good d;
         within = omega arith;
-        did = rw (helpers_more name j) (names_more (forbid name j) x.did d);
+        did = rw (helpers_more name j) (names_more (forbid name j) n.did d);
       }
 
-  pub naming_end : h ≤ j → NamesAll l (first_helpers name h) n₀ (held l b₀) n (held l b)
+  pub naming_end : h ≤ j → NamesAll (first_helpers name h) x₀ x
   naming_end k =
-      let e : h ≡ j = omega (arith, x.within) in
-      rw e x.did
+      let e : h ≡ j = omega (arith, n.within) in
+      rw e n.did
 
 -- ---- their variables
 
@@ -138,7 +132,7 @@ module _ {vs : List Origin} {name h : ℕ} {ys : List ℕ} {j : ℕ} (t : Gather
 
 -- ---- a part and its helpers
 
-pub joins_named : {l : Limits} {n n' n'' : Counters} {st st' st'' : ℕ → List ℕ} (name p h : ℕ)
-    → PlainDid l (λ c v. add_variable (part_origin p)) n st n' st' → NamesAll l (first_helpers name h) n' st' n'' st'' → NamesAll l (join_origins name p h) n st n'' st''
+pub joins_named : {x x' x'' : State} (name p h : ℕ)
+    → PlainDoes (λ c v. add_variable (part_origin p)) x x' → NamesAll (first_helpers name h) x' x'' → NamesAll (join_origins name p h) x x''
 unfolding join_origins
 joins_named name p h a b = names_first (part_origin p) a b

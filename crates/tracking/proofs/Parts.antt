@@ -19,19 +19,18 @@ use Rattle.rules.proofs.Each.{each_at}
 use Rattle.tables.specs.declared.Counts.{Counts}
 use Rattle.tables.specs.Tables.{tables}
 use Rattle.clause.specs.Literals.{signed}
-use Rattle.state.specs.declared.Limits.{Limits}
-use Rattle.state.specs.Layout.{held, Fits}
 use Rattle.state.proofs.Sizes.{length_fixed}
-use Rattle.variable_map.specs.Mapping.{in_tables, variables, Mapped, AllKnown}
+use Rattle.variable_map.specs.Mapping.{in_tables, AllKnown}
 use Rattle.variable_map.proofs.Laws as variables
-use Rattle.marked.specs.Marked.{listed, Marked}
+use Rattle.marked.specs.Marked.{Marked}
 use Rattle.marked.proofs.Laws.{length_listed, at_low}
-use Rattle.encoder.specs.declared.Counters.{Counters}
 use Rattle.encoder.specs.declared.Run.{Run}
+use Rattle.encoder.specs.declared.State.{State}
 use Rattle.encoder.specs.Held.{LongEnough}
 use Rattle.encoder.specs.Did.{Looked, is_full}
+use Rattle.encoder.specs.Does.{IsMapped, regions_of, variables_of}
 use Rattle.storing.specs.Adding.{Adds}
-use Rattle.tracking.specs.Joining.{AddsAll, GoodSome, part_name, of_name, variables_of, variable_at, IsAt, any_clauses}
+use Rattle.tracking.specs.Joining.{AddsAll, GoodSome, part_name, of_name, tracked_in, tracked_variables, variable_at, IsAt, any_clauses}
 use Rattle.tracking.proofs.Steps.{Adding, adding_start, adding_step, adding_stop, adding_end, some_good, some_tracked, some_after, Areas, areas_start, areas_then, Same, same_tracked, clause_same, known_same}
 
 -- ---- a place
@@ -50,173 +49,166 @@ module _ (k : Counts) (t : List ℕ) (name : ℕ) (ps : List ℕ) (i : ℕ) wher
   unfolding of_name filter
   name_none h = rw (drop_of_length-le ps h)
 
-pub is_of : (k : Counts) (t : List ℕ) (count : ℕ) (st : ℕ → List ℕ) (name at p a : ℕ) → p ≡ get_or (listed count 10 st) at 0 → a ≡ (get_or (tables k t).parts p no_part).name
-    → eqb a name ≡ eqb (part_name k t (get_or (listed count 10 st) at 0)) name
+pub is_of : (k : Counts) (t : List ℕ) (ps : List ℕ) (name at p a : ℕ) → p ≡ get_or ps at 0 → a ≡ (get_or (tables k t).parts p no_part).name
+    → eqb a name ≡ eqb (part_name k t (get_or ps at 0)) name
 unfolding part_name
-is_of k t count st name at p a e d = rw (← e, d)
+is_of k t ps name at p a e d = rw (← e, d)
 
 -- ---- the variable at a place
 
-module _ (l : Limits) (n : Counters) (b : List ℕ) (at p : ℕ) (f : Fits l (length b)) (w : Marked 10 11 n.tracked (held l b)) (h : at < n.tracked)
-    (e : p ≡ get_or (listed n.tracked 10 (held l b)) at 0) where
+module _ (x : State) (at p : ℕ) (w : Marked 10 11 x.used.tracked (regions_of x)) (h : at < x.used.tracked) (e : p ≡ get_or (tracked_in x) at 0) where
   pub place_low : in_tables (part_origin p) ≡ true
   unfolding in_tables
   place_low =
       let low = at_low w at p h e in
-      lt-ltb p 1024 (omega (arith, low, length_fixed l b 11 (omega arith) f))
+      lt-ltb p 1024 (omega (arith, low, length_fixed x.limits x.area.now 11 (omega arith) x.fits))
 
-  pub place_is : {x : ℕ} → Mapped l n.variables (held l b) → AllKnown (variables n.variables (held l b)) (listed n.tracked 10 (held l b))
-      → Looked (variables n.variables (held l b)) (part_origin p) x → IsAt l n (held l b) at x
+  pub place_is : {v : ℕ} → IsMapped x → AllKnown (variables_of x) (tracked_in x) → Looked (variables_of x) (part_origin p) v → IsAt x at v
   unfolding variable_at
   place_is m k y =
-      let vs = variables n.variables (held l b) in
+      let vs = variables_of x in
       let there : known vs (part_origin p) ≡ true = rw e (each_at k.known at 0 (omega (arith, length_listed w))) in
-      record { is = y.is there ∙ rw e; below = omega (arith, y.below there, variables.count n.variables (held l b), m.room) }
+      record { is = y.is there ∙ rw e; below = omega (arith, y.below there, variables.count x.used.variables (regions_of x), m.room) }
 
 -- ---- a clause for it
 
-pub agree_added : (l : Limits) (r : Run) (n n' : Counters) (st st' : ℕ → List ℕ) (cl cl' : List ℕ) (x y : ℕ) (b : Bool) (z : Literal)
-    → z ≡ signed y b → Adds l r (forbid x z) n st cl n' st' cl' → Adds l r (agrees x y b) n st cl n' st' cl'
+pub agree_added : (r : Run) (s s' : State) (cl cl' : List ℕ) (x y : ℕ) (b : Bool) (z : Literal)
+    → z ≡ signed y b → Adds r (forbid x z) s cl s' cl' → Adds r (agrees x y b) s cl s' cl'
 unfolding signed
-agree_added l r n n' st st' cl cl' x y b z g a = rw g at a
+agree_added r s s' cl cl' x y b z g a = rw g at a
 
 -- ---- a walk over them, with a clause for each: `rest` are the clauses of those that are left, by their variables
 
-pub record Walking (k : Counts) (t : List ℕ) (l : Limits) (r : Run) (name : ℕ) (all : List Clause) (rest : List ℕ → List Clause)
-    (n₀ : Counters) (b₀ cl₀ b cl : List ℕ) (n : Counters) (at : ℕ) : Type 0 where
-  pub areas : Areas l b₀ cl₀ b cl
-  pub good : GoodSome l n (held l b) cl
-  pub count : n.tracked ≡ n₀.tracked
-  pub few : n.tracked ≤ 1025
-  pub known : AllKnown (variables n.variables (held l b)) (listed n.tracked 10 (held l b))
-  pub did : Adding l r all (rest (map (part_variable (variables n.variables (held l b))) (of_name k t name (drop at (listed n.tracked 10 (held l b))))))
-      n₀ (held l b₀) cl₀ n (held l b) cl
+pub record Walking (k : Counts) (t : List ℕ) (r : Run) (name : ℕ) (all : List Clause) (rest : List ℕ → List Clause) (x₀ : State) (cl₀ : List ℕ) (x : State) (cl : List ℕ)
+    (at : ℕ) : Type 0 where
+  pub areas : Areas x₀ x cl
+  pub good : GoodSome x cl
+  pub count : x.used.tracked ≡ x₀.used.tracked
+  pub few : x.used.tracked ≤ 1025
+  pub known : AllKnown (variables_of x) (tracked_in x)
+  pub did : Adding r all (rest (map (part_variable (variables_of x)) (of_name k t name (drop at (tracked_in x))))) x₀ cl₀ x cl
 
-some_few : {l : Limits} {n : Counters} {st : ℕ → List ℕ} {cl : List ℕ} → GoodSome l n st cl → n.tracked ≤ 1025
+some_few : {x : State} {cl : List ℕ} → GoodSome x cl → x.used.tracked ≤ 1025
 some_few g = let w = some_tracked g in omega (arith, w.most, w.short)
 
-walking_start : {k : Counts} {t : List ℕ} {l : Limits} {r : Run} {name : ℕ} (rest : List ℕ → List Clause) {n : Counters} (b : List ℕ) {cl : List ℕ}
-    → Fits l (length b) → LongEnough l (length cl) 16384 → GoodSome l n (held l b) cl
-    → AllKnown (variables n.variables (held l b)) (listed n.tracked 10 (held l b))
-    → Walking k t l r name (rest (variables_of k t n (held l b) name)) rest n b cl b cl n 0
-unfolding variables_of
-walking_start rest b f h g q = record { areas = areas_start f h; good = g; count = refl; few = some_few g; known = q; did = adding_start }
+walking_start : {k : Counts} {t : List ℕ} {r : Run} {name : ℕ} (rest : List ℕ → List Clause) {x : State} {cl : List ℕ}
+    → LongEnough x.limits (length cl) 16384 → GoodSome x cl → AllKnown (variables_of x) (tracked_in x)
+    → Walking k t r name (rest (tracked_variables k t x name)) rest x cl x cl 0
+unfolding tracked_variables
+walking_start rest h g q = record { areas = areas_start h; good = g; count = refl; few = some_few g; known = q; did = adding_start }
 
-module _ {k : Counts} {t : List ℕ} {l : Limits} {r : Run} {name : ℕ} {all : List Clause} {rest : List ℕ → List Clause} {n₀ : Counters} {b₀ cl₀ b cl : List ℕ}
-    {n : Counters} {at : ℕ} (x : Walking k t l r name all rest n₀ b₀ cl₀ b cl n at) where
-  walking_end : n₀.tracked ≤ at → rest [] ≡ [] → AddsAll l r all n₀ (held l b₀) cl₀ n (held l b) cl
+module _ {k : Counts} {t : List ℕ} {r : Run} {name : ℕ} {all : List Clause} {rest : List ℕ → List Clause} {x₀ x : State} {cl₀ cl : List ℕ}
+    {at : ℕ} (w : Walking k t r name all rest x₀ cl₀ x cl at) where
+  pub walking_place : at < x₀.used.tracked → at < x.used.tracked
+  walking_place h = rw w.count h
+
+  walking_end : x₀.used.tracked ≤ at → rest [] ≡ [] → AddsAll r all x₀ cl₀ x cl
   walking_end h e =
-      let none = name_none k t name (listed n.tracked 10 (held l b)) at (omega (arith, x.count, length_listed (some_tracked x.good))) in
-      adding_end (rw (← e) (rw none at x.did))
+      let none = name_none k t name (tracked_in x) at (omega (arith, w.count, length_listed (some_tracked w.good))) in
+      adding_end (rw (← e) (rw none at w.did))
 
-  module _ (h : at < n₀.tracked) {q : Bool} (e : q ≡ eqb (part_name k t (get_or (listed n₀.tracked 10 (held l b)) at 0)) name) where
-    place : at < length (listed n.tracked 10 (held l b))
-    place = omega (arith, x.count, length_listed (some_tracked x.good))
+  module _ (h : at < x₀.used.tracked) {q : Bool} (e : q ≡ eqb (part_name k t (get_or (tracked_in x) at 0)) name) where
+    place : at < length (tracked_in x)
+    place = omega (arith, w.count, length_listed (some_tracked w.good))
 
     -- a part of another name is passed
-    walking_pass : q ≡ false → Walking k t l r name all rest n₀ b₀ cl₀ b cl n (at + 1)
+    walking_pass : q ≡ false → Walking k t r name all rest x₀ cl₀ x cl (at + 1)
     walking_pass i =
-        let other : eqb (part_name k t (get_or (listed n.tracked 10 (held l b)) at 0)) name ≡ false = rw x.count (sym e ∙ i) in
         record {
-          areas = x.areas;
-          good = x.good;
-          count = x.count;
-          few = x.few;
-          known = x.known;
-          did = rw (name_past k t name (listed n.tracked 10 (held l b)) at place (eqb-false _ name other)) at x.did;
+          areas = w.areas;
+          good = w.good;
+          count = w.count;
+          few = w.few;
+          known = w.known;
+          did = rw (name_past k t name (tracked_in x) at place (eqb-false _ name (sym e ∙ i))) at w.did;
         }
 
-    module _ (i : q ≡ true) (rest' : List ℕ → List Clause) {j : Clause} {n' : Counters} (b' : List ℕ) {cl' : List ℕ}
-        (a : Adds l r j n (held l b) cl n' (held l b') cl') (s : (xs : List ℕ) → rest (variable_at n (held l b) at ∷ xs) ≡ j ∷ rest' xs) where
-      here : part_name k t (get_or (listed n.tracked 10 (held l b)) at 0) ≡ name
-      here = eqb-true _ name (rw x.count (sym e ∙ i))
+    module _ (i : q ≡ true) (rest' : List ℕ → List Clause) {j : Clause} {x' : State} {cl' : List ℕ}
+        (a : Adds r j x cl x' cl') (s : (vs : List ℕ) → rest (variable_at x at ∷ vs) ≡ j ∷ rest' vs) where
+      here : part_name k t (get_or (tracked_in x) at 0) ≡ name
+      here = eqb-true _ name (sym e ∙ i)
 
-      left_is : map (part_variable (variables n.variables (held l b))) (of_name k t name (drop at (listed n.tracked 10 (held l b))))
-          ≡ variable_at n (held l b) at ∷ map (part_variable (variables n.variables (held l b))) (of_name k t name (drop (at + 1) (listed n.tracked 10 (held l b))))
+      left_is : map (part_variable (variables_of x)) (of_name k t name (drop at (tracked_in x)))
+          ≡ variable_at x at ∷ map (part_variable (variables_of x)) (of_name k t name (drop (at + 1) (tracked_in x)))
       unfolding variable_at
-      left_is = rw (name_here k t name (listed n.tracked 10 (held l b)) at place here)
+      left_is = rw (name_here k t name (tracked_in x) at place here)
 
-      stepped : Adding l r all (rest' (map (part_variable (variables n.variables (held l b))) (of_name k t name (drop (at + 1) (listed n.tracked 10 (held l b))))))
-          n₀ (held l b₀) cl₀ n' (held l b') cl'
-      stepped = adding_step (rw (left_is, s) at x.did) a
+      stepped : Adding r all (rest' (map (part_variable (variables_of x)) (of_name k t name (drop (at + 1) (tracked_in x))))) x₀ cl₀ x' cl'
+      stepped = adding_step (rw (left_is, s) at w.did) a
 
-      walking_stop : is_full n' ≡ true → AddsAll l r all n₀ (held l b₀) cl₀ n' (held l b') cl'
+      walking_stop : is_full x'.used ≡ true → AddsAll r all x₀ cl₀ x' cl'
       walking_stop f = adding_stop stepped f
 
-      walking_step : is_full n' ≡ false → length b' ≡ length b → length cl' ≡ length cl → Walking k t l r name all rest' n₀ b₀ cl₀ b' cl' n' (at + 1)
-      walking_step f u v =
-          let z : Same n (held l b) n' (held l b') = clause_same a (some_good x.good) f in
-          let g = some_after x.good a in
+      walking_step : is_full x'.used ≡ false → length cl' ≡ length cl → Walking k t r name all rest' x₀ cl₀ x' cl' (at + 1)
+      walking_step f v =
+          let z : Same x x' = clause_same a (some_good w.good) f in
+          let g = some_after w.good a in
           record {
-            areas = areas_then x.areas u v;
+            areas = areas_then w.areas a.limits v;
             good = g;
-            count = same_tracked z (some_tracked x.good) (some_tracked g) ∙ x.count;
+            count = same_tracked z (some_tracked w.good) (some_tracked g) ∙ w.count;
             few = some_few g;
-            known = known_same z x.known;
+            known = known_same z w.known;
             did = rw (z.variables, z.tracked) stepped;
           }
 
 -- ---- a helper's clauses
 
-pub record Helping (k : Counts) (t : List ℕ) (l : Limits) (r : Run) (name y j : ℕ) (n₀ : Counters) (b₀ cl₀ b cl : List ℕ) (n : Counters) (i at : ℕ) : Type 0 where
+pub record Helping (k : Counts) (t : List ℕ) (r : Run) (name y j : ℕ) (x₀ : State) (cl₀ : List ℕ) (x : State) (cl : List ℕ) (i at : ℕ) : Type 0 where
   pub few : i ≤ at
-  pub walk : Walking k t l r name (helper_clauses y j 0 (variables_of k t n₀ (held l b₀) name)) (helper_clauses y j i) n₀ b₀ cl₀ b cl n at
+  pub walk : Walking k t r name (helper_clauses y j 0 (tracked_variables k t x₀ name)) (helper_clauses y j i) x₀ cl₀ x cl at
 
-pub helping_start : (k : Counts) (t : List ℕ) (l : Limits) (r : Run) (name y j : ℕ) (n : Counters) (b cl : List ℕ)
-    → Fits l (length b) → LongEnough l (length cl) 16384 → GoodSome l n (held l b) cl
-    → AllKnown (variables n.variables (held l b)) (listed n.tracked 10 (held l b)) → Helping k t l r name y j n b cl b cl n 0 0
-helping_start k t l r name y j n b cl f h g q = record { few = zero-le; walk = walking_start (helper_clauses y j 0) b f h g q }
+pub helping_start : (k : Counts) (t : List ℕ) (r : Run) (name y j : ℕ) (x : State) (cl : List ℕ)
+    → LongEnough x.limits (length cl) 16384 → GoodSome x cl → AllKnown (variables_of x) (tracked_in x) → Helping k t r name y j x cl x cl 0 0
+helping_start k t r name y j x cl h g q = record { few = zero-le; walk = walking_start (helper_clauses y j 0) h g q }
 
 next_helper : (y j i v : ℕ) (xs : List ℕ) → helper_clauses y j i (v ∷ xs) ≡ agrees v y (bit j i) ∷ helper_clauses y j (i + 1) xs
 unfolding helper_clauses
 next_helper y j i v xs = rw add-one
 
-module _ {k : Counts} {t : List ℕ} {l : Limits} {r : Run} {name y j : ℕ} {n₀ : Counters} {b₀ cl₀ b cl : List ℕ} {n : Counters} {i at : ℕ}
-    (x : Helping k t l r name y j n₀ b₀ cl₀ b cl n i at) where
-  pub helping_end : n₀.tracked ≤ at → AddsAll l r (helper_clauses y j 0 (variables_of k t n₀ (held l b₀) name)) n₀ (held l b₀) cl₀ n (held l b) cl
-  helping_end h = walking_end x.walk h (unfold helper_clauses in refl)
+module _ {k : Counts} {t : List ℕ} {r : Run} {name y j : ℕ} {x₀ x : State} {cl₀ cl : List ℕ} {i at : ℕ} (w : Helping k t r name y j x₀ cl₀ x cl i at) where
+  pub helping_end : x₀.used.tracked ≤ at → AddsAll r (helper_clauses y j 0 (tracked_variables k t x₀ name)) x₀ cl₀ x cl
+  helping_end h = walking_end w.walk h (unfold helper_clauses in refl)
 
-  module _ (h : at < n₀.tracked) {q : Bool} (e : q ≡ eqb (part_name k t (get_or (listed n₀.tracked 10 (held l b)) at 0)) name) where
-    pub helping_pass : q ≡ false → Helping k t l r name y j n₀ b₀ cl₀ b cl n i (at + 1)
-    helping_pass f = record { few = omega (arith, x.few); walk = walking_pass x.walk h e f }
+  module _ (h : at < x₀.used.tracked) {q : Bool} (e : q ≡ eqb (part_name k t (get_or (tracked_in x) at 0)) name) where
+    pub helping_pass : q ≡ false → Helping k t r name y j x₀ cl₀ x cl i (at + 1)
+    helping_pass f = record { few = omega (arith, w.few); walk = walking_pass w.walk h e f }
 
-    module _ (f : q ≡ true) {n' : Counters} (b' : List ℕ) {cl' : List ℕ} (a : Adds l r (agrees (variable_at n (held l b) at) y (bit j i)) n (held l b) cl n' (held l b') cl') where
-      pub helping_stop : is_full n' ≡ true → AddsAll l r (helper_clauses y j 0 (variables_of k t n₀ (held l b₀) name)) n₀ (held l b₀) cl₀ n' (held l b') cl'
-      helping_stop w = walking_stop x.walk h e f (helper_clauses y j (i + 1)) b' a (next_helper y j i (variable_at n (held l b) at)) w
+    module _ (f : q ≡ true) {x' : State} {cl' : List ℕ} (a : Adds r (agrees (variable_at x at) y (bit j i)) x cl x' cl') where
+      pub helping_stop : is_full x'.used ≡ true → AddsAll r (helper_clauses y j 0 (tracked_variables k t x₀ name)) x₀ cl₀ x' cl'
+      helping_stop u = walking_stop w.walk h e f (helper_clauses y j (i + 1)) a (next_helper y j i (variable_at x at)) u
 
-      pub helping_step : is_full n' ≡ false → length b' ≡ length b → length cl' ≡ length cl → Helping k t l r name y j n₀ b₀ cl₀ b' cl' n' (i + 1) (at + 1)
-      helping_step w u v =
+      pub helping_step : is_full x'.used ≡ false → length cl' ≡ length cl → Helping k t r name y j x₀ cl₀ x' cl' (i + 1) (at + 1)
+      helping_step u v =
           record {
-            few = omega (arith, x.few);
-            walk = walking_step x.walk h e f (helper_clauses y j (i + 1)) b' a (next_helper y j i (variable_at n (held l b) at)) w u v;
+            few = omega (arith, w.few);
+            walk = walking_step w.walk h e f (helper_clauses y j (i + 1)) a (next_helper y j i (variable_at x at)) u v;
           }
 
 -- ---- one-of-name y for each
 
-pub record Linking (k : Counts) (t : List ℕ) (l : Limits) (r : Run) (name y : ℕ) (n₀ : Counters) (b₀ cl₀ b cl : List ℕ) (n : Counters) (at : ℕ) : Type 0 where
-  pub walk : Walking k t l r name (any_clauses y (variables_of k t n₀ (held l b₀) name)) (any_clauses y) n₀ b₀ cl₀ b cl n at
+pub record Linking (k : Counts) (t : List ℕ) (r : Run) (name y : ℕ) (x₀ : State) (cl₀ : List ℕ) (x : State) (cl : List ℕ) (at : ℕ) : Type 0 where
+  pub walk : Walking k t r name (any_clauses y (tracked_variables k t x₀ name)) (any_clauses y) x₀ cl₀ x cl at
 
-pub linking_start : (k : Counts) (t : List ℕ) (l : Limits) (r : Run) (name y : ℕ) (n : Counters) (b cl : List ℕ)
-    → Fits l (length b) → LongEnough l (length cl) 16384 → GoodSome l n (held l b) cl
-    → AllKnown (variables n.variables (held l b)) (listed n.tracked 10 (held l b)) → Linking k t l r name y n b cl b cl n 0
-linking_start k t l r name y n b cl f h g q = record { walk = walking_start (any_clauses y) b f h g q }
+pub linking_start : (k : Counts) (t : List ℕ) (r : Run) (name y : ℕ) (x : State) (cl : List ℕ)
+    → LongEnough x.limits (length cl) 16384 → GoodSome x cl → AllKnown (variables_of x) (tracked_in x) → Linking k t r name y x cl x cl 0
+linking_start k t r name y x cl h g q = record { walk = walking_start (any_clauses y) h g q }
 
 next_any : (y v : ℕ) (xs : List ℕ) → any_clauses y (v ∷ xs) ≡ any_one y v ∷ any_clauses y xs
 unfolding any_clauses
 next_any y v xs = refl
 
-module _ {k : Counts} {t : List ℕ} {l : Limits} {r : Run} {name y : ℕ} {n₀ : Counters} {b₀ cl₀ b cl : List ℕ} {n : Counters} {at : ℕ}
-    (x : Linking k t l r name y n₀ b₀ cl₀ b cl n at) where
-  pub linking_end : n₀.tracked ≤ at → AddsAll l r (any_clauses y (variables_of k t n₀ (held l b₀) name)) n₀ (held l b₀) cl₀ n (held l b) cl
-  linking_end h = walking_end x.walk h (unfold any_clauses in refl)
+module _ {k : Counts} {t : List ℕ} {r : Run} {name y : ℕ} {x₀ x : State} {cl₀ cl : List ℕ} {at : ℕ} (w : Linking k t r name y x₀ cl₀ x cl at) where
+  pub linking_end : x₀.used.tracked ≤ at → AddsAll r (any_clauses y (tracked_variables k t x₀ name)) x₀ cl₀ x cl
+  linking_end h = walking_end w.walk h (unfold any_clauses in refl)
 
-  module _ (h : at < n₀.tracked) {q : Bool} (e : q ≡ eqb (part_name k t (get_or (listed n₀.tracked 10 (held l b)) at 0)) name) where
-    pub linking_pass : q ≡ false → Linking k t l r name y n₀ b₀ cl₀ b cl n (at + 1)
-    linking_pass f = record { walk = walking_pass x.walk h e f }
+  module _ (h : at < x₀.used.tracked) {q : Bool} (e : q ≡ eqb (part_name k t (get_or (tracked_in x) at 0)) name) where
+    pub linking_pass : q ≡ false → Linking k t r name y x₀ cl₀ x cl (at + 1)
+    linking_pass f = record { walk = walking_pass w.walk h e f }
 
-    module _ (f : q ≡ true) {n' : Counters} (b' : List ℕ) {cl' : List ℕ} (a : Adds l r (any_one y (variable_at n (held l b) at)) n (held l b) cl n' (held l b') cl') where
-      pub linking_stop : is_full n' ≡ true → AddsAll l r (any_clauses y (variables_of k t n₀ (held l b₀) name)) n₀ (held l b₀) cl₀ n' (held l b') cl'
-      linking_stop w = walking_stop x.walk h e f (any_clauses y) b' a (next_any y (variable_at n (held l b) at)) w
+    module _ (f : q ≡ true) {x' : State} {cl' : List ℕ} (a : Adds r (any_one y (variable_at x at)) x cl x' cl') where
+      pub linking_stop : is_full x'.used ≡ true → AddsAll r (any_clauses y (tracked_variables k t x₀ name)) x₀ cl₀ x' cl'
+      linking_stop u = walking_stop w.walk h e f (any_clauses y) a (next_any y (variable_at x at)) u
 
-      pub linking_step : is_full n' ≡ false → length b' ≡ length b → length cl' ≡ length cl → Linking k t l r name y n₀ b₀ cl₀ b' cl' n' (at + 1)
-      linking_step w u v = record { walk = walking_step x.walk h e f (any_clauses y) b' a (next_any y (variable_at n (held l b) at)) w u v }
+      pub linking_step : is_full x'.used ≡ false → length cl' ≡ length cl → Linking k t r name y x₀ cl₀ x' cl' (at + 1)
+      linking_step u v = record { walk = walking_step w.walk h e f (any_clauses y) a (next_any y (variable_at x at)) u v }

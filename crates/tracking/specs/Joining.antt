@@ -16,40 +16,45 @@ use Rattle.rules.proofs.ClauseByClause.{add_clause}
 use Rattle.tables.specs.declared.Counts.{Counts}
 use Rattle.tables.specs.Tables.{tables}
 use Rattle.cache.specs.Areas.{catalogue}
-use Rattle.state.specs.declared.Limits.{Limits}
 use Rattle.marked.specs.Marked.{listed}
-use Rattle.variable_map.specs.Mapping.{variables, AllKnown}
-use Rattle.encoder.specs.declared.Counters.{Counters}
+use Rattle.variable_map.specs.Mapping.{AllKnown}
 use Rattle.encoder.specs.declared.Run as code
-use Rattle.encoder.specs.Held.{run_of, Good}
-use Rattle.encoder.specs.Did.{on_opening, StateDid, ClausesDid, is_full}
+use Rattle.encoder.specs.declared.State as encoder
+use Rattle.encoder.specs.Held.{run_of}
+use Rattle.encoder.specs.Did.{on_opening, is_full}
+use Rattle.encoder.specs.Does.{StateDoes, PlainDoes, ClausesDoes, IsGoodWith, regions_of, variables_of}
+
+-- the tracked parts, and the parts that are named for tracking
+abbrev pub tracked_in : encoder.State → List ℕ
+tracked_in x = listed x.used.tracked 10 (regions_of x)
+
+abbrev pub named_in : encoder.State → List ℕ
+named_in x = listed x.used.named 8 (regions_of x)
 
 -- ---- steps by what they do
 
--- F is done to the state area and the clauses'
-pub record Makes (c : Catalogue) (l : Limits) (F : State → State) (n : Counters) (st : ℕ → List ℕ) (cl : List ℕ)
-    (n' : Counters) (st' : ℕ → List ℕ) (cl' : List ℕ) : Type 0 where
-  pub is : ClausesDid c l (λ v. F) n st cl n' st' cl'
+-- F is done to the state and the clauses
+pub record Makes (c : Catalogue) (F : State → State) (x : encoder.State) (cl : List ℕ) (x' : encoder.State) (cl' : List ℕ) : Type 0 where
+  pub is : ClausesDoes c (λ v. F) x cl x' cl'
 
 -- these clauses are added in run r
-pub record AddsAll (l : Limits) (r : code.Run) (ks : List Clause) (n : Counters) (st : ℕ → List ℕ) (cl : List ℕ)
-    (n' : Counters) (st' : ℕ → List ℕ) (cl' : List ℕ) : Type 0 where
-  pub is : (c : Catalogue) → Makes c l (fold (add_clause (run_of r)) ks) n st cl n' st' cl'
+pub record AddsAll (r : code.Run) (ks : List Clause) (x : encoder.State) (cl : List ℕ) (x' : encoder.State) (cl' : List ℕ) : Type 0 where
+  pub is : (c : Catalogue) → Makes c (fold (add_clause (run_of r)) ks) x cl x' cl'
 
 -- these origins get variables
-pub record NamesAll (l : Limits) (os : List Origin) (n : Counters) (st : ℕ → List ℕ) (n' : Counters) (st' : ℕ → List ℕ) : Type 0 where
-  pub is : (c : Catalogue) → StateDid c l (λ v. fold add_variable os) n st n' st'
+pub record NamesAll (os : List Origin) (x x' : encoder.State) : Type 0 where
+  pub does : PlainDoes (λ c v. fold add_variable os) x x'
 
 -- What holds between two steps, closed so that a search does not look through all of it: with a catalogue of the area t; with some catalogue, for a step
 -- that does not read it; and with some clauses too.
-pub data GoodOf (k : Counts) (t : List ℕ) (l : Limits) (n : Counters) (st : ℕ → List ℕ) (cl : List ℕ) : Type 0 where
-  good : (m u : List ℕ) → Good (catalogue k m u t) l n st cl [] → GoodOf k t l n st cl
+pub data GoodOf (k : Counts) (t : List ℕ) (x : encoder.State) (cl : List ℕ) : Type 0 where
+  good : (m u : List ℕ) → IsGoodWith (catalogue k m u t) x cl [] → GoodOf k t x cl
 
-pub data GoodSome (l : Limits) (n : Counters) (st : ℕ → List ℕ) (cl : List ℕ) : Type 0 where
-  some : (c : Catalogue) → Good c l n st cl [] → GoodSome l n st cl
+pub data GoodSome (x : encoder.State) (cl : List ℕ) : Type 0 where
+  some : (c : Catalogue) → IsGoodWith c x cl [] → GoodSome x cl
 
-pub data GoodAny (l : Limits) (n : Counters) (st : ℕ → List ℕ) : Type 0 where
-  any : (c : Catalogue) (cl : List ℕ) → Good c l n st cl [] → GoodAny l n st
+pub data GoodAny (x : encoder.State) : Type 0 where
+  any : (c : Catalogue) (cl : List ℕ) → IsGoodWith c x cl [] → GoodAny x
 
 -- ---- helpers
 
@@ -88,17 +93,17 @@ pub record NamesLow (k : Counts) (t : List ℕ) : Type 0 where
   pub low : (p : ℕ) → part_name k t p < 64
 
 -- the variables of those that are tracked
-unfoldable pub variables_of : Counts → (t : List ℕ) → Counters → (ℕ → List ℕ) → ℕ → List ℕ
-variables_of k t n st name = map (part_variable (variables n.variables st)) (of_name k t name (listed n.tracked 10 st))
+unfoldable pub tracked_variables : Counts → (t : List ℕ) → encoder.State → (name : ℕ) → List ℕ
+tracked_variables k t x name = map (part_variable (variables_of x)) (of_name k t name (tracked_in x))
 
 -- the variable of the tracked part at a place
-unfoldable pub variable_at : Counters → (ℕ → List ℕ) → ℕ → ℕ
-variable_at n st at = part_variable (variables n.variables st) (get_or (listed n.tracked 10 st) at 0)
+unfoldable pub variable_at : encoder.State → ℕ → ℕ
+variable_at x at = part_variable (variables_of x) (get_or (tracked_in x) at 0)
 
--- and x is it
-pub record IsAt (l : Limits) (n : Counters) (st : ℕ → List ℕ) (at x : ℕ) : Type 0 where
-  pub is : x ≡ variable_at n st at
-  pub below : x < l.variables
+-- and v is it
+pub record IsAt (x : encoder.State) (at v : ℕ) : Type 0 where
+  pub is : v ≡ variable_at x at
+  pub below : v < x.limits.variables
 
 -- ---- clauses
 
@@ -132,13 +137,12 @@ unfoldable pub tracking : ℕ → Opening → Opening
 tracking p o = set_tracked (snoc o.tracked p) o
 
 -- part p is tracked
-pub record Tracks (k : Counts) (t : List ℕ) (l : Limits) (p : ℕ) (n : Counters) (st : ℕ → List ℕ) (n' : Counters) (st' : ℕ → List ℕ) : Type 0 where
-  pub is : (m u : List ℕ) → StateDid (catalogue k m u t) l (λ v. on_opening (tracking p)) n st n' st'
+pub record Tracks (k : Counts) (t : List ℕ) (p : ℕ) (x x' : encoder.State) : Type 0 where
+  pub is : (m u : List ℕ) → StateDoes (catalogue k m u t) (λ v. on_opening (tracking p)) x x'
 
 -- F is done, with any catalogue of the area t
-pub record MakesOf (k : Counts) (t : List ℕ) (l : Limits) (F : Catalogue → State → State) (n : Counters) (st : ℕ → List ℕ) (cl : List ℕ)
-    (n' : Counters) (st' : ℕ → List ℕ) (cl' : List ℕ) : Type 0 where
-  pub is : (m u : List ℕ) → Makes (catalogue k m u t) l (F (catalogue k m u t)) n st cl n' st' cl'
+pub record MakesOf (k : Counts) (t : List ℕ) (F : Catalogue → State → State) (x : encoder.State) (cl : List ℕ) (x' : encoder.State) (cl' : List ℕ) : Type 0 where
+  pub is : (m u : List ℕ) → Makes (catalogue k m u t) (F (catalogue k m u t)) x cl x' cl'
 
 -- clauses are added, and part p is tracked
 unfoldable pub track_with : Run → List Clause → ℕ → Catalogue → State → State
@@ -160,31 +164,31 @@ unfoldable pub forget_named : Opening → Opening
 forget_named o = set_named [] o
 
 -- no part is named any more
-pub record Forgets (l : Limits) (n : Counters) (st : ℕ → List ℕ) (n' : Counters) (st' : ℕ → List ℕ) : Type 0 where
-  pub is : (c : Catalogue) → StateDid c l (λ v. on_opening forget_named) n st n' st'
+pub record Forgets (x x' : encoder.State) : Type 0 where
+  pub does : PlainDoes (λ c v. on_opening forget_named) x x'
 
 -- ---- what is asked
 
 -- it is not full, the run has a number and began with no more variables, and tracked parts have variables
-pub record CanJoin (n : Counters) (st : ℕ → List ℕ) (r : code.Run) : Type 0 where
-  pub going : is_full n ≡ false
+pub record CanJoin (x : encoder.State) (r : code.Run) : Type 0 where
+  pub going : is_full x.used ≡ false
   pub number : 0 < r.number
-  pub older : r.before ≤ n.variables
-  pub known : AllKnown (variables n.variables st) (listed n.tracked 10 st)
+  pub older : r.before ≤ x.used.variables
+  pub known : AllKnown (variables_of x) (tracked_in x)
 
 -- part p of this name can be added behind the i parts that are tracked of it: it and the h helpers have variables
-pub record CanAddPart (k : Counts) (t : List ℕ) (n : Counters) (st : ℕ → List ℕ) (name p i h : ℕ) : Type 0 where
+pub record CanAddPart (k : Counts) (t : List ℕ) (x : encoder.State) (name p i h : ℕ) : Type 0 where
   pub low : p < 1024
   pub named : part_name k t p ≡ name
   pub name_low : name < 64
-  pub count : i ≡ length (of_name k t name (listed n.tracked 10 st))
+  pub count : i ≡ length (of_name k t name (tracked_in x))
   pub few : i < 1024
   pub helpers : h ≡ helpers_for (i + 1)
-  pub known : known (variables n.variables st) (part_origin p) ≡ true
-  pub helpers_known : HelpersKnown (variables n.variables st) name h
+  pub known : known (variables_of x) (part_origin p) ≡ true
+  pub helpers_known : HelpersKnown (variables_of x) name h
 
 -- tracked parts have variables, and no origin has two
-pub record CanLink (n : Counters) (st : ℕ → List ℕ) : Type 0 where
-  pub going : is_full n ≡ false
-  pub known : AllKnown (variables n.variables st) (listed n.tracked 10 st)
-  pub apart : Distinct (variables n.variables st)
+pub record CanLink (x : encoder.State) : Type 0 where
+  pub going : is_full x.used ≡ false
+  pub known : AllKnown (variables_of x) (tracked_in x)
+  pub apart : Distinct (variables_of x)

@@ -6,17 +6,16 @@ ghost use Rattle.std.specs.Prelude.{◌≡◌, ◌^◌, ◌<◌, ◌≤◌, eqb,
 ghost use Rattle.rules.specs.AtMostOne.{agrees, helpers_for, helper_clauses, part_clauses};
 ghost use Rattle.rules.specs.AtMostOne as rules;
 ghost use Rattle.rules.specs.Clause.{any_one};
-ghost use Rattle.state.specs.Layout.{held, Fits};
-ghost use Rattle.variable_map.specs.Mapping.{variables, Mapped, AllKnown};
-ghost use Rattle.marked.specs.Marked.{listed, Marked};
+ghost use Rattle.variable_map.specs.Mapping.{AllKnown};
+ghost use Rattle.marked.specs.Marked.{Marked};
 ghost use Rattle.encoder.specs.Held.{LongEnough};
+ghost use Rattle.encoder.specs.Does.{IsMapped, regions_of, variables_of};
 ghost use Rattle.storing.specs.Adding.{Adds};
-ghost use Rattle.tracking.specs.Joining.{AddsAll, NamesAll, GoodSome, GoodAny, first_helpers, join_origins, helper_variables, HelpersKnown, HelpersBelow, part_name, of_name, variables_of, variable_at, IsAt, new_helper_clauses, one_clauses, any_clauses, tracked_clauses, joined_clauses, CanJoin, CanAddPart, CanLink};
+ghost use Rattle.tracking.specs.Joining.{AddsAll, NamesAll, GoodSome, GoodAny, first_helpers, join_origins, helper_variables, HelpersKnown, HelpersBelow, part_name, of_name, tracked_in, tracked_variables, variable_at, IsAt, new_helper_clauses, one_clauses, any_clauses, tracked_clauses, joined_clauses, CanJoin, CanAddPart, CanLink};
 
 use clause::Literal;
-use encoder::{Counters, Run};
+use encoder::{Run, State};
 use marked::MarkedList;
-use state::Limits;
 use tables::Tables;
 use variable_map::Origin;
 
@@ -52,41 +51,33 @@ pub fn helpers_for(k: u16) -> usize
 }
 
 // The first h helpers of a name get their variables.
-fn name_helpers(s: &mut [u8], l: Limits, n: Counters, name: u16, h: usize) -> Counters
-    requires fits { Fits l (length s.old) }
-    requires good_any { GoodAny l n (held l s.old) }
+fn name_helpers(state: &mut State, name: u16, h: usize)
+    requires good_any { GoodAny state.old }
     requires name_bound { (name < 64) × (h ≤ 10) }
-    ensures { NamesAll l (first_helpers name h) n (held l s.old) result (held l s.new) }
+    ensures { NamesAll (first_helpers name h) state.old state.new }
 {
-    let mut m = n;
     for j in 0..h {
-        m = opening::name_variable(
-            s,
-            l,
-            m,
+        opening::name_variable(
+            state,
             Origin::Forbid {
                 name,
                 bit: j as u16,
             },
         );
     }
-    m
 }
 
 // The variables of the first h helpers of a name, which have them; then 0.
-fn helpers_of(s: &[u8], l: Limits, n: Counters, name: u16, h: usize) -> [u16; 10]
-    requires fits { Fits l (length s.now) }
-    requires mapped { Mapped l n.variables (held l s.now) }
+fn helpers_of(state: &State, name: u16, h: usize) -> [u16; 10]
+    requires mapped { IsMapped state.now }
     requires name_bound { (name < 64) × (h ≤ 10) }
-    requires helpers_known { HelpersKnown (variables n.variables (held l s.now)) name h }
-    ensures { take h result ≡ helper_variables (variables n.variables (held l s.now)) name h }
+    requires helpers_known { HelpersKnown (variables_of state.now) name h }
+    ensures { take h result ≡ helper_variables (variables_of state.now) name h }
 {
     let mut helpers = [0; 10];
     for j in 0..h {
         helpers[j] = opening::variable_of(
-            s,
-            l,
-            n,
+            state,
             Origin::Forbid {
                 name,
                 bit: j as u16,
@@ -99,302 +90,235 @@ fn helpers_of(s: &[u8], l: Limits, n: Counters, name: u16, h: usize) -> [u16; 10
 // ---- the tracked parts of a name
 
 // Is the tracked part at a place one of this name?
-fn is_of(tables: &Tables, s: &[u8], l: Limits, count: usize, name: u16, at: usize) -> bool
-    requires fits { Fits l (length s.now) }
-    requires at_lt_count { at < count }
-    ensures { result ≡ eqb (part_name tables.now.counts tables.now.area.now (get_or (listed count 10 (held l s.now)) at 0)) name }
+fn is_of(tables: &Tables, state: &State, name: u16, at: usize) -> bool
+    requires { at < state.now.used.tracked }
+    ensures { result ≡ eqb (part_name tables.now.counts tables.now.area.now (get_or (tracked_in state.now) at 0)) name }
 {
-    let p = marked::at(s, l, MarkedList::Tracked, count, at);
+    let p = state.listed(MarkedList::Tracked, state.used.tracked, at);
     tables.part_name(p as usize) == name
 }
 
 // The variable of the tracked part at a place.
-fn tracked_variable(s: &[u8], l: Limits, n: Counters, at: usize) -> u16
-    requires fits { Fits l (length s.now) }
-    requires mapped { Mapped l n.variables (held l s.now) }
-    requires marked { Marked 10 11 n.tracked (held l s.now) }
-    requires all_known { AllKnown (variables n.variables (held l s.now)) (listed n.tracked 10 (held l s.now)) }
-    requires at_lt_tracked { at < n.tracked }
-    ensures { IsAt l n (held l s.now) at result }
+fn tracked_variable(state: &State, at: usize) -> u16
+    requires mapped { IsMapped state.now }
+    requires marked { Marked 10 11 state.now.used.tracked (regions_of state.now) }
+    requires all_known { AllKnown (variables_of state.now) (tracked_in state.now) }
+    requires at_lt_tracked { at < state.now.used.tracked }
+    ensures { IsAt state.now at result }
 {
-    let p = marked::at(s, l, MarkedList::Tracked, n.tracked, at);
-    opening::variable_of(s, l, n, Origin::Part(p))
+    let p = state.listed(MarkedList::Tracked, state.used.tracked, at);
+    opening::variable_of(state, Origin::Part(p))
 }
 
 // ---- the clauses of a part that joins
 
 // Part x agrees with helper y, which has the value b.
-fn agree(
-    s: &mut [u8],
-    clauses: &mut [u8],
-    l: Limits,
-    n: Counters,
-    r: Run,
-    x: u16,
-    y: u16,
-    b: bool,
-) -> Counters
-    requires fits { Fits l (length s.old) }
-    requires good_some { GoodSome l n (held l s.old) clauses.old }
-    requires long_enough { LongEnough l (length clauses.old) 16384 }
-    requires number_nonzero { (0 < r.number) × (x < l.variables) × (y < l.variables) }
-    ensures { Adds l r (agrees x y b) n (held l s.old) clauses.old result (held l s.new) clauses.new }
+fn agree(state: &mut State, clauses: &mut [u8], run: Run, x: u16, y: u16, b: bool)
+    requires good_some { GoodSome state.old clauses.old }
+    requires long_enough { LongEnough state.old.limits (length clauses.old) 16384 }
+    requires number_nonzero { (0 < run.number) × (x < state.old.limits.variables) × (y < state.old.limits.variables) }
+    ensures { Adds run (agrees x y b) state.old clauses.old state.new clauses.new }
 {
-    setting::add_forbid(s, clauses, l, n, r, x, Literal::new(y, b))
+    setting::add_forbid(state, clauses, run, x, Literal::new(y, b));
 }
 
 // Helper y, for bit j, and the tracked part at a place, which is part i of its name.
 fn helper_clause(
-    s: &mut [u8],
+    state: &mut State,
     clauses: &mut [u8],
-    l: Limits,
-    n: Counters,
-    r: Run,
+    run: Run,
     y: u16,
     j: usize,
     i: u16,
     at: usize,
-) -> Counters
-    requires fits { Fits l (length s.old) }
-    requires good_some { GoodSome l n (held l s.old) clauses.old }
-    requires long_enough { LongEnough l (length clauses.old) 16384 }
-    requires all_known { AllKnown (variables n.variables (held l s.old)) (listed n.tracked 10 (held l s.old)) }
-    requires number_nonzero { (0 < r.number) × (y < l.variables) × (j < 10) × (at < n.tracked) }
-    ensures { Adds l r (agrees (variable_at n (held l s.old) at) y (rules.bit j i)) n (held l s.old) clauses.old result (held l s.new) clauses.new }
+)
+    requires good_some { GoodSome state.old clauses.old }
+    requires long_enough { LongEnough state.old.limits (length clauses.old) 16384 }
+    requires all_known { AllKnown (variables_of state.old) (tracked_in state.old) }
+    requires number_nonzero { (0 < run.number) × (y < state.old.limits.variables) × (j < 10) × (at < state.old.used.tracked) }
+    ensures { Adds run (agrees (variable_at state.old at) y (rules.bit j i)) state.old clauses.old state.new clauses.new }
 {
-    let x = tracked_variable(s, l, n, at);
-    agree(s, clauses, l, n, r, x, y, bit(j, i))
+    let x = tracked_variable(state, at);
+    agree(state, clauses, run, x, y, bit(j, i));
 }
 
 // Helper y, for bit j: a clause for each tracked part of the name.
 fn helper_clauses(
     tables: &Tables,
-    s: &mut [u8],
+    state: &mut State,
     clauses: &mut [u8],
-    l: Limits,
-    n: Counters,
-    r: Run,
+    run: Run,
     name: u16,
     y: u16,
     j: usize,
-) -> Counters
-    requires fits { Fits l (length s.old) }
-    requires good_some { GoodSome l n (held l s.old) clauses.old }
-    requires long_enough { LongEnough l (length clauses.old) 16384 }
-    requires can_join { CanJoin n (held l s.old) r }
-    requires y_lt_variables { (y < l.variables) × (j < 10) }
-    ensures { AddsAll l r (helper_clauses y j 0 (variables_of tables.now.counts tables.now.area.now n (held l s.old) name)) n (held l s.old) clauses.old result (held l s.new) clauses.new }
+)
+    requires good_some { GoodSome state.old clauses.old }
+    requires long_enough { LongEnough state.old.limits (length clauses.old) 16384 }
+    requires can_join { CanJoin state.old run }
+    requires y_lt_variables { (y < state.old.limits.variables) × (j < 10) }
+    ensures { AddsAll run (helper_clauses y j 0 (tracked_variables tables.now.counts tables.now.area.now state.old name)) state.old clauses.old state.new clauses.new }
 {
-    let mut m = n;
     let mut i = 0;
-    for at in 0..n.tracked {
-        if is_of(tables, s, l, n.tracked, name, at) {
-            m = helper_clause(s, clauses, l, m, r, y, j, i, at);
-            if m.full != 0 {
-                return m;
+    for at in 0..state.used.tracked {
+        if is_of(tables, state, name, at) {
+            helper_clause(state, clauses, run, y, j, i, at);
+            if state.used.full != 0 {
+                return;
             }
             i += 1;
         }
     }
-    m
 }
 
 // Part x, which is part i, agrees with each helper.
-fn part_clauses(
-    s: &mut [u8],
-    clauses: &mut [u8],
-    l: Limits,
-    n: Counters,
-    r: Run,
-    x: u16,
-    i: u16,
-    helpers: &[u16],
-) -> Counters
-    requires fits { Fits l (length s.old) }
-    requires good_some { GoodSome l n (held l s.old) clauses.old }
-    requires long_enough { LongEnough l (length clauses.old) 16384 }
-    requires number_nonzero { (0 < r.number) × (x < l.variables) }
-    requires helpers_below { HelpersBelow helpers.now i l.variables }
-    ensures { AddsAll l r (part_clauses x i 0 helpers.now) n (held l s.old) clauses.old result (held l s.new) clauses.new }
+fn part_clauses(state: &mut State, clauses: &mut [u8], run: Run, x: u16, i: u16, helpers: &[u16])
+    requires good_some { GoodSome state.old clauses.old }
+    requires long_enough { LongEnough state.old.limits (length clauses.old) 16384 }
+    requires number_nonzero { (0 < run.number) × (x < state.old.limits.variables) }
+    requires helpers_below { HelpersBelow helpers.now i state.old.limits.variables }
+    ensures { AddsAll run (part_clauses x i 0 helpers.now) state.old clauses.old state.new clauses.new }
 {
-    let mut m = n;
     for j in 0..helpers.len() {
-        m = agree(s, clauses, l, m, r, x, helpers[j], bit(j, i));
+        agree(state, clauses, run, x, helpers[j], bit(j, i));
     }
-    m
 }
 
 // The any clause of part x, if the one-of-name variable is older than the run.
-fn one_clause(
-    s: &mut [u8],
-    clauses: &mut [u8],
-    l: Limits,
-    n: Counters,
-    r: Run,
-    name: u16,
-    x: u16,
-) -> Counters
-    requires fits { Fits l (length s.old) }
-    requires good_some { GoodSome l n (held l s.old) clauses.old }
-    requires long_enough { LongEnough l (length clauses.old) 16384 }
-    requires name_bound { (name < 64) × (r.before ≤ n.variables) }
-    ensures { AddsAll l r (one_clauses r.before (variables n.variables (held l s.old)) name x) n (held l s.old) clauses.old result (held l s.new) clauses.new }
+fn one_clause(state: &mut State, clauses: &mut [u8], run: Run, name: u16, x: u16)
+    requires good_some { GoodSome state.old clauses.old }
+    requires long_enough { LongEnough state.old.limits (length clauses.old) 16384 }
+    requires name_bound { (name < 64) × (run.before ≤ state.old.used.variables) }
+    ensures { AddsAll run (one_clauses run.before (variables_of state.old) name x) state.old clauses.old state.new clauses.new }
 {
-    let Some(y) = variable_map::variable(s, l, n.variables, Origin::One(name)) else {
-        return n;
+    let Some(y) = state.variable(Origin::One(name)) else {
+        return;
     };
-    if (y as usize) < r.before {
-        return setting::add_any_one(s, clauses, l, n, r, y, x);
+    if (y as usize) < run.before {
+        setting::add_any_one(state, clauses, run, y, x);
     }
-    n
 }
 
 // A helper that the i parts before this one did not need has a clause for each of them.
 fn new_helper(
     tables: &Tables,
-    s: &mut [u8],
+    state: &mut State,
     clauses: &mut [u8],
-    l: Limits,
-    n: Counters,
-    r: Run,
+    run: Run,
     name: u16,
     i: u16,
     helpers: &[u16],
-) -> Counters
-    requires fits { Fits l (length s.old) }
-    requires good_some { GoodSome l n (held l s.old) clauses.old }
-    requires long_enough { LongEnough l (length clauses.old) 16384 }
-    requires can_join { CanJoin n (held l s.old) r }
+)
+    requires good_some { GoodSome state.old clauses.old }
+    requires long_enough { LongEnough state.old.limits (length clauses.old) 16384 }
+    requires can_join { CanJoin state.old run }
     requires i_bound { i < 1024 }
-    requires helpers_below { HelpersBelow helpers.now i l.variables }
-    ensures { AddsAll l r (new_helper_clauses i helpers.now (variables_of tables.now.counts tables.now.area.now n (held l s.old) name)) n (held l s.old) clauses.old result (held l s.new) clauses.new }
+    requires helpers_below { HelpersBelow helpers.now i state.old.limits.variables }
+    ensures { AddsAll run (new_helper_clauses i helpers.now (tracked_variables tables.now.counts tables.now.area.now state.old name)) state.old clauses.old state.new clauses.new }
 {
     let h = helpers_for(i);
     if h < helpers.len() {
-        return helper_clauses(tables, s, clauses, l, n, r, name, helpers[h], h);
+        helper_clauses(tables, state, clauses, run, name, helpers[h], h);
     }
-    n
 }
 
 // A part of variable x is added behind the i parts that are tracked of its name.
 fn add_tracked(
     tables: &Tables,
-    s: &mut [u8],
+    state: &mut State,
     clauses: &mut [u8],
-    l: Limits,
-    n: Counters,
-    r: Run,
+    run: Run,
     name: u16,
     x: u16,
     i: u16,
     helpers: &[u16],
-) -> Counters
-    requires fits { Fits l (length s.old) }
-    requires good_some { GoodSome l n (held l s.old) clauses.old }
-    requires long_enough { LongEnough l (length clauses.old) 16384 }
-    requires can_join { CanJoin n (held l s.old) r }
-    requires i_bound { (i < 1024) × (x < l.variables) × (name < 64) }
-    requires helpers_below { HelpersBelow helpers.now i l.variables }
-    ensures { AddsAll l r (tracked_clauses r.before (variables n.variables (held l s.old)) name x i helpers.now (variables_of tables.now.counts tables.now.area.now n (held l s.old) name)) n (held l s.old) clauses.old result (held l s.new) clauses.new }
+)
+    requires good_some { GoodSome state.old clauses.old }
+    requires long_enough { LongEnough state.old.limits (length clauses.old) 16384 }
+    requires can_join { CanJoin state.old run }
+    requires i_bound { (i < 1024) × (x < state.old.limits.variables) × (name < 64) }
+    requires helpers_below { HelpersBelow helpers.now i state.old.limits.variables }
+    ensures { AddsAll run (tracked_clauses run.before (variables_of state.old) name x i helpers.now (tracked_variables tables.now.counts tables.now.area.now state.old name)) state.old clauses.old state.new clauses.new }
 {
-    let a = new_helper(tables, s, clauses, l, n, r, name, i, helpers);
-    if a.full != 0 {
-        return a;
+    new_helper(tables, state, clauses, run, name, i, helpers);
+    if state.used.full != 0 {
+        return;
     }
-    let b = part_clauses(s, clauses, l, a, r, x, i, helpers);
-    if b.full != 0 {
-        return b;
+    part_clauses(state, clauses, run, x, i, helpers);
+    if state.used.full != 0 {
+        return;
     }
-    one_clause(s, clauses, l, b, r, name, x)
+    one_clause(state, clauses, run, name, x);
 }
 
 // ---- a part joins
 
 // Part p and the first h helpers of its name get their variables.
-pub fn name_join(s: &mut [u8], l: Limits, n: Counters, name: u16, p: u16, h: usize) -> Counters
-    requires fits { Fits l (length s.old) }
-    requires good_any { GoodAny l n (held l s.old) }
+pub fn name_join(state: &mut State, name: u16, p: u16, h: usize)
+    requires good_any { GoodAny state.old }
     requires name_bound { (name < 64) × (h ≤ 10) × (p < 1024) }
-    ensures { NamesAll l (join_origins name p h) n (held l s.old) result (held l s.new) }
+    ensures { NamesAll (join_origins name p h) state.old state.new }
 {
-    let m = opening::name_variable(s, l, n, Origin::Part(p));
-    name_helpers(s, l, m, name, h)
+    opening::name_variable(state, Origin::Part(p));
+    name_helpers(state, name, h);
 }
 
 // The clauses of part p, which has a variable as the h helpers have.
 pub fn join_clauses(
     tables: &Tables,
-    s: &mut [u8],
+    state: &mut State,
     clauses: &mut [u8],
-    l: Limits,
-    n: Counters,
-    r: Run,
+    run: Run,
     name: u16,
     p: u16,
     i: u16,
     h: usize,
-) -> Counters
-    requires fits { Fits l (length s.old) }
-    requires good_some { GoodSome l n (held l s.old) clauses.old }
-    requires long_enough { LongEnough l (length clauses.old) 16384 }
-    requires can_join { CanJoin n (held l s.old) r }
-    requires can_add_part { CanAddPart tables.now.counts tables.now.area.now n (held l s.old) name p i h }
-    ensures { AddsAll l r (joined_clauses r.before (variables n.variables (held l s.old)) name p (of_name tables.now.counts tables.now.area.now name (listed n.tracked 10 (held l s.old)))) n (held l s.old) clauses.old result (held l s.new) clauses.new }
+)
+    requires good_some { GoodSome state.old clauses.old }
+    requires long_enough { LongEnough state.old.limits (length clauses.old) 16384 }
+    requires can_join { CanJoin state.old run }
+    requires can_add_part { CanAddPart tables.now.counts tables.now.area.now state.old name p i h }
+    ensures { AddsAll run (joined_clauses run.before (variables_of state.old) name p (of_name tables.now.counts tables.now.area.now name (tracked_in state.old))) state.old clauses.old state.new clauses.new }
 {
-    let x = opening::variable_of(s, l, n, Origin::Part(p));
-    let helpers = helpers_of(s, l, n, name, h);
-    add_tracked(tables, s, clauses, l, n, r, name, x, i, &helpers[..h])
+    let x = opening::variable_of(state, Origin::Part(p));
+    let helpers = helpers_of(state, name, h);
+    add_tracked(tables, state, clauses, run, name, x, i, &helpers[..h]);
 }
 
 // ---- new one-of-name variables
 
 // One-of-name y for the tracked part at a place.
-fn any_clause(
-    s: &mut [u8],
-    clauses: &mut [u8],
-    l: Limits,
-    n: Counters,
-    r: Run,
-    y: u16,
-    at: usize,
-) -> Counters
-    requires fits { Fits l (length s.old) }
-    requires good_some { GoodSome l n (held l s.old) clauses.old }
-    requires long_enough { LongEnough l (length clauses.old) 16384 }
-    requires all_known { AllKnown (variables n.variables (held l s.old)) (listed n.tracked 10 (held l s.old)) }
-    requires y_lt_variables { (y < l.variables) × (at < n.tracked) }
-    ensures { Adds l r (any_one y (variable_at n (held l s.old) at)) n (held l s.old) clauses.old result (held l s.new) clauses.new }
+fn any_clause(state: &mut State, clauses: &mut [u8], run: Run, y: u16, at: usize)
+    requires good_some { GoodSome state.old clauses.old }
+    requires long_enough { LongEnough state.old.limits (length clauses.old) 16384 }
+    requires all_known { AllKnown (variables_of state.old) (tracked_in state.old) }
+    requires y_lt_variables { (y < state.old.limits.variables) × (at < state.old.used.tracked) }
+    ensures { Adds run (any_one y (variable_at state.old at)) state.old clauses.old state.new clauses.new }
 {
-    let x = tracked_variable(s, l, n, at);
-    setting::add_any_one(s, clauses, l, n, r, y, x)
+    let x = tracked_variable(state, at);
+    setting::add_any_one(state, clauses, run, y, x);
 }
 
 // One-of-name y for each tracked part of the name.
 pub fn any_clauses(
     tables: &Tables,
-    s: &mut [u8],
+    state: &mut State,
     clauses: &mut [u8],
-    l: Limits,
-    n: Counters,
-    r: Run,
+    run: Run,
     name: u16,
     y: u16,
-) -> Counters
-    requires fits { Fits l (length s.old) }
-    requires good_some { GoodSome l n (held l s.old) clauses.old }
-    requires long_enough { LongEnough l (length clauses.old) 16384 }
-    requires can_link { CanLink n (held l s.old) }
-    requires y_lt_variables { y < l.variables }
-    ensures { AddsAll l r (any_clauses y (variables_of tables.now.counts tables.now.area.now n (held l s.old) name)) n (held l s.old) clauses.old result (held l s.new) clauses.new }
+)
+    requires good_some { GoodSome state.old clauses.old }
+    requires long_enough { LongEnough state.old.limits (length clauses.old) 16384 }
+    requires can_link { CanLink state.old }
+    requires y_lt_variables { y < state.old.limits.variables }
+    ensures { AddsAll run (any_clauses y (tracked_variables tables.now.counts tables.now.area.now state.old name)) state.old clauses.old state.new clauses.new }
 {
-    let mut m = n;
-    for at in 0..n.tracked {
-        if is_of(tables, s, l, n.tracked, name, at) {
-            m = any_clause(s, clauses, l, m, r, y, at);
-            if m.full != 0 {
-                return m;
+    for at in 0..state.used.tracked {
+        if is_of(tables, state, name, at) {
+            any_clause(state, clauses, run, y, at);
+            if state.used.full != 0 {
+                return;
             }
         }
     }
-    m
 }

@@ -5,4 +5,4 @@ use Rattle.beginning.proofs.Drawn.{Fired}
 use Rattle.beginning.proofs.fire_drawn.Given as goal
 
 abbrev pub invariant-loop-e : goal.invariant-loop-e
-invariant-loop-e l = Fired (catalogue_of l.catalogue) l.l (drawn_in l.l l.drawn l.w) l.initial.m l.initial.s l.m l.s l.e
+invariant-loop-e l = Fired (catalogue_of l.catalogue) (drawn_in l.initial.state.limits l.drawn l.w) l.initial.state l.state l.e

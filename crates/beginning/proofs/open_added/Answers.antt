@@ -6,17 +6,17 @@ use Rattle.beginning.proofs.open_added.Goals as goal
 pub loop-i-init : goal.loop-i-init
 loop-i-init c = search (rules, opened_start)
 
-pub returns-then-m-ne0 : goal.returns-then-m-ne0
-returns-then-m-ne0 c = opened_full c.loop-i.invariant (told_full c.if-m-ne0.true)
+pub returns-then-state-ne0 : goal.returns-then-state-ne0
+returns-then-state-ne0 c = opened_full c.loop-i.invariant (told_full c.if-state-ne0.true)
 
 pub returns : goal.returns
 returns c = opened_end c.loop-i.invariant c.loop-i-test.false
 
-pub open_owner-m-requires-clause-marked : goal.open_owner-m-requires-clause-marked
-open_owner-m-requires-clause-marked c = opened_owners c.loop-i.invariant
+pub open_owner-requires-clause-marked : goal.open_owner-requires-clause-marked
+open_owner-requires-clause-marked c = opened_owners c.loop-i.invariant
 
-pub open_owner-m-requires-clause-o_bound : goal.open_owner-m-requires-clause-o_bound
-open_owner-m-requires-clause-o_bound c = opened_low c.loop-i.invariant (told_going c.if-m-ne0.false) c.loop-i-test.true c.at-o.ensures
+pub open_owner-requires-clause-o_bound : goal.open_owner-requires-clause-o_bound
+open_owner-requires-clause-o_bound c = opened_low c.loop-i.invariant (told_going c.if-state-ne0.false) c.loop-i-test.true c.listed-owner.ensures
 
 pub loop-i-preserved : goal.loop-i-preserved
-loop-i-preserved c = opened_step c.loop-i.invariant (told_going c.if-m-ne0.false) c.loop-i-test.true c.at-o.ensures (search rules) c.open_owner-m.ensures
+loop-i-preserved c = opened_step c.loop-i.invariant (told_going c.if-state-ne0.false) c.loop-i-test.true c.listed-owner.ensures c.open_owner.ensures

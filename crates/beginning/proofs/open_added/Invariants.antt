@@ -3,4 +3,4 @@ use Rattle.beginning.proofs.Added.{Opened}
 use Rattle.beginning.proofs.open_added.Given as goal
 
 abbrev pub invariant-loop-i : goal.invariant-loop-i
-invariant-loop-i l = Opened l.l l.n l.initial.s l.m l.s l.i
+invariant-loop-i l = Opened l.count l.initial.state l.state l.i

@@ -5,8 +5,8 @@ use Rattle.binary_encoding.proofs.gather_names.Goals as goal
 pub loop-i-init : goal.loop-i-init
 loop-i-init c = search (rules, gather_start)
 
-pub note_name-m-requires-clause-marked : goal.note_name-m-requires-clause-marked
-note_name-m-requires-clause-marked c = search (rules, gather_low)
+pub note_name-count-requires : goal.note_name-count-requires
+note_name-count-requires c = search (rules, gather_low)
 
 pub loop-i-preserved : goal.loop-i-preserved
 loop-i-preserved c = search (rules, gather_step)

@@ -3,4 +3,4 @@ use Rattle.binary_encoding.proofs.Track.{Gathering}
 use Rattle.binary_encoding.proofs.gather_names.Given as goal
 
 abbrev pub invariant-loop-i : goal.invariant-loop-i
-invariant-loop-i l = Gathering l.tables.counts l.tables.area.now l.joiners l.l l.n l.initial.s l.s l.m l.i
+invariant-loop-i l = Gathering l.tables.counts l.tables.area.now l.joiners l.initial.state l.state l.count l.i

@@ -3,5 +3,5 @@ use borrow.Author.Rules.{rules}
 use Rattle.binary_encoding.proofs.Joined.{names_low}
 use Rattle.binary_encoding.proofs.join_all.Goals as goal
 
-pub note_joiners-requires-clause-names_low : goal.note_joiners-requires-clause-names_low
-note_joiners-requires-clause-names_low c = search (rules, names_low)
+pub note_joiners-requires : goal.note_joiners-requires
+note_joiners-requires c = search (rules, names_low)

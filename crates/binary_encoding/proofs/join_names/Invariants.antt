@@ -3,4 +3,4 @@ use Rattle.binary_encoding.proofs.Names.{Naming}
 use Rattle.binary_encoding.proofs.join_names.Given as goal
 
 abbrev pub invariant-loop-i : goal.invariant-loop-i
-invariant-loop-i l = Naming l.tables.counts l.tables.area.now l.l l.r l.names l.initial.m l.initial.s l.initial.clauses l.s l.clauses l.m l.i
+invariant-loop-i l = Naming l.tables.counts l.tables.area.now l.run l.names l.initial.state l.initial.clauses l.state l.clauses l.i

@@ -4,4 +4,4 @@ use Rattle.binary_encoding.proofs.Links.{Linked}
 use Rattle.binary_encoding.proofs.link_all.Given as goal
 
 abbrev pub invariant-loop-y : goal.invariant-loop-y
-invariant-loop-y l = Linked (counts_in l.index) l.index.areas.marks.now l.index.areas.unions.now l.index.areas.tables.area.now l.l l.r l.initial.m l.initial.s l.initial.clauses l.s l.clauses l.m l.y
+invariant-loop-y l = Linked (counts_in l.index) l.index.areas.marks.now l.index.areas.unions.now l.index.areas.tables.area.now l.run l.initial.state l.initial.clauses l.state l.clauses l.y

@@ -2,14 +2,18 @@
 use Rattle.index.specs.Views.{catalogue_of, tables_of}
 use Prim.Native.Nat.{◌-◌}
 use lib.ListN.{length}
-use Rattle.state.specs.Layout.{held}
 use Rattle.blocking.specs.Blocking.{Listed}
-use Rattle.serving.specs.Flags.{Flagged}
+use Rattle.serving.specs.Flags.{AreFlagged}
 use Rattle.carried.proofs.Sheets.{Left}
 use Rattle.carried.proofs.carry_sheet.Given as goal
 
 abbrev pub invariant-loop-at : goal.invariant-loop-at
-invariant-loop-at l = Left (catalogue_of l.catalogue) l.l l.job l.from l.initial.s l.initial.clauses l.initial.w l.memory.settled l.memory.blocking l.at l.m l.s l.clauses l.w × Flagged (catalogue_of l.catalogue) l.l l.goals l.m (held l.l l.s) × Listed (tables_of l.catalogue).conditions l.memory.listing
+invariant-loop-at l =
+    record {
+      left : Left (catalogue_of l.catalogue) l.job l.from l.initial.state l.initial.clauses l.initial.w l.at l.memory.settled l.memory.blocking l.state l.clauses l.w;
+      flagged : AreFlagged (catalogue_of l.catalogue) l.goals l.state;
+      listed : Listed (tables_of l.catalogue).conditions l.memory.listing;
+    }
 
 abbrev pub decreases-loop-at : goal.decreases-loop-at
 decreases-loop-at l = length l.job - l.at

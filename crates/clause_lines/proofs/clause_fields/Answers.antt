@@ -20,8 +20,8 @@ use Rattle.clause_lines.proofs.Clauses.{
 use Rattle.clause_lines.proofs.Copying.{stand_still}
 use Rattle.clause_lines.proofs.clause_fields.Goals as goal
 
-pub conditional_head-requires-clause-count_bound : goal.conditional_head-requires-clause-count_bound
-conditional_head-requires-clause-count_bound c = search (rules, stored_within)
+pub conditional_head-requires : goal.conditional_head-requires
+conditional_head-requires c = search (rules, stored_within)
 
 pub candidate_literals-requires-clause-all_known : goal.candidate_literals-requires-clause-all_known
 candidate_literals-requires-clause-all_known c = search (rules, requires_known)

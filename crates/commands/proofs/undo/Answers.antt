@@ -1,7 +1,7 @@
 -- `commands::undo` removes the decisions above a level.
-use borrow.Author.Rules.{rules}
+use mathlib.Core.Path.{refl}
 use Rattle.commands.proofs.Deciding.{undone}
 use Rattle.commands.proofs.undo.Goals as goal
 
 pub returns : goal.returns
-returns c = search (rules, undone)
+returns c = undone (record { limits = refl; area = refl; counters = refl; told = c.undo-state.ensures })

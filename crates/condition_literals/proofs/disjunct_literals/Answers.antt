@@ -21,13 +21,13 @@ disjunct_of-disjunct-requires-clause-there c =
 pub loop-range-init : goal.loop-range-init
 loop-range-init c =
     collect_start _ _ _ _ _ _ _ c.requirement_at-it.ensures (catalogued c.args.catalogue.now) c.requires.q_lt_requirements.0 c.requires.q_lt_requirements.1 _ c.unwrap-condition.ensures
-    (carried _ _ c.conditions.ensures c.ranges-range-items.ensures c.disjunct_of-disjunct.ensures) _ (few_carried c.ranges-range-items.ensures c.disjunct_of-disjunct.ensures) c.requires.q_lt_requirements.2 c.requires.fits c.requires.good_state c.requires.disjunct_known
+    (carried _ _ c.conditions.ensures c.ranges-range-items.ensures c.disjunct_of-disjunct.ensures) _ (few_carried c.ranges-range-items.ensures c.disjunct_of-disjunct.ensures) c.requires.q_lt_requirements.2 c.requires.good_state c.requires.disjunct_known
 
-pub range_literals-m-requires-clause-count_bound : goal.range_literals-m-requires-clause-count_bound
-range_literals-m-requires-clause-count_bound c = (search rules, search (rules, collect_given))
+pub range_literals-count-requires-clause-count_bound : goal.range_literals-count-requires-clause-count_bound
+range_literals-count-requires-clause-count_bound c = (search rules, search (rules, collect_given))
 
-pub range_literals-m-requires-clause-range_known : goal.range_literals-m-requires-clause-range_known
-range_literals-m-requires-clause-range_known c = search (rules, collect_known)
+pub range_literals-count-requires-clause-range_known : goal.range_literals-count-requires-clause-range_known
+range_literals-count-requires-clause-range_known c = search (rules, collect_known)
 
 pub loop-range-preserved : goal.loop-range-preserved
 loop-range-preserved c = search (rules, collect_step)

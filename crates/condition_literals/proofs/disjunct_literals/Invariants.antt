@@ -4,4 +4,4 @@ use Rattle.condition_literals.proofs.Literals.{Collecting}
 use Rattle.condition_literals.proofs.disjunct_literals.Given as goal
 
 abbrev pub invariant-loop-range : goal.invariant-loop-range
-invariant-loop-range l = Collecting (catalogue_of l.catalogue) l.range-items l.l l.n l.initial.s l.s l.m l.range-index
+invariant-loop-range l = Collecting (catalogue_of l.catalogue) l.range-items l.initial.state l.state l.count l.range-index

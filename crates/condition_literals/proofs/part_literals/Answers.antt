@@ -5,8 +5,8 @@ use Rattle.condition_literals.proofs.part_literals.Goals as goal
 pub loop-p-init : goal.loop-p-init
 loop-p-init c = search (rules, going_first)
 
-pub push_if-m-requires-clause-all_known : goal.push_if-m-requires-clause-all_known
-push_if-m-requires-clause-all_known c = search (rules, going_known)
+pub push_if-all-requires-clause-all_known : goal.push_if-all-requires-clause-all_known
+push_if-all-requires-clause-all_known c = search (rules, going_known)
 
 pub loop-p-preserved : goal.loop-p-preserved
 loop-p-preserved c = search (rules, going_next)

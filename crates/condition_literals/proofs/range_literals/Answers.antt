@@ -16,4 +16,4 @@ pub returns : goal.returns
 returns c = search (rules, one_pushed)
 
 pub literal_of-literal-requires-clause-o_value : goal.literal_of-literal-requires-clause-o_value
-literal_of-literal-requires-clause-o_value c = (one_fits _ _ _ _ _ (catalogued c.args.catalogue.now) c.requires.count_bound.1 c.range_name.ensures, search (rules, one_known))
+literal_of-literal-requires-clause-o_value c = (one_fits _ _ _ _ _ (catalogued c.args.catalogue.now) c.requires.count_bound.1 c.range_name-name.ensures, search (rules, one_known))

@@ -2,5 +2,5 @@
 use Rattle.constraints.proofs.Serving.{none_constrained}
 use Rattle.constraints.proofs.constrain_few.Goals as goal
 
-pub returns-then-count-eq0 : goal.returns-then-count-eq0
-returns-then-count-eq0 c = none_constrained _ _ _ _ c.requires.counted c.if-count-eq0.true
+pub returns-else-count-ne0 : goal.returns-else-count-ne0
+returns-else-count-ne0 c = none_constrained _ _ _ _ c.requires.counted c.if-count-ne0.false

@@ -6,7 +6,7 @@ pub loop-index-init : goal.loop-index-init
 loop-index-init c = search (rules, waited_start)
 
 pub loop-index-preserved : goal.loop-index-preserved
-loop-index-preserved c = waited_step c.loop-index.invariant c.loop-index-test.true (search rules) c.add_waiting-m.ensures
+loop-index-preserved c = waited_step c.loop-index.invariant c.loop-index-test.true (search rules) c.add_waiting.ensures
 
 pub returns : goal.returns
 returns c = waited_end c.loop-index.invariant c.loop-index-test.false

@@ -3,4 +3,4 @@ use Rattle.firing.proofs.Waitings.{Waited}
 use Rattle.firing.proofs.add_waitings.Given as goal
 
 abbrev pub invariant-loop-index : goal.invariant-loop-index
-invariant-loop-index l = Waited l.l l.q l.indices l.initial.m l.initial.w l.m l.w l.index-index
+invariant-loop-index l = Waited l.q l.indices l.initial.state l.initial.w l.state l.w l.index-index

@@ -3,8 +3,8 @@ use borrow.Author.Rules.{rules}
 use Rattle.goals.proofs.Decided.{part_in_tables, true_some, true_none}
 use Rattle.goals.proofs.decided_true.Goals as goal
 
-pub variable-requires-clause-o_value : goal.variable-requires-clause-o_value
-variable-requires-clause-o_value c = search (rules, part_in_tables)
+pub variable-requires-clause-origin_value : goal.variable-requires-clause-origin_value
+variable-requires-clause-origin_value c = search (rules, part_in_tables)
 
 pub returns-in-Some : goal.returns-in-Some
 returns-in-Some c = search (rules, true_some)

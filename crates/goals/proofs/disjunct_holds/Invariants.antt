@@ -3,12 +3,9 @@ use Rattle.index.specs.Views.{catalogue_of, tables_of}
 use mathlib.Core.List.{[]}
 use lib.ListN.{get_or}
 use Rattle.rules.specs.Conditions.{disjuncts}
-use Rattle.state.specs.Layout.{held}
-use Rattle.variable_map.specs.Mapping.{variables}
-use Rattle.decision_tracker.specs.Tracking.{decisions}
-use Rattle.goals.specs.Goals.{true_of}
+use Rattle.goals.specs.Goals.{truth_of}
 use Rattle.goals.proofs.Decided.{Holding}
 use Rattle.goals.proofs.disjunct_holds.Given as goal
 
 abbrev pub invariant-loop-range : goal.invariant-loop-range
-invariant-loop-range l = Holding (catalogue_of l.catalogue) (true_of (variables l.n.variables (held l.l l.s)) (decisions l.n.decisions (held l.l l.s))) (get_or (disjuncts (tables_of l.catalogue).conditions l.c) l.i []) l.range-index
+invariant-loop-range l = Holding (catalogue_of l.catalogue) (truth_of l.state) (get_or (disjuncts (tables_of l.catalogue).conditions l.c) l.i []) l.range-index

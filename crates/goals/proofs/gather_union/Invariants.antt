@@ -5,7 +5,7 @@ use Rattle.goals.proofs.Hand.{Gathering}
 use Rattle.goals.proofs.gather_union.Given as goal
 
 abbrev pub invariant-loop-i : goal.invariant-loop-i
-invariant-loop-i l = Gathering (counts_of l.catalogue) l.catalogue.index.areas.unions.now l.u l.l l.initial.s l.s l.m l.i
+invariant-loop-i l = Gathering (counts_of l.catalogue) l.catalogue.index.areas.unions.now l.u l.initial.state l.state l.count l.i
 
 abbrev pub decreases-loop-i : goal.decreases-loop-i
 decreases-loop-i l = (counts_of l.catalogue).members - l.i

@@ -5,4 +5,4 @@ use Rattle.handling.proofs.Steps.{Firing}
 use Rattle.handling.proofs.add_all_fired.Given as goal
 
 abbrev pub invariant-loop-index : goal.invariant-loop-index
-invariant-loop-index l = Firing (catalogue_of l.catalogue) l.l (run_of l.r) l.q l.ranges l.indices l.initial.m l.initial.s l.initial.clauses l.m l.s l.clauses l.index-index
+invariant-loop-index l = Firing (catalogue_of l.catalogue) (run_of l.run) l.q l.ranges l.indices l.initial.state l.initial.clauses l.state l.clauses l.index-index

@@ -6,5 +6,5 @@ use Rattle.handling.proofs.add_gate.Goals as goal
 pub returns-then-new : goal.returns-then-new
 returns-then-new c = gate_added _ _ c.if-new.true (its_goal _ _ _ _ _ _ c.requirement_at-it.ensures) c.requires.named c.requires.found c.rest_false-all.ensures c.add_gated.ensures
 
-pub returns : goal.returns
-returns c = gate_old _ _ c.if-new.false
+pub returns-else-new : goal.returns-else-new
+returns-else-new c = gate_old _ _ c.if-new.false

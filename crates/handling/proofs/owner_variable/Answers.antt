@@ -7,4 +7,4 @@ pub variable_of-requires-clause-o_value : goal.variable_of-requires-clause-o_val
 variable_of-requires-clause-o_value c = owner_in_tables _ _ _ _ _ _ c.requirement_at-it.ensures _ c.owner_origin.ensures (catalogued c.args.catalogue.now) c.requires.q_lt_requirements
 
 pub returns : goal.returns
-returns c = found _ _ _ (owner_origin_law _ _ _ _ _ _ c.requirement_at-it.ensures _ c.owner_origin.ensures) c.variable_of.ensures c.requires.good_state.mapped c.requires.named.owner
+returns c = found c.args.state.now _ (owner_origin_law _ _ _ _ _ _ c.requirement_at-it.ensures _ c.owner_origin.ensures) c.variable_of.ensures c.requires.good_state.mapped c.requires.named.owner

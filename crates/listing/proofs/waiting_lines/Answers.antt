@@ -3,8 +3,8 @@ use borrow.Author.Rules.{rules}
 use Rattle.listing.proofs.Waiting.{none_waiting}
 use Rattle.listing.proofs.waiting_lines.Goals as goal
 
-pub returns-then-n-eq0 : goal.returns-then-n-eq0
-returns-then-n-eq0 c = search (rules, none_waiting)
+pub returns-then-state-eq0 : goal.returns-then-state-eq0
+returns-then-state-eq0 c = search (rules, none_waiting)
 
 pub chained_lines-requires-clause-long : goal.chained_lines-requires-clause-long
 chained_lines-requires-clause-long c = c.requires.long

@@ -3,4 +3,4 @@ use Rattle.names.proofs.Serving.{parts_named}
 use Rattle.names.proofs.name_parts.Goals as goal
 
 pub returns : goal.returns
-returns c = parts_named _ c.requires.good_alone c.serve_several-a.ensures c.name_locked-b.ensures c.name_each.ensures
+returns c = parts_named _ c.requires.good c.serve_several.ensures c.name_locked.ensures c.name_each.ensures

@@ -4,4 +4,4 @@ use Rattle.naming.proofs.Firsts.{FirstsPassed}
 use Rattle.naming.proofs.first_candidates.Given as goal
 
 abbrev pub invariant-loop-j : goal.invariant-loop-j
-invariant-loop-j l = FirstsPassed (catalogue_of l.catalogue) l.l l.ranges l.initial.m l.initial.s l.m l.s l.seen l.j
+invariant-loop-j l = FirstsPassed (catalogue_of l.catalogue) l.ranges l.initial.state l.state l.seen l.j

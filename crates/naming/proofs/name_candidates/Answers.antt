@@ -6,6 +6,6 @@ pub returns-then-settled : goal.returns-then-settled
 unfolding name_candidates
 returns-then-settled c = rw c.if-settled.true c.first_candidates.ensures
 
-pub returns : goal.returns
+pub returns-else-settled : goal.returns-else-settled
 unfolding name_candidates
-returns c = rw c.if-settled.false c.all_candidates.ensures
+returns-else-settled c = rw c.if-settled.false c.all_candidates.ensures

@@ -1,6 +1,5 @@
 use Rattle.index.proofs.Given.{catalogued}
 use mathlib.Core.Path.{refl}
-use borrow.Author.Rules.{rules}
 use Rattle.goals.proofs.Decided.{carried}
 use Rattle.firing.proofs.Required.{has_condition, there_in}
 use Rattle.naming.proofs.Loops.{pass_start, pass_step}
@@ -19,15 +18,15 @@ disjunct_of-disjunct-requires-clause-there c =
     there_in _ _ c.conditions.ensures (index_given _ _ _ _ _ _ _ c.requirement_at-it.ensures (catalogued c.args.catalogue.now) c.requires.q_lt_requirements _ c.unwrap-condition.ensures)
 
 pub loop-range-init : goal.loop-range-init
-loop-range-init c = pass_start c.requires.good_alone
+loop-range-init c = pass_start c.requires.good
 
-pub name_range-m-requires-clause-r_lt_ranges : goal.name_range-m-requires-clause-r_lt_ranges
-name_range-m-requires-clause-r_lt_ranges c =
+pub name_range-requires-clause-r_lt_ranges : goal.name_range-requires-clause-r_lt_ranges
+name_range-requires-clause-r_lt_ranges c =
     its_range _ _ _ _ _ _ _ c.requirement_at-it.ensures (catalogued c.args.catalogue.now) c.requires.q_lt_requirements _ c.unwrap-condition.ensures
     (carried _ _ c.conditions.ensures c.ranges-range-items.ensures c.disjunct_of-disjunct.ensures) _ c.loop-range-test.true
 
 pub loop-range-preserved : goal.loop-range-preserved
-loop-range-preserved c = pass_step c.loop-range.invariant _ refl c.loop-range-test.true (search rules) c.name_range-m.ensures
+loop-range-preserved c = pass_step c.loop-range.invariant _ refl c.loop-range-test.true c.name_range.ensures
 
 pub returns : goal.returns
 returns c =

@@ -5,4 +5,4 @@ use Rattle.naming.proofs.Loops.{Passed}
 use Rattle.naming.proofs.name_disjunct.Given as goal
 
 abbrev pub invariant-loop-range : goal.invariant-loop-range
-invariant-loop-range l = Passed (catalogue_of l.catalogue) l.l (name_range (catalogue_of l.catalogue)) l.range-items l.initial.m l.initial.s l.m l.s l.range-index
+invariant-loop-range l = Passed (catalogue_of l.catalogue) (name_range (catalogue_of l.catalogue)) l.range-items l.initial.state l.state l.range-index

@@ -7,4 +7,4 @@ use Rattle.naming.proofs.Loops.{Passed}
 use Rattle.naming.proofs.name_disjuncts.Given as goal
 
 abbrev pub invariant-loop-index : goal.invariant-loop-index
-invariant-loop-index l = Passed (catalogue_of l.catalogue) l.l (λ i. fold (name_range (catalogue_of l.catalogue)) (disjunct_at (catalogue_of l.catalogue) l.q i)) l.indices l.initial.m l.initial.s l.m l.s l.index-index
+invariant-loop-index l = Passed (catalogue_of l.catalogue) (λ i. fold (name_range (catalogue_of l.catalogue)) (disjunct_at (catalogue_of l.catalogue) l.q i)) l.indices l.initial.state l.state l.index-index

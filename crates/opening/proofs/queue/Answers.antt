@@ -1,13 +1,16 @@
 -- `opening::queue` puts one task more behind the others, or says that there is no place.
-use Rattle.encoder.proofs.Did.{told_full}
-use Rattle.opening.proofs.Line.{queue_full, queue_more, queue_over}
+use mathlib.Core.Path.{refl}
+use Rattle.encoder.specs.Did.{filled}
+use Rattle.encoder.proofs.Does.{plain_full}
+use Rattle.encoder.proofs.Widening.{queue_widens}
+use Rattle.opening.proofs.Line.{queue_more, queue_over}
 use Rattle.opening.proofs.queue.Goals as goal
 
-pub returns-then-n-ne0 : goal.returns-then-n-ne0
-returns-then-n-ne0 c = queue_full _ (told_full c.if-n-ne0.true)
+pub returns-then-state-ne0 : goal.returns-then-state-ne0
+returns-then-state-ne0 c = plain_full c.if-state-ne0.true (λ k v. queue_widens _)
 
-pub returns-then-n-l : goal.returns-then-n-l
-returns-then-n-l c = queue_more c.push-tail.ensures c.if-n-l.true
+pub returns-then-state : goal.returns-then-state
+returns-then-state c = record { limits = refl; area = refl; did = λ k. queue_more c.push-state.ensures c.if-state.true }
 
-pub returns : goal.returns
-returns c = queue_over _ _ c.requires.0 c.if-n-l.false c.filled.ensures
+pub returns-else-state : goal.returns-else-state
+returns-else-state c = record { limits = refl; area = refl; did = λ k. queue_over _ _ c.args.state.now.fits c.if-state.false (unfold filled in refl) }

@@ -1,19 +1,18 @@
 -- `outcome::run_sheet`: from the state at the start the sheet is carried out, and the job ends.
-use borrow.Author.Rules.{rules}
 use Rattle.std.proofs.lemmas.Result.{err_from_is_err_and}
 use Rattle.outcome.proofs.Walked.{sheet_reaches, sheet_finished, sheet_refused}
 use Rattle.outcome.proofs.run_sheet.Goals as goal
 
 pub carry_sheet-requires-clause-holds : goal.carry_sheet-requires-clause-holds
-carry_sheet-requires-clause-holds c = c.start-n.ensures.holds _ _
+carry_sheet-requires-clause-holds c = c.start-state.ensures.started.holds _ _
 
 pub finish-requires-clause-reaches : goal.finish-requires-clause-reaches
-finish-requires-clause-reaches c = sheet_reaches c.carry_sheet.ensures (search rules) c.requires.given
+finish-requires-clause-reaches c = sheet_reaches c.in_ok-carry_sheet.ensures c.requires.given
 
 pub returns : goal.returns
-returns c = sheet_finished c.carry_sheet.ensures (search rules) c.finish.ensures
+returns c = sheet_finished c.start-state.ensures.limits c.in_ok-carry_sheet.ensures c.finish.ensures
 
-pub returns-in_err-m : goal.returns-in_err-m
-returns-in_err-m c =
+pub returns-in_err-carry_sheet : goal.returns-in_err-carry_sheet
+returns-in_err-carry_sheet c =
     let p = err_from_is_err_and c.from_residual.result c.from_residual.ensures.1 in
-    rw (p.1, p.2) (sheet_refused c.carry_sheet.ensures _ (search rules))
+    rw (p.1, p.2) (sheet_refused c.start-state.ensures.limits _ c.in_err-carry_sheet.ensures)

@@ -1,7 +1,6 @@
 -- `owners::is_open` says so only of a range whose name is open.
-use Rattle.opening.proofs.Opens.{open_name_again}
-use Rattle.owners.proofs.Names.{range_opened}
+use Rattle.owners.proofs.Names.{range_open}
 use Rattle.owners.proofs.is_open.Goals as goal
 
 pub returns : goal.returns
-returns c = λ e. range_opened _ _ _ _ _ _ c.range_name.ensures (open_name_again _ _ _ c.requires.good_alone.good.state.names c.contains.ensures e)
+returns c = λ e. range_open _ _ _ _ _ _ c.range_name.ensures c.requires.good c.lists.ensures e

@@ -6,7 +6,7 @@ use Rattle.parts.proofs.Clauses.{AddedSoFar}
 use Rattle.parts.proofs.add_each.Given as goal
 
 abbrev pub invariant-loop-p : goal.invariant-loop-p
-invariant-loop-p l = AddedSoFar (catalogue_in l.index) l.l (run_of l.r) l.which l.adding (counts_in l.index).parts l.initial.m l.initial.s l.initial.clauses l.m l.s l.clauses l.p
+invariant-loop-p l = AddedSoFar (catalogue_in l.index) (run_of l.run) l.which l.adding (counts_in l.index).parts l.initial.state l.initial.clauses l.state l.clauses l.p
 
 abbrev pub decreases-loop-p : goal.decreases-loop-p
 decreases-loop-p l = (counts_in l.index).parts - l.p

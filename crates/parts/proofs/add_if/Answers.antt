@@ -8,5 +8,5 @@ add_part-requires-clause-known_unless_full c = selected_known _ _ _ _ _ c.requir
 pub returns-then-selects : goal.returns-then-selects
 returns-then-selects c = adding_selected _ _ _ _ c.selects.ensures c.if-selects.true c.add_part.ensures
 
-pub returns : goal.returns
-returns c = adding_other _ _ _ _ c.selects.ensures c.if-selects.false
+pub returns-else-selects : goal.returns-else-selects
+returns-else-selects c = adding_other _ _ _ _ c.selects.ensures c.if-selects.false

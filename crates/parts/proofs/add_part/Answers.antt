@@ -8,13 +8,13 @@ pub variable_of-x-requires-clause-o_value : goal.variable_of-x-requires-clause-o
 variable_of-x-requires-clause-o_value c = search (rules, part_fits)
 
 pub returns-in-Lock : goal.returns-in-Lock
-returns-in-Lock c = lock_added _ _ c.variable_of-x.ensures c.requires.known_unless_full _ c.in-Lock.is c.add_lock.ensures
+returns-in-Lock c = lock_added _ c.variable_of-x.ensures c.requires.known_unless_full _ c.in-Lock.is c.add_lock.ensures.added
 
 pub returns-in-Excluded : goal.returns-in-Excluded
-returns-in-Excluded c = excluded_added _ _ c.variable_of-x.ensures c.requires.known_unless_full _ c.in-Excluded.is c.add_excluded.ensures
+returns-in-Excluded c = excluded_added _ c.variable_of-x.ensures c.requires.known_unless_full _ c.in-Excluded.is c.add_excluded.ensures.added
 
 pub returns-in-Constrains : goal.returns-in-Constrains
-returns-in-Constrains c = constrains_added _ _ c.variable_of-x.ensures c.requires.known_unless_full _ c.in-Constrains.is c.add_constrains.ensures
+returns-in-Constrains c = constrains_added _ c.variable_of-x.ensures c.requires.known_unless_full _ c.in-Constrains.is c.add_constrains.ensures.added
 
 pub returns-in-AuxOut : goal.returns-in-AuxOut
-returns-in-AuxOut c = aux_out_added _ _ c.variable_of-x.ensures c.requires.known_unless_full _ c.in-AuxOut.is c.add_aux_out.ensures
+returns-in-AuxOut c = aux_out_added _ c.variable_of-x.ensures c.requires.known_unless_full _ c.in-AuxOut.is c.add_aux_out.ensures

@@ -3,4 +3,4 @@ use Rattle.parts.proofs.Names.{candidate_named}
 use Rattle.parts.proofs.name_candidate.Goals as goal
 
 pub returns : goal.returns
-returns c = candidate_named _ c.name_tracked-m.ensures c.open_ready.ensures
+returns c = candidate_named _ c.name_tracked.ensures c.open_ready.ensures

@@ -8,8 +8,8 @@ loop-p-init c = search (rules, naming_first)
 
 pub loop-p-preserved : goal.loop-p-preserved
 loop-p-preserved c = elim c.if-is_due.branch [
-  | then-is_due w ↦ rw (w.s-is, w.m-is) (naming_due c.loop-p.invariant c.loop-p-test.true c.next-p.ensures c.is_due.ensures w.if-is_due.true w.name_part-m.auto.s w.name_part-m.ensures)
-  | else-is_due w ↦ rw (w.s-is, w.m-is) (naming_idle c.loop-p.invariant c.loop-p-test.true c.next-p.ensures c.is_due.ensures w.if-is_due.false)
+  | then-is_due w ↦ rw w.state-is (naming_due c.loop-p.invariant c.loop-p-test.true c.next-p.ensures c.is_due.ensures w.if-is_due.true w.name_part.ensures)
+  | else-is_due w ↦ rw w.state-is (naming_idle c.loop-p.invariant c.loop-p-test.true c.next-p.ensures c.is_due.ensures w.if-is_due.false)
 ]
 
 pub returns : goal.returns

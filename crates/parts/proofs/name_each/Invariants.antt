@@ -5,7 +5,7 @@ use Rattle.parts.proofs.Names.{NamedSoFar}
 use Rattle.parts.proofs.name_each.Given as goal
 
 abbrev pub invariant-loop-p : goal.invariant-loop-p
-invariant-loop-p l = NamedSoFar (catalogue_in l.index) l.l l.which l.naming (counts_in l.index).parts l.initial.m l.initial.s l.m l.s l.p
+invariant-loop-p l = NamedSoFar (catalogue_in l.index) l.which l.naming (counts_in l.index).parts l.initial.state l.state l.p
 
 abbrev pub decreases-loop-p : goal.decreases-loop-p
 decreases-loop-p l = (counts_in l.index).parts - l.p

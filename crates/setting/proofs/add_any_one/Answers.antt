@@ -8,5 +8,5 @@ store_setting-requires-clause-literal_bound c = search (rules, made_exists)
 pub returns-then-is_one : goal.returns-then-is_one
 returns-then-is_one c = search (rules, any_one_sets)
 
-pub returns : goal.returns
-returns c = search (rules, any_one_idle)
+pub returns-else-is_one : goal.returns-else-is_one
+returns-else-is_one c = search (rules, any_one_idle)

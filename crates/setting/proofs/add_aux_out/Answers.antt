@@ -8,5 +8,5 @@ store_setting-requires-clause-literal_bound c = search (rules, made_exists)
 pub returns-then-is_true : goal.returns-then-is_true
 returns-then-is_true c = search (rules, aux_out_sets)
 
-pub returns : goal.returns
-returns c = search (rules, aux_out_idle)
+pub returns-else-is_true : goal.returns-else-is_true
+returns-else-is_true c = search (rules, aux_out_idle)

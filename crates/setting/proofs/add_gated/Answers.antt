@@ -8,5 +8,5 @@ store_setting-requires-clause-literal_bound c = search (rules, made_exists)
 pub returns-then-all : goal.returns-then-all
 returns-then-all c = search (rules, gated_sets)
 
-pub returns : goal.returns
-returns c = search (rules, gated_idle)
+pub returns-else-all : goal.returns-else-all
+returns-else-all c = search (rules, gated_idle)

@@ -9,11 +9,8 @@ use Rattle.sheet.proofs.carry_out.Goals as goal
 pub add-requires-clause-parts_bound : goal.add-requires-clause-parts_bound
 add-requires-clause-parts_bound c = omega (arith, c.args.catalogue.now.index.areas.tables.laid.parts)
 
-pub undo-requires-clause-fits : goal.undo-requires-clause-fits
-undo-requires-clause-fits c = search (rules, reaches_rising)
-
-pub undo-requires-clause-kept : goal.undo-requires-clause-kept
-undo-requires-clause-kept c = search (rules, reaches_rising)
+pub undo-requires : goal.undo-requires
+undo-requires c = search (rules, reaches_rising)
 
 pub returns-in-Add-clause-command_did : goal.returns-in-Add-clause-command_did
 returns-in-Add-clause-command_did c = (as_add _ _ _ _ _ _ c.in-Add.is c.add.ensures)

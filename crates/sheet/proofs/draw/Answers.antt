@@ -7,8 +7,8 @@ use Rattle.sheet.proofs.draw.Goals as goal
 pub draw-requires-clause-all_given : goal.draw-requires-clause-all_given
 draw-requires-clause-all_given c = reaches_given c.requires.reaches
 
-pub returns-then-c-catalogue : goal.returns-then-c-catalogue
-returns-then-c-catalogue c = search (rules, draw_did)
+pub returns : goal.returns
+returns c = search (rules, draw_did)
 
-pub returns-else-c-catalogue : goal.returns-else-c-catalogue
-returns-else-c-catalogue c = search (rules, draw_refused)
+pub returns-then-c-catalogue : goal.returns-then-c-catalogue
+returns-then-c-catalogue c = search (rules, draw_refused)

@@ -5,4 +5,4 @@ use Rattle.line_fields.specs.Listed.{texts, conflict_text}
 use Rattle.state_lines.proofs.conflict_lines.Given as goal
 
 abbrev pub invariant-loop-i : goal.invariant-loop-i
-invariant-loop-i l = Writes l.initial.writer l.writer (texts (conflict_text (rows l.n.clauses l.clauses)) l.i)
+invariant-loop-i l = Writes l.initial.writer l.writer (texts (conflict_text (rows l.count l.clauses)) l.i)

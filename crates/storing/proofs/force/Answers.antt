@@ -3,8 +3,8 @@ use Rattle.decision_tracker.proofs.Laws.{literal_free}
 use Rattle.storing.proofs.Setting.{force_sets, force_decided}
 use Rattle.storing.proofs.force.Goals as goal
 
-pub decide-decisions-requires-clause-free : goal.decide-decisions-requires-clause-free
-decide-decisions-requires-clause-free c = search (rules, literal_free)
+pub decide-state-requires-clause-free : goal.decide-state-requires-clause-free
+decide-state-requires-clause-free c = search (rules, literal_free)
 
 pub returns-in-None : goal.returns-in-None
 returns-in-None c = search (rules, force_sets)

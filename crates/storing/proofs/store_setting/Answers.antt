@@ -1,9 +1,12 @@
-use Rattle.encoder.proofs.Did.{told_full, told_going}
-use Rattle.storing.proofs.Adding.{setting_full, setting_more}
+use borrow.Author.Rules.{rules}
+use Rattle.storing.proofs.Adding.{setting_full, setting_more, stored_can_force}
 use Rattle.storing.proofs.store_setting.Goals as goal
 
-pub returns-then-m-ne0 : goal.returns-then-m-ne0
-returns-then-m-ne0 c = setting_full c.store-m.ensures (told_full c.if-m-ne0.true)
+pub force-requires : goal.force-requires
+force-requires c = search (rules, stored_can_force)
 
-pub returns : goal.returns
-returns c = setting_more c.store-m.ensures (told_going c.if-m-ne0.false) c.force.ensures
+pub returns-then-state-eq0 : goal.returns-then-state-eq0
+returns-then-state-eq0 c = search (rules, setting_more)
+
+pub returns-else-state-eq0 : goal.returns-else-state-eq0
+returns-else-state-eq0 c = search (rules, setting_full)

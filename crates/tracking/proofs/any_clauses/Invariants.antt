@@ -3,4 +3,4 @@ use Rattle.tracking.proofs.Parts.{Linking}
 use Rattle.tracking.proofs.any_clauses.Given as goal
 
 abbrev pub invariant-loop-at : goal.invariant-loop-at
-invariant-loop-at l = Linking l.tables.counts l.tables.area.now l.l l.r l.name l.y l.initial.m l.initial.s l.initial.clauses l.s l.clauses l.m l.at
+invariant-loop-at l = Linking l.tables.counts l.tables.area.now l.run l.name l.y l.initial.state l.initial.clauses l.state l.clauses l.at

@@ -6,8 +6,8 @@ use Rattle.tracking.proofs.name_helpers.Goals as goal
 pub loop-j-init : goal.loop-j-init
 loop-j-init c = search (rules, naming_start)
 
-pub name_variable-m-requires-clause-o_value : goal.name_variable-m-requires-clause-o_value
-name_variable-m-requires-clause-o_value c = search (rules, helper_in_tables, any_mapped)
+pub name_variable-requires-clause-o_value : goal.name_variable-requires-clause-o_value
+name_variable-requires-clause-o_value c = search (rules, helper_in_tables, any_mapped)
 
 pub loop-j-preserved : goal.loop-j-preserved
 loop-j-preserved c = search (rules, naming_step)

@@ -3,4 +3,4 @@ use Rattle.tracking.proofs.Helpers.{Naming}
 use Rattle.tracking.proofs.name_helpers.Given as goal
 
 abbrev pub invariant-loop-j : goal.invariant-loop-j
-invariant-loop-j l = Naming l.l l.name l.h l.initial.m l.initial.s l.s l.m l.j
+invariant-loop-j l = Naming l.name l.h l.initial.state l.state l.j

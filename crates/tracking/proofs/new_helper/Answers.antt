@@ -10,5 +10,5 @@ helper_clauses-requires-clause-y_lt_variables c = (search (rules, helper_below),
 pub returns-then-h-helpers : goal.returns-then-h-helpers
 returns-then-h-helpers c = new_helper_one c.requires.helpers_below c.helpers_for-h.ensures _ c.if-h-helpers.true refl c.helper_clauses.ensures
 
-pub returns : goal.returns
-returns c = search (rules, new_helper_none)
+pub returns-else-h-helpers : goal.returns-else-h-helpers
+returns-else-h-helpers c = search (rules, new_helper_none)

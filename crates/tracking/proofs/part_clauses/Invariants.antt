@@ -3,4 +3,4 @@ use Rattle.tracking.proofs.Clauses.{Agreeing}
 use Rattle.tracking.proofs.part_clauses.Given as goal
 
 abbrev pub invariant-loop-j : goal.invariant-loop-j
-invariant-loop-j l = Agreeing l.l l.r l.x l.i l.helpers l.initial.m l.initial.s l.initial.clauses l.s l.clauses l.m l.j
+invariant-loop-j l = Agreeing l.run l.x l.i l.helpers l.initial.state l.initial.clauses l.state l.clauses l.j

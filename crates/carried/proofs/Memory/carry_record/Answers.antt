@@ -1,8 +1,6 @@
 -- `carried::Memory::carry_record` takes one step of the walk, or gives the refusal of the record.
-use mathlib.Core.Path.{refl}
 use Rattle.std.proofs.lemmas.Result.{err_from_is_err_and}
 use Rattle.carried.proofs.Records.{step_unread, step_item, step_done, step_failed}
-use Rattle.carried.proofs.Flags.{next_carried}
 use Rattle.carried.proofs.Memory.carry_record.Goals as goal
 
 pub returns-in_err-record-clause-step_did : goal.returns-in_err-record-clause-step_did
@@ -13,16 +11,13 @@ returns-in_err-record-clause-step_did c =
 pub returns-in-Item-clause-step_did : goal.returns-in-Item-clause-step_did
 returns-in-Item-clause-step_did c = step_item _ _ c.requires.at_in_bounds.0 _ _ _ (rw c.in-Item.is at c.in_ok-record.ensures.record)
 
-pub returns-in_err-counters-in-Sheet-clause-step_did : goal.returns-in_err-counters-in-Sheet-clause-step_did
-returns-in_err-counters-in-Sheet-clause-step_did c =
-    let p = err_from_is_err_and c.from_residual-in_err-counters-in-Sheet.result c.from_residual-in_err-counters-in-Sheet.ensures.1 in
+pub returns-in_err-carry_command-in-Sheet-clause-step_did : goal.returns-in_err-carry_command-in-Sheet-clause-step_did
+returns-in_err-carry_command-in-Sheet-clause-step_did c =
+    let p = err_from_is_err_and c.from_residual-in_err-carry_command-in-Sheet.result c.from_residual-in_err-carry_command-in-Sheet.ensures.1 in
     let e = rw c.in-Sheet.is at c.in_ok-record.ensures.record in
-    rw (p.1, p.2) (step_failed _ _ c.requires.at_in_bounds.0 _ _ e c.in_ok-record.ensures.behind c.in_err-counters-in-Sheet.ensures.settled_did)
+    rw (p.1, p.2) (step_failed _ _ c.requires.at_in_bounds.0 _ _ e c.in_ok-record.ensures.behind c.in_err-carry_command-in-Sheet.ensures.did)
 
-pub returns-in_ok-counters-in-Sheet-clause-step_did : goal.returns-in_ok-counters-in-Sheet-clause-step_did
-returns-in_ok-counters-in-Sheet-clause-step_did c =
+pub returns-in_ok-carry_command-in-Sheet-clause-step_did : goal.returns-in_ok-carry_command-in-Sheet-clause-step_did
+returns-in_ok-carry_command-in-Sheet-clause-step_did c =
     let e = rw c.in-Sheet.is at c.in_ok-record.ensures.record in
-    step_done _ _ c.requires.at_in_bounds.0 _ _ e c.in_ok-record.ensures.behind refl refl c.in_ok-counters-in-Sheet.ensures.settled_did
-
-pub returns-in_ok-counters-in-Sheet-clause-flagged_next : goal.returns-in_ok-counters-in-Sheet-clause-flagged_next
-returns-in_ok-counters-in-Sheet-clause-flagged_next c = next_carried c.in_ok-counters-in-Sheet.ensures.flagged_after refl
+    step_done _ _ c.requires.at_in_bounds.0 _ _ e c.in_ok-record.ensures.behind c.in_ok-carry_command-in-Sheet.ensures.did

@@ -1,13 +1,16 @@
 -- `carried::Memory::draws_nothing` tells that a draw changes nothing: the condition is flagged, or no disjunct of it holds.
 use borrow.Author.Rules.{rules}
-use Rattle.carried.proofs.Blocking.{idles_settled, idles_given, idles_not}
+use Rattle.carried.proofs.Blocking.{idles_flagged, idles_given, idles_later, idles_not}
 use Rattle.carried.proofs.Memory.draws_nothing.Goals as goal
 
-pub returns-then-is_set-clause-idles : goal.returns-then-is_set-clause-idles
-returns-then-is_set-clause-idles c = search (rules, idles_settled)
+pub returns-then-is_flagged-clause-idles : goal.returns-then-is_flagged-clause-idles
+returns-then-is_flagged-clause-idles c = search (rules, idles_flagged)
 
-pub returns-then-c-catalogue-clause-idles : goal.returns-then-c-catalogue-clause-idles
-returns-then-c-catalogue-clause-idles c = search (rules, idles_not)
+pub returns-then-c-conditions-clause-idles : goal.returns-then-c-conditions-clause-idles
+returns-then-c-conditions-clause-idles c = search (rules, idles_not)
 
-pub returns-clause-idles : goal.returns-clause-idles
-returns-clause-idles c = search (rules, idles_given)
+pub returns-then-blocks_by_shared-clause-idles : goal.returns-then-blocks_by_shared-clause-idles
+returns-then-blocks_by_shared-clause-idles c = search (rules, idles_given)
+
+pub returns-else-blocks_by_shared-clause-idles : goal.returns-else-blocks_by_shared-clause-idles
+returns-else-blocks_by_shared-clause-idles c = search (rules, idles_later)

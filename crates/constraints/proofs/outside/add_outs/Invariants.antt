@@ -4,11 +4,11 @@ use Prim.Native.Nat.{◌-◌}
 use Rattle.encoder.specs.Held.{run_of}
 use Rattle.parts.specs.declared.Adding.TheVariants.{AuxOut}
 use Rattle.parts.proofs.Clauses.{AddedSoFar}
-use Rattle.constraints.specs.Outside.{outside, with_clauses}
+use Rattle.constraints.specs.Outside.{outside}
 use Rattle.constraints.proofs.outside.add_outs.Given as goal
 
 abbrev pub invariant-loop-p : goal.invariant-loop-p
-invariant-loop-p l = AddedSoFar (catalogue_in l.index) l.l (run_of l.run) (outside l.r) (AuxOut l.y) (counts_in l.index).parts l.initial.m l.initial.s l.initial.clauses (with_clauses l.count l.m) l.s l.clauses l.p
+invariant-loop-p l = AddedSoFar (catalogue_in l.index) (run_of l.run) (outside l.r) (AuxOut l.y) (counts_in l.index).parts l.initial.state l.initial.clauses l.state l.clauses l.p
 
 abbrev pub decreases-loop-p : goal.decreases-loop-p
 decreases-loop-p l = (counts_in l.index).parts - l.p

@@ -5,7 +5,7 @@ use Rattle.constraints.proofs.OutsideLaws.{ToName}
 use Rattle.constraints.proofs.outside.name_outside.Given as goal
 
 abbrev pub invariant-loop-p : goal.invariant-loop-p
-invariant-loop-p l = ToName (catalogue_in l.index) l.l l.r (counts_in l.index).parts l.initial.m l.initial.s l.m l.s l.p
+invariant-loop-p l = ToName (catalogue_in l.index) l.r (counts_in l.index).parts l.initial.state l.state l.p
 
 abbrev pub decreases-loop-p : goal.decreases-loop-p
 decreases-loop-p l = (counts_in l.index).parts - l.p

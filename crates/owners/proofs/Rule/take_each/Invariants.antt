@@ -1,15 +1,12 @@
 -- `owners::Rule::take_each` takes a rule for each record of an owner, along its chain. The invariant: it was taken for those passed.
 use Rattle.index.specs.Views.{catalogue_of}
-use mathlib.Core.Path.{◌≡◌}
 use Prim.Native.Nat.{◌-◌}
-use lib.ListN.{length}
-use Rattle.state.specs.Layout.{held}
 use Rattle.requirement.specs.Requirements.{owner_is}
 use Rattle.owners.proofs.Rules.{Ruled}
 use Rattle.owners.proofs.Rule.take_each.Given as goal
 
 abbrev pub invariant-loop-i : goal.invariant-loop-i
-invariant-loop-i l = (length l.s ≡ length l.initial.s) × Ruled (catalogue_of l.catalogue) l.l l.self (owner_is l.owner) l.count l.initial.m (held l.l l.initial.s) l.i l.m (held l.l l.s)
+invariant-loop-i l = Ruled (catalogue_of l.catalogue) l.self (owner_is l.owner) l.count l.initial.state l.i l.state
 
 abbrev pub decreases-loop-i : goal.decreases-loop-i
 decreases-loop-i l = l.count - l.i

@@ -1,0 +1,13 @@
+-- `commands::add` adds the root or a part that is given, and refuses another.
+use borrow.Author.Rules.{rules}
+use Rattle.commands.proofs.Adding.{add_root, add_part, add_missing}
+use Rattle.commands.proofs.add.Goals as goal
+
+pub returns-in-Root : goal.returns-in-Root
+returns-in-Root c = search (rules, add_root)
+
+pub returns-then-part-counts : goal.returns-then-part-counts
+returns-then-part-counts c = add_missing c.in-Part.ensures c.if-part-counts.true
+
+pub returns-else-part-counts : goal.returns-else-part-counts
+returns-else-part-counts c = search (rules, add_part)
