@@ -3,14 +3,15 @@
 
 ghost use Rattle.std.specs.Prelude.{◌≡◌, ◌%◌, ◌<◌, ◌≤◌};
 ghost use Rattle.marks.specs.Marks.{WithBit};
-ghost use Rattle.goals.specs.Goals.{truth_of};
-ghost use Rattle.blocking.specs.Blocking.{PartsWatched, Sees, Blocks, range_blocked, RangeBars, NothingAsked, RangeJudged, of_or, KeptVerdict, Judged, ReleasesRange, ReleasesClass, ReleasesWatched, Releases, NothingListed, shared_of, Listed, AllStand, names_blocked, shared_bars, AskedBars, Named, Row, RowBars, DisjunctBars, EachBars, NothingBlocked};
+ghost use Rattle.encoder.specs.Assignments.{Maps, Tracks};
+ghost use Rattle.goals.specs.Goals.{truth_in};
+ghost use Rattle.blocking.specs.Blocking.{PartsWatched, Blocks, range_blocked, RangeBars, NothingAsked, RangeJudged, of_or, KeptVerdict, Judged, ReleasesRange, ReleasesClass, ReleasesWatched, Releases, NothingListed, shared_of, Listed, AllStand, names_blocked, shared_bars, AskedBars, Named, Row, RowBars, DisjunctBars, EachBars, NothingBlocked};
 ghost use Rattle.conditions.specs.Disjuncts.{conditions_of};
 ghost use Rattle.index.specs.Views.{catalogue_of, counts_of, tables_of};
 
 use cache::Choice;
 use conditions::{Conditions, Disjunct};
-use encoder::State;
+use encoder::Assignment;
 use index::Catalogue;
 use marks::Marks;
 use tables::Condition;
@@ -276,20 +277,20 @@ impl Blocking {
     fn range_verdict(
         &mut self,
         catalogue: &Catalogue,
-        state: &State,
+        assignment: &Assignment,
         known: &mut Known,
         r: usize,
     ) -> Verdict
-        requires sees { Sees state.now }
+        requires sees { Maps assignment.now × Tracks assignment.now }
         requires r_lt_ranges { r < (counts_of catalogue.now).ranges }
-        ensures { RangeJudged (catalogue_of catalogue.now) (truth_of state.now) r result known.old self.old known.new self.new }
+        ensures { RangeJudged (catalogue_of catalogue.now) (truth_in assignment.now) r result known.old self.old known.new self.new }
     {
         if self.range_blocked(r) {
             return Verdict::Barred;
         }
         match known.ranges[r] {
             Verdict::Unasked => {
-                if goals::range_holds(catalogue, state, r) {
+                if goals::range_holds(catalogue, assignment, r) {
                     known.ranges[r] = Verdict::Holds;
                     return Verdict::Holds;
                 }
@@ -309,13 +310,13 @@ impl Blocking {
     fn condition_verdict(
         &mut self,
         catalogue: &Catalogue,
-        state: &State,
+        assignment: &Assignment,
         known: &mut Known,
         x: usize,
     ) -> Verdict
-        requires sees { Sees state.now }
+        requires sees { Maps assignment.now × Tracks assignment.now }
         requires x_lt_conditions { x < (counts_of catalogue.now).conditions }
-        ensures { Judged (catalogue_of catalogue.now) (truth_of state.now) x result known.old self.old known.new self.new }
+        ensures { Judged (catalogue_of catalogue.now) (truth_in assignment.now) x result known.old self.old known.new self.new }
     {
         let verdict = known.conditions[x];
         if verdict != Verdict::Unasked {
@@ -323,22 +324,22 @@ impl Blocking {
         }
         match catalogue.index.areas.tables.condition_at(x) {
             Condition::Range(range) => {
-                self.range_verdict(catalogue, state, known, range as usize)
+                self.range_verdict(catalogue, assignment, known, range as usize)
             }
             Condition::And { left, right } => {
-                let first = self.condition_verdict(catalogue, state, known, left as usize);
+                let first = self.condition_verdict(catalogue, assignment, known, left as usize);
                 if first != Verdict::Holds {
                     return known.keep(x, first);
                 }
-                let second = self.condition_verdict(catalogue, state, known, right as usize);
+                let second = self.condition_verdict(catalogue, assignment, known, right as usize);
                 known.keep(x, second)
             }
             Condition::Or { left, right } => {
-                let first = self.condition_verdict(catalogue, state, known, left as usize);
+                let first = self.condition_verdict(catalogue, assignment, known, left as usize);
                 if first == Verdict::Holds {
                     return known.keep(x, first);
                 }
-                let second = self.condition_verdict(catalogue, state, known, right as usize);
+                let second = self.condition_verdict(catalogue, assignment, known, right as usize);
                 known.keep(x, first.or(second))
             }
         }
@@ -368,9 +369,14 @@ impl Blocking {
     }
 
     // This range, if there is one, is asked: is it blocked, because it does not hold?
-    fn bar_shared(&mut self, catalogue: &Catalogue, state: &State, range: Option<u16>) -> bool
-        requires sees { Sees state.now }
-        ensures { AskedBars (catalogue_of catalogue.now) (truth_of state.now) range result self.old self.new }
+    fn bar_shared(
+        &mut self,
+        catalogue: &Catalogue,
+        assignment: &Assignment,
+        range: Option<u16>,
+    ) -> bool
+        requires sees { Maps assignment.now × Tracks assignment.now }
+        ensures { AskedBars (catalogue_of catalogue.now) (truth_in assignment.now) range result self.old self.new }
     {
         let Some(range) = range else {
             return false;
@@ -379,7 +385,7 @@ impl Blocking {
         if r >= catalogue.index.areas.tables.counts.ranges {
             return false;
         }
-        if goals::range_holds(catalogue, state, r) {
+        if goals::range_holds(catalogue, assignment, r) {
             return false;
         }
         self.bar_range(catalogue, r)
@@ -389,18 +395,18 @@ impl Blocking {
     pub fn blocks_by_shared(
         &mut self,
         catalogue: &Catalogue,
-        state: &State,
+        assignment: &Assignment,
         c: usize,
         listing: &Listing,
     ) -> bool
-        requires sees { Sees state.now }
+        requires sees { Maps assignment.now × Tracks assignment.now }
         requires c_bound { c < 256 }
         requires listed { Listed (tables_of catalogue.now).conditions listing.now }
-        ensures { Blocks (catalogue_of catalogue.now) (truth_of state.now) c result self.old self.new }
+        ensures { Blocks (catalogue_of catalogue.now) (truth_in assignment.now) c result self.old self.new }
     {
         let shared = listing.shared[c];
-        self.bar_shared(catalogue, state, shared.first)
-            || self.bar_shared(catalogue, state, shared.second)
+        self.bar_shared(catalogue, assignment, shared.first)
+            || self.bar_shared(catalogue, assignment, shared.second)
     }
 
     // ---- a condition by its list
@@ -422,16 +428,16 @@ impl Blocking {
     fn bar_some(
         &mut self,
         catalogue: &Catalogue,
-        state: &State,
+        assignment: &Assignment,
         known: &mut Known,
         disjunct: &Disjunct,
     ) -> bool
-        requires sees { Sees state.now }
+        requires sees { Maps assignment.now × Tracks assignment.now }
         requires row { Row (counts_of catalogue.now).ranges disjunct.now }
-        ensures { DisjunctBars (catalogue_of catalogue.now) (truth_of state.now) disjunct.now result known.old self.old known.new self.new }
+        ensures { DisjunctBars (catalogue_of catalogue.now) (truth_in assignment.now) disjunct.now result known.old self.old known.new self.new }
     {
         for r in disjunct.ranges() {
-            let verdict = self.range_verdict(catalogue, state, known, *r as usize);
+            let verdict = self.range_verdict(catalogue, assignment, known, *r as usize);
             if verdict == Verdict::Barred {
                 return true;
             }
@@ -443,33 +449,33 @@ impl Blocking {
     fn bar_disjunct(
         &mut self,
         catalogue: &Catalogue,
-        state: &State,
+        assignment: &Assignment,
         known: &mut Known,
         disjunct: &Disjunct,
     ) -> bool
-        requires sees { Sees state.now }
+        requires sees { Maps assignment.now × Tracks assignment.now }
         requires row { Row (counts_of catalogue.now).ranges disjunct.now }
-        ensures { DisjunctBars (catalogue_of catalogue.now) (truth_of state.now) disjunct.now result known.old self.old known.new self.new }
+        ensures { DisjunctBars (catalogue_of catalogue.now) (truth_in assignment.now) disjunct.now result known.old self.old known.new self.new }
     {
-        self.some_barred(disjunct) || self.bar_some(catalogue, state, known, disjunct)
+        self.some_barred(disjunct) || self.bar_some(catalogue, assignment, known, disjunct)
     }
 
     // Has each disjunct of condition c, which is listed, a blocked range?
     fn each_barred(
         &mut self,
         catalogue: &Catalogue,
-        state: &State,
+        assignment: &Assignment,
         c: usize,
         known: &mut Known,
         listing: &Listing,
     ) -> bool
-        requires sees { Sees state.now }
+        requires sees { Maps assignment.now × Tracks assignment.now }
         requires c_lt_conditions { c < (counts_of catalogue.now).conditions }
         requires all_stand { AllStand (tables_of catalogue.now).conditions listing.now c }
-        ensures { EachBars (catalogue_of catalogue.now) (truth_of state.now) c result known.old self.old known.new self.new }
+        ensures { EachBars (catalogue_of catalogue.now) (truth_in assignment.now) c result known.old self.old known.new self.new }
     {
         for i in 0..catalogue.conditions().count(c) {
-            if !self.bar_disjunct(catalogue, state, known, &listing.disjuncts[i]) {
+            if !self.bar_disjunct(catalogue, assignment, known, &listing.disjuncts[i]) {
                 return false;
             }
         }
@@ -480,19 +486,19 @@ impl Blocking {
     fn barred_by_list(
         &mut self,
         catalogue: &Catalogue,
-        state: &State,
+        assignment: &Assignment,
         c: usize,
         known: &mut Known,
         listing: &Listing,
     ) -> bool
-        requires sees { Sees state.now }
+        requires sees { Maps assignment.now × Tracks assignment.now }
         requires c_lt_conditions { c < (counts_of catalogue.now).conditions }
         requires listed { Listed (tables_of catalogue.now).conditions listing.now }
-        ensures { EachBars (catalogue_of catalogue.now) (truth_of state.now) c result known.old self.old known.new self.new }
+        ensures { EachBars (catalogue_of catalogue.now) (truth_in assignment.now) c result known.old self.old known.new self.new }
     {
         match listing.listed {
             Some(listed) if listed as usize == c => {
-                self.each_barred(catalogue, state, c, known, listing)
+                self.each_barred(catalogue, assignment, c, known, listing)
             }
             _ => false,
         }
@@ -504,25 +510,25 @@ impl Blocking {
     pub fn blocks(
         &mut self,
         catalogue: &Catalogue,
-        state: &State,
+        assignment: &Assignment,
         c: usize,
         listing: &mut Listing,
     ) -> bool
-        requires sees { Sees state.now }
+        requires sees { Maps assignment.now × Tracks assignment.now }
         requires c_lt_conditions { c < (counts_of catalogue.now).conditions }
         requires listed { Listed (tables_of catalogue.now).conditions listing.old }
-        ensures blocks { Blocks (catalogue_of catalogue.now) (truth_of state.now) c result self.old self.new }
+        ensures blocks { Blocks (catalogue_of catalogue.now) (truth_in assignment.now) c result self.old self.new }
         ensures listed_2 { Listed (tables_of catalogue.now).conditions listing.new }
     {
         if self.conditions[c] {
             return true;
         }
         let mut known = Known::nothing();
-        if self.barred_by_list(catalogue, state, c, &mut known, listing) {
+        if self.barred_by_list(catalogue, assignment, c, &mut known, listing) {
             self.conditions[c] = true;
             return true;
         }
-        let verdict = self.condition_verdict(catalogue, state, &mut known, c);
+        let verdict = self.condition_verdict(catalogue, assignment, &mut known, c);
         if verdict == Verdict::Barred {
             self.conditions[c] = true;
             listing.note_judged(&catalogue.conditions(), c);

@@ -39,8 +39,12 @@ use Rattle.cache.proofs.Laws.{conditions_held}
 use Rattle.variable_map.specs.declared.Origin as code_origin
 use Rattle.variable_map.specs.declared.Origin.TheVariants as O
 use Rattle.variable_map.specs.Mapping.{origin_of}
-use Rattle.goals.specs.Goals.{true_of, AllGiven}
+use Rattle.encoder.specs.declared.State as encoder
+use Rattle.encoder.specs.declared.Assignment.{Assignment}
+use Rattle.encoder.specs.Assignments.{AssignmentOf}
+use Rattle.goals.specs.Goals.{true_of, truth_of, truth_in, AllGiven}
 use Rattle.goals.proofs.Given.{all_given}
+use Rattle.goals.proofs.Assignments.{truth_same}
 use Rattle.blocking.specs.declared.Blocking.{Blocking}
 use Rattle.blocking.specs.declared.Listing.{Listing}
 use Rattle.blocking.specs.Blocking.{is_blocked, Blocked, Blocks, Releases, Listed}
@@ -107,6 +111,11 @@ module _ {c : Catalogue} {vs : List Origin} {ds : List Decision} (k : ℕ) {flag
   -- there is no such condition
   pub idles_not : Idles c vs ds (Command.draw k) flags blocking false blocking
   idles_not = record { is = λ e. absurd (true≢false (sym e)); guards = guards_draw k (λ w. w) }
+
+-- a condition is asked of a state's assignment
+pub blocks_same : {x : encoder.State} {a : Assignment} {c : Catalogue} {k : ℕ} {b : Bool} {blocking blocking' : Blocking} → AssignmentOf x a
+    → Blocks c (truth_in a) k b blocking blocking' → Blocks c (truth_of x) k b blocking blocking'
+blocks_same e d = rw (← truth_same e) d
 
 pub idles_given : (j : Counts) (m u t : List ℕ) {vs : List Origin} {ds : List Decision} (k : ℕ) {flags : List Bool} {blocking : Blocking} {b : Bool} {blocking' : Blocking} → k < j.conditions
     → Blocks (catalogue j m u t) (true_of vs ds) k b blocking blocking' → Idles (catalogue j m u t) vs ds (Command.draw k) flags blocking b blocking'

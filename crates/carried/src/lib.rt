@@ -159,9 +159,12 @@ impl Memory {
         if c >= conditions {
             return false;
         }
+        let assignment = state.assignment();
         self.blocking
-            .blocks_by_shared(catalogue, state, c, &self.listing)
-            || self.blocking.blocks(catalogue, state, c, &mut self.listing)
+            .blocks_by_shared(catalogue, &assignment, c, &self.listing)
+            || self
+                .blocking
+                .blocks(catalogue, &assignment, c, &mut self.listing)
     }
 
     // Is the command a draw that changes nothing? What is blocked becomes what it is after the command.

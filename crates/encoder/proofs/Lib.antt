@@ -5,3 +5,4 @@ pub mod Frames
 pub mod Widening
 pub mod Clauses
 pub mod Does
+pub mod Assignments

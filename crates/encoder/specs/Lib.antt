@@ -2,3 +2,4 @@ pub mod Held
 pub mod Did
 pub mod Clauses
 pub mod Does
+pub mod Assignments

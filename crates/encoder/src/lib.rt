@@ -42,6 +42,16 @@ pub struct State<'a> {
     pub ghost fits: { Fits limits (length area.now) },
 }
 
+// A run's variables and what is decided of them: its state area, which is only read, its limits, and how many variables and decisions there are.
+#[derive(Clone, Copy)]
+pub struct Assignment<'a> {
+    pub area: &'a [u8],
+    pub limits: Limits,
+    pub variables: usize,
+    pub decisions: usize,
+    pub ghost fits: { Fits limits (length area.now) },
+}
+
 impl State<'_> {
     ghost use Rattle.std.specs.Prelude.{true, ◌<◌, ◌≤◌, get_or};
     ghost use Rattle.rules.specs.Catalogue.{root};
@@ -52,6 +62,19 @@ impl State<'_> {
     ghost use Rattle.variable_map.specs.Mapping.{origin_of, in_tables, found};
     ghost use Rattle.decision_tracker.specs.Tracking.{seen, decision_of, no_decision};
     ghost use Rattle.encoder.specs.Does.{regions_of, variables_of, decisions_of, IsMapped, IsTracked};
+    ghost use Rattle.encoder.specs.Assignments.{AssignmentOf};
+
+    // Its variables and what is decided of them.
+    pub fn assignment(&self) -> Assignment<'_>
+        ensures { AssignmentOf self.now result }
+    {
+        Assignment {
+            area: self.area,
+            limits: self.limits,
+            variables: self.used.variables,
+            decisions: self.used.decisions,
+        }
+    }
 
     // Does this list hold x?
     pub fn lists(&self, list: MarkedList, x: u16) -> bool
@@ -128,6 +151,47 @@ impl State<'_> {
         ensures { result ≡ last_level (decisions_of self.now) }
     {
         decision_tracker::last_level(self.area, self.limits, self.used.decisions)
+    }
+}
+
+impl Assignment<'_> {
+    ghost use Rattle.std.specs.Prelude.{true, ◌<◌, ◌≤◌, get_or};
+    ghost use Rattle.rules.specs.Catalogue.{root};
+    ghost use Rattle.rules.specs.Variables.{chosen};
+    ghost use Rattle.rules.specs.Decisions.{is_true};
+    ghost use Rattle.variable_map.specs.Mapping.{origin_of, in_tables, found};
+    ghost use Rattle.decision_tracker.specs.Tracking.{decision_of, no_decision};
+    ghost use Rattle.encoder.specs.Assignments.{variables_in, decisions_in, Maps, Tracks};
+
+    // The variable of an origin, if it has one.
+    pub fn variable(&self, origin: Origin) -> Option<u16>
+        requires maps { Maps self.now }
+        requires origin_value { in_tables (origin_of origin) ≡ true }
+        ensures { result ≡ found (variables_in self.now) (origin_of origin) }
+    {
+        variable_map::variable(self.area, self.limits, self.variables, origin)
+    }
+
+    // The origin of a variable; of a number that is none, the root.
+    pub fn origin_at(&self, variable: usize) -> Origin
+        requires { self.now.variables ≤ self.now.limits.variables }
+        ensures { origin_of result ≡ get_or (variables_in self.now) variable (chosen root) }
+    {
+        variable_map::origin_at(self.area, self.limits, self.variables, variable)
+    }
+
+    pub fn is_true(&self, variable: u16) -> bool
+        requires { Tracks self.now }
+        ensures { result ≡ is_true (decisions_in self.now) variable }
+    {
+        decision_tracker::is_true(self.area, self.limits, self.decisions, variable)
+    }
+
+    pub fn decision_at(&self, i: usize) -> Decision
+        requires { (self.now.decisions ≤ self.now.limits.variables) × (i < self.now.decisions) }
+        ensures { decision_of result ≡ get_or (decisions_in self.now) i no_decision }
+    {
+        decision_tracker::decision_at(self.area, self.limits, self.decisions, i)
     }
 }
 

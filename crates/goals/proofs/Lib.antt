@@ -5,3 +5,4 @@ pub mod Parts
 pub mod Decided
 pub mod ByDecisions
 pub mod Given
+pub mod Assignments

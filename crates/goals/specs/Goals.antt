@@ -13,6 +13,8 @@ use Rattle.state.specs.Layout.{held}
 use Rattle.marked.specs.Marked.{listed, Marked, Emptied}
 use Rattle.encoder.specs.declared.State.{State}
 use Rattle.encoder.specs.Does.{regions_of, variables_of, decisions_of}
+use Rattle.encoder.specs.declared.Assignment.{Assignment}
+use Rattle.encoder.specs.Assignments.{variables_in, decisions_in}
 
 -- one number more, unless it is there: a step of `distinct`
 unfoldable pub noted : ℕ → List ℕ → List ℕ
@@ -56,6 +58,10 @@ true_of vs ds p = known vs (part_origin p) && is_true ds (part_variable vs p)
 -- that of a state
 abbrev pub truth_of : State → ℕ → Bool
 truth_of x = true_of (variables_of x) (decisions_of x)
+
+-- that of an assignment
+abbrev pub truth_in : Assignment → ℕ → Bool
+truth_in a = true_of (variables_in a) (decisions_in a)
 
 -- its variable is decided false
 unfoldable pub false_of : List Origin → List Decision → ℕ → Bool

@@ -16,11 +16,12 @@ ghost use Rattle.variable_map.specs.Mapping.{origin_of, AllKnown};
 ghost use Rattle.decision_tracker.specs.Tracking.{no_decision};
 ghost use Rattle.marked.specs.Marked.{listed, Marked};
 ghost use Rattle.encoder.specs.Does.{regions_of, variables_of, decisions_of, IsMapped, IsTracked};
-ghost use Rattle.goals.specs.Goals.{truth_of, false_of, true_match, decides_for, HandNotes, HandGathers, HandReleased};
+ghost use Rattle.encoder.specs.Assignments.{variables_in, decisions_in, Maps, Tracks};
+ghost use Rattle.goals.specs.Goals.{truth_of, truth_in, false_of, true_match, decides_for, HandNotes, HandGathers, HandReleased};
 ghost use Rattle.index.specs.Views.{catalogue_of, counts_of, tables_of};
 
 use cache::Choice;
-use encoder::State;
+use encoder::{Assignment, State};
 use index::Catalogue;
 use marked::MarkedList;
 use requirement::Requirement;
@@ -107,20 +108,20 @@ pub fn count(catalogue: &Catalogue, goal: Requirement, most: usize) -> usize
 // ---- what is decided of parts
 
 // Part p has a variable that is decided true.
-pub fn decided_true(state: &State, p: u16) -> bool
-    requires mapped { IsMapped state.now × IsTracked state.now × (p < 1024) }
-    ensures { result ≡ truth_of state.now p }
+pub fn decided_true(assignment: &Assignment, p: u16) -> bool
+    requires mapped { Maps assignment.now × Tracks assignment.now × (p < 1024) }
+    ensures { result ≡ truth_in assignment.now p }
 {
-    match state.variable(Origin::Part(p)) {
-        Some(variable) => state.is_true(variable),
+    match assignment.variable(Origin::Part(p)) {
+        Some(variable) => assignment.is_true(variable),
         None => false,
     }
 }
 
 // Is part p a matching part of range r that is decided true?
-fn true_match(catalogue: &Catalogue, state: &State, r: usize, p: u16) -> bool
-    requires mapped { IsMapped state.now × IsTracked state.now }
-    ensures { result ≡ true_match (catalogue_of catalogue.now) (variables_of state.now) (decisions_of state.now) r p }
+fn true_match(catalogue: &Catalogue, assignment: &Assignment, r: usize, p: u16) -> bool
+    requires mapped { Maps assignment.now × Tracks assignment.now }
+    ensures { result ≡ true_match (catalogue_of catalogue.now) (variables_in assignment.now) (decisions_in assignment.now) r p }
 {
     if p as usize >= catalogue.index.areas.tables.counts.parts {
         return false;
@@ -132,32 +133,32 @@ fn true_match(catalogue: &Catalogue, state: &State, r: usize, p: u16) -> bool
     {
         return false;
     }
-    decided_true(state, p)
+    decided_true(assignment, p)
 }
 
 // Does decision i make such a part true?
-fn decides_for(catalogue: &Catalogue, state: &State, r: usize, i: usize) -> bool
-    requires mapped { IsMapped state.now × IsTracked state.now }
-    requires i_lt_decisions { i < state.now.used.decisions }
-    ensures { result ≡ decides_for (catalogue_of catalogue.now) (variables_of state.now) (decisions_of state.now) r (get_or (decisions_of state.now) i no_decision) }
+fn decides_for(catalogue: &Catalogue, assignment: &Assignment, r: usize, i: usize) -> bool
+    requires mapped { Maps assignment.now × Tracks assignment.now }
+    requires i_lt_decisions { i < assignment.now.decisions }
+    ensures { result ≡ decides_for (catalogue_of catalogue.now) (variables_in assignment.now) (decisions_in assignment.now) r (get_or (decisions_in assignment.now) i no_decision) }
 {
-    let decision = state.decision_at(i);
+    let decision = assignment.decision_at(i);
     if !decision.value {
         return false;
     }
-    match state.origin_at(decision.variable as usize) {
-        Origin::Part(part) => true_match(catalogue, state, r, part),
+    match assignment.origin_at(decision.variable as usize) {
+        Origin::Part(part) => true_match(catalogue, assignment, r, part),
         _ => false,
     }
 }
 
 // Some matching part of range r is decided true: by the decisions.
-fn some_decides(catalogue: &Catalogue, state: &State, r: usize) -> bool
-    requires mapped { IsMapped state.now × IsTracked state.now }
-    ensures { result ≡ any (truth_of state.now) (matching (catalogue_of catalogue.now) r) }
+fn some_decides(catalogue: &Catalogue, assignment: &Assignment, r: usize) -> bool
+    requires mapped { Maps assignment.now × Tracks assignment.now }
+    ensures { result ≡ any (truth_in assignment.now) (matching (catalogue_of catalogue.now) r) }
 {
-    for i in 0..state.used.decisions {
-        if decides_for(catalogue, state, r, i) {
+    for i in 0..assignment.decisions {
+        if decides_for(catalogue, assignment, r, i) {
             return true;
         }
     }
@@ -165,19 +166,19 @@ fn some_decides(catalogue: &Catalogue, state: &State, r: usize) -> bool
 }
 
 // Some matching part of range r is decided true. Where it has more of them than there are decisions it is asked by the decisions.
-pub fn range_holds(catalogue: &Catalogue, state: &State, r: usize) -> bool
-    requires mapped { IsMapped state.now × IsTracked state.now }
-    ensures { result ≡ any (truth_of state.now) (matching (catalogue_of catalogue.now) r) }
+pub fn range_holds(catalogue: &Catalogue, assignment: &Assignment, r: usize) -> bool
+    requires mapped { Maps assignment.now × Tracks assignment.now }
+    ensures { result ≡ any (truth_in assignment.now) (matching (catalogue_of catalogue.now) r) }
 {
-    let mut left = state.used.decisions;
+    let mut left = assignment.decisions;
     let mut p = catalogue.index.first_chosen(r, Choice::Matching);
     while p < catalogue.index.areas.tables.counts.parts {
         if left == 0 {
-            return some_decides(catalogue, state, r);
+            return some_decides(catalogue, assignment, r);
         }
         left -= 1;
         if catalogue.index.areas.chosen(r, Choice::Matching, p) {
-            if decided_true(state, p as u16) {
+            if decided_true(assignment, p as u16) {
                 return true;
             }
         }
@@ -193,9 +194,10 @@ pub fn disjunct_holds(catalogue: &Catalogue, state: &State, c: usize, i: usize) 
     ensures { result ≡ holds_now (catalogue_of catalogue.now) (truth_of state.now)
         (get_or (disjuncts (tables_of catalogue.now).conditions c) i []) }
 {
+    let assignment = state.assignment();
     let disjunct = catalogue.conditions().disjunct_of(c, i);
     for range in disjunct.ranges() {
-        if !range_holds(catalogue, state, *range as usize) {
+        if !range_holds(catalogue, &assignment, *range as usize) {
             return false;
         }
     }

@@ -118,7 +118,7 @@ impl Known {
     {
         match self.ranges[r] {
             Verdict::Unknown => {
-                let v = Verdict::from(goals::range_holds(catalogue, state, r));
+                let v = Verdict::from(goals::range_holds(catalogue, &state.assignment(), r));
                 self.ranges[r] = v;
                 v
             }
