@@ -17,6 +17,8 @@ use Rattle.rules.specs.Items.{given, absent, owner_absent}
 use Rattle.rules.specs.Opening.{Opening, set_added, add}
 use Rattle.rules.specs.State as rules
 use Rattle.rules.specs.Sheet.{command_refusals, carried_out, carry_out}
+use Rattle.rules.proofs.Member.{not_one}
+use Rattle.refusal.specs.declared.Refusal.{Refusal}
 use Rattle.refusal.specs.declared.Refusal.TheVariants.{Missing}
 use Rattle.refusal.specs.declared.Thing.TheVariants.{Part}
 use Rattle.refusal.specs.Refusing.{thing_of, refusal_of}
@@ -33,11 +35,10 @@ use Rattle.encoder.specs.declared.Counters.{Counters}
 use Rattle.encoder.specs.declared.State.{State}
 use Rattle.encoder.specs.Held.{Reading, opening_of, state_of, Good}
 use Rattle.encoder.specs.Did.{on_opening}
-use Rattle.encoder.specs.Does.{regions_of}
 use Rattle.state.specs.Limits.{limits_of}
 use Rattle.encoder.proofs.Frames.{good_kept, list_kept, line_kept}
-use Rattle.commands.specs.Commands.{ChangesOf, Changes, with_added, AddsOwner, Adds}
-use Rattle.commands.proofs.Outcomes.{unchanged, changes_as, outcome_carried, outcome_refused}
+use Rattle.commands.specs.Commands.{ChangesOf, Changes, with_added, AddsOwner, AddsTo, Adds}
+use Rattle.commands.proofs.Outcomes.{unchanged, changes_as, carried_out_law, outcome_done, outcome_refused}
 
 pub added_free : (l : Limits) (b : List ℕ) (n o : ℕ) (f : Bool) → Fits l (length b) → Marked 6 7 n (held l b) → o < 1025 → f ≡ is_marked 7 o (held l b)
     → f ≡ false → Free 6 7 n o (held l b)
@@ -70,16 +71,20 @@ module _ (l : Limits) (n : Counters) where
         idle : (c : Catalogue) (cl wt : List ℕ) (v : Reading) → state_of c l v n st cl wt ≡ on_opening (add (owner_of o)) (state_of c l v n st cl wt)
         idle c cl wt v = unfold on_opening add state_of opening_of unless in rw (← owner_after o b m e, t)
 
-    pub new_owner : b ≡ false → {count : ℕ} {st' : ℕ → List ℕ} → Pushed 6 7 n.added o st count st' → Changes l (on_opening (add (owner_of o))) n st (with_added count n) st'
+    new_owner : b ≡ false → {count : ℕ} {st' : ℕ → List ℕ} → Pushed 6 7 n.added o st count st' → Changes l (on_opening (add (owner_of o))) n st (with_added count n) st'
     new_owner t p = record { is = λ c cl wt. changes_as (added_changes p c cl wt) (new c cl wt) }
       where
         new : (c : Catalogue) (cl wt : List ℕ) (v : Reading)
             → on_opening (add_owner o) (state_of c l v n st cl wt) ≡ on_opening (add (owner_of o)) (state_of c l v n st cl wt)
         new c cl wt v = unfold on_opening add_owner add state_of opening_of unless in rw (← owner_after o b m e, t)
 
--- it was added before
-pub add_again : (o : ℕ) {x : State} {b : Bool} → Marked 6 7 x.used.added (regions_of x) → b ≡ is_marked 7 o (regions_of x) → b ≡ true → AddsOwner (owner_of o) x x
-add_again o {x} m e t = record { changes = record { limits = refl; area = refl; changes = again x.limits x.used o m e t }; counters = refl }
+-- of whatever counters have this number
+module _ (l : Limits) (o : ℕ) {k : ℕ} {b : Bool} {st : ℕ → List ℕ} (m : Marked 6 7 k st) (e : b ≡ is_marked 7 o st) where
+  pub add_again : b ≡ true → AddsOwner l (owner_of o) k st k st
+  add_again t = record { changes = λ n z. let same : with_added k n ≡ n = rw (← z) in rw same (again l n o (rw z m) e t) }
+
+  pub add_new : b ≡ false → {count : ℕ} {st' : ℕ → List ℕ} → Pushed 6 7 k o st count st' → AddsOwner l (owner_of o) k st count st'
+  add_new t p = record { changes = λ n z. new_owner l n o (rw z m) e t (rw z p) }
 
 -- ---- the command
 
@@ -105,29 +110,46 @@ missing_part : (c : Catalogue) (owner : ℕ) → (owner ≡ 65535 → ⊥) → l
 unfolding owner_absent absent given
 missing_part c owner n h = rw (ne_eqb owner 65535 n, le-leb (length c.parts) owner h)
 
-module _ {parts owner : ℕ} where
-  pub add_root : {x x' : State} → OwnerOf owner owners.Root → AddsOwner (owner_of 1024) x x' → Adds parts (Command.add owner) x (Ok tt) x'
-  add_root e h =
-      record {
-        outcomes = record { is = λ c _. outcome_carried h.changes (λ cl wt v. carried _ c 1024 owner _ (unfold owner_absent in rw (← e.number)) (unfold items.owner_of in rw (← e.number) root_is)) };
-        counters = h.counters;
-      }
+module _ {parts owner : ℕ} {l : Limits} {k : ℕ} {s : List ℕ} where
+  module _ {d : ℕ} {s' : List ℕ} where
+    add_to_law : (o : ℕ) → ((c : Catalogue) → length c.parts ≡ parts → owner_absent c owner ≡ false) → owner_of o ≡ items.owner_of owner
+        → AddsOwner l (owner_of o) k (held l s) d (held l s') → AddsTo parts l (Command.add owner) k s (Ok d) s'
+    add_to_law o there same h =
+        record {
+          to = λ e q n z c i cl wt. let p : e ≡ d = cc in rw p (carried_out_law ((h.changes n z).is c cl wt) (λ v. carried l c o owner _ (there c i) same));
+          refused = λ f q. absurd (not_one (cc));
+          same = λ f q. absurd (not_one (cc));
+        }
 
-  pub add_part : {p : ℕ} {x x' : State} → OwnerOf owner (owners.Part p) → parts ≤ 1024 → p < parts → AddsOwner (owner_of p) x x' → Adds parts (Command.add owner) x (Ok tt) x'
-  add_part {p} e a b h =
-      let same : p ≡ owner = e.number in
-      record { outcomes = record { is = λ c i. outcome_carried (rw same at h).changes (λ cl wt v. carried _ c owner owner _ (present c owner (rw (i, ← same) b)) (part_owner (omega (arith, same)))) }; counters = h.counters }
-    where
-      part_owner : owner < 1024 → owner_of owner ≡ items.owner_of owner
-      part_owner d = unfold items.owner_of in rw (ne_eqb owner 65535 (λ q. omega arith)) (part_is owner d)
+    pub add_root : OwnerOf owner owners.Root → AddsOwner l (owner_of 1024) k (held l s) d (held l s') → AddsTo parts l (Command.add owner) k s (Ok d) s'
+    add_root e h = add_to_law 1024 (λ c _. unfold owner_absent in rw (← e.number)) (unfold items.owner_of in rw (← e.number) root_is) h
 
-  pub add_missing : {p : ℕ} {x : State} → OwnerOf owner (owners.Part p) → parts ≤ p → Adds parts (Command.add owner) x (Err (Missing Part 1)) x
+    pub add_part : {p : ℕ} → OwnerOf owner (owners.Part p) → parts ≤ 1024 → p < parts → AddsOwner l (owner_of p) k (held l s) d (held l s')
+        → AddsTo parts l (Command.add owner) k s (Ok d) s'
+    add_part {p} e a b h =
+        let same : p ≡ owner = e.number in
+        add_to_law owner (λ c i. present c owner (rw (i, ← same) b)) (part_owner (omega (arith, same))) (rw same at h)
+      where
+        part_owner : owner < 1024 → owner_of owner ≡ items.owner_of owner
+        part_owner d = unfold items.owner_of in rw (ne_eqb owner 65535 (λ q. omega arith)) (part_is owner d)
+
+  pub add_missing : {p : ℕ} → OwnerOf owner (owners.Part p) → parts ≤ p → AddsTo parts l (Command.add owner) k s (Err (Missing Part 1)) s
   add_missing {p} e h =
       let same : p ≡ owner = e.number in
       record {
-        outcomes = record { is = λ c i. outcome_refused (λ cl wt v. refused _ c (missing_part c owner (not_root owner p e.is) (rw (i, ← same) h)) _) };
-        counters = refl;
+        to = λ d q. absurd (not_one (cc));
+        refused = λ f q n z c i cl wt v. let g : f ≡ Missing Part 1 = cc in rw g (refused c (missing_part c owner (not_root owner p e.is) (rw (i, ← same) h)) _);
+        same = λ f q. refl;
       }
     where
-      refused : (l : Limits) (c : Catalogue) → owner_absent c owner ≡ true → (s : rules.State) → carry_out (limits_of l) c (Command.add owner) s ≡ refuse (refusal_of (Missing Part 1))
-      refused l c a s = unfold carry_out command_refusals unless_any refusal_of thing_of in rw a
+      refused : (c : Catalogue) → owner_absent c owner ≡ true → (u : rules.State) → carry_out (limits_of l) c (Command.add owner) u ≡ refuse (refusal_of (Missing Part 1))
+      refused c a u = unfold carry_out command_refusals unless_any refusal_of thing_of in rw a
+
+-- the same of the encoder's state
+module _ {parts : ℕ} {o : Command} {x x' : State} where
+  pub added_to : {d : ℕ} → AddsTo parts x.limits o x.used.added x.area.now (Ok d) x'.area.now → x'.limits ≡ x.limits → x'.area.ghost_name ≡ x.area.ghost_name
+      → x'.used ≡ with_added d x.used → Adds parts o x (Ok tt) x'
+  added_to h limits area e = record { outcomes = record { is = λ c i. outcome_done limits area (λ cl wt. rw e (h.to _ refl x.used refl c i cl wt)) }; counters = rw e }
+
+  pub added_refused : {f : Refusal} {s : List ℕ} → AddsTo parts x.limits o x.used.added x.area.now (Err f) s → x' ≡ x → Adds parts o x (Err f) x'
+  added_refused h e = rw e (record { outcomes = record { is = λ c i. outcome_refused (h.refused _ refl x.used refl c i) }; counters = refl })

@@ -26,7 +26,7 @@ use Rattle.clause.specs.declared.Literal as code
 use Rattle.clause.specs.Literals.{signed, literal_of}
 use Rattle.state.specs.declared.Limits.{Limits}
 use Rattle.state.specs.Layout.{held}
-use Rattle.variable_map.proofs.Laws as variables
+use Rattle.variable_map.proofs.Laws as variable_map
 use Rattle.variable_map.proofs.Laws.{variables_kept}
 use Rattle.decision_tracker.specs.declared.Decision as tracker
 use Rattle.decision_tracker.specs.Tracking.{clause_of, decision_of, decisions, seen, Told}
@@ -39,8 +39,8 @@ use Rattle.encoder.specs.Does.{regions_of, decisions_of}
 use Rattle.state.specs.Limits.{limits_of}
 use Rattle.encoder.proofs.Frames.{good_kept, list_kept, line_kept}
 use Rattle.encoder.proofs.Counted.{with_decisions}
-use Rattle.commands.specs.Commands.{ChangesOf, StateChanges, decided_to, DecidesLiteral, Outcomes, Decides}
-use Rattle.commands.proofs.Outcomes.{unchanged, changes_as, outcome_carried, outcome_refused}
+use Rattle.commands.specs.Commands.{ChangesOf, Changes, StateChanges, decided_to, DecidesLiteral, DecidesTo, Decides}
+use Rattle.commands.proofs.Outcomes.{unchanged, changes_as, carried_out_law, outcome_done, outcome_carried, outcome_refused}
 
 -- ---- a level is too low
 
@@ -72,68 +72,50 @@ module _ {l : Limits} (n : Counters) {count : ℕ} {ds : List Decision} {st st' 
 abbrev pub new_decision : (x : ℕ) (b : Bool) (level : ℕ) → tracker.Decision
 new_decision x b level = record { variable = x; value = b; level = level; clause = None }
 
--- these became the decisions, and no counter changed but theirs
-pub record Decided (ds : List Decision) (x x' : State) : Type 0 where
-  pub limits : x'.limits ≡ x.limits
-  pub area : x'.area.ghost_name ≡ x.area.ghost_name
-  pub counters : x'.used ≡ with_decisions x'.used.decisions x.used
-  pub told : Told x.limits x'.used.decisions ds (regions_of x) (held x.limits x'.area.now)
-
-decided_changes : {ds : List Decision} {x x' : State} → Decided ds x x' → StateChanges (set_decisions ds) x x'
-decided_changes {ds} {x} {x'} d =
-    record {
-      limits = d.limits;
-      area = d.area;
-      changes = record { is = λ c cl wt. rw d.counters (told_changes x.used d.told c cl wt) };
-    }
-
--- the same by another name
-changes_by : {F G : rules.State → rules.State} {x x' : State} → StateChanges F x x'
-    → ((c : Catalogue) (cl wt : List ℕ) (v : Reading) → F (state_of c x.limits v x.used (regions_of x) cl wt) ≡ G (state_of c x.limits v x.used (regions_of x) cl wt)) → StateChanges G x x'
-changes_by h e = record { limits = h.limits; area = h.area; changes = record { is = λ c cl wt. changes_as (h.changes.is c cl wt) (e c cl wt) } }
-
-module _ (y : code.Literal) {level : ℕ} {x : State} {v : Option Bool} (e : v ≡ seen (evaluate (decisions_of x) (literal_of y))) where
-  pub decided_again : v ≡ Some true → DecidesLiteral (literal_of y) level x (Ok tt) x
-  decided_again q =
+module _ {l : Limits} (y : code.Literal) {level k : ℕ} {s : List ℕ} where
+  literal_to : {d : ℕ} {s' : List ℕ} → ((n : Counters) → n.decisions ≡ k → Changes l (decided_to (literal_of y) level) n (held l s) (with_decisions d n) (held l s'))
+      → is_falsified (evaluate (decisions k (held l s)) (literal_of y)) ≡ false → DecidesLiteral l (literal_of y) level k s (Ok d) s'
+  literal_to {d} h e =
       record {
-        to = λ _. sym (falsified_true (decisions_of x) (literal_of y) e q);
-        changes = λ _. record { limits = refl; area = refl; changes = record { is = λ c cl wt. changes_as unchanged (idle c cl wt) } };
-        refused = λ f p. absurd (not_one (cc));
-        same = λ f p. absurd (not_one (cc));
-        counters = refl;
-      }
-    where
-      idle : (c : Catalogue) (cl wt : List ℕ) (w : Reading)
-          → state_of c x.limits w x.used (regions_of x) cl wt ≡ decided_to (literal_of y) level (state_of c x.limits w x.used (regions_of x) cl wt)
-      idle c cl wt w = unfold decided_to when state_of in rw (undecided_seen, ← e, q)
-
-  pub decided_against_law : v ≡ Some false → DecidesLiteral (literal_of y) level x (Err DecidedAgainst) x
-  decided_against_law q =
-      record {
-        to = λ p. absurd (not_one (cc));
-        changes = λ p. absurd (not_one (cc));
-        refused = λ f p. let z : f ≡ DecidedAgainst = cc in (z, sym (falsified_false (decisions_of x) (literal_of y) e q));
-        same = λ f p. refl;
-        counters = refl;
+        to = λ _ _. e;
+        changes = λ d' q. let p : d' ≡ d = cc in rw p h;
+        refused = λ f q. absurd (not_one (cc));
+        same = λ f q. absurd (not_one (cc));
       }
 
-  pub decided_new : v ≡ None → {i : ℕ} {b : Bool} {x' : State} → i ≡ (literal_of y).variable → b ≡ (literal_of y).positive
-      → Decided (snoc (decisions_of x) (decision_of (new_decision i b level))) x x' → DecidesLiteral (literal_of y) level x (Ok tt) x'
-  decided_new q {i} {b} ei eb t =
-      record {
-        to = λ _. sym (falsified_undecided (decisions_of x) (literal_of y) e q);
-        changes = λ _. changes_by (decided_changes t) new;
-        refused = λ f p. absurd (not_one (cc));
-        same = λ f p. absurd (not_one (cc));
-        counters = t.counters;
-      }
-    where
-      new : (c : Catalogue) (cl wt : List ℕ) (w : Reading)
-          → set_decisions (snoc (decisions_of x) (decision_of (new_decision i b level))) (state_of c x.limits w x.used (regions_of x) cl wt)
-          ≡ decided_to (literal_of y) level (state_of c x.limits w x.used (regions_of x) cl wt)
-      new c cl wt w =
-          unfold decided_to when state_of decision_of clause_of in
-          rw (reads_undecided (decisions_of x) (literal_of y) v e q, ei, eb)
+  module _ {v : Option Bool} (e : v ≡ seen (evaluate (decisions k (held l s)) (literal_of y))) where
+    pub decided_again : v ≡ Some true → DecidesLiteral l (literal_of y) level k s (Ok k) s
+    decided_again q = literal_to changes (sym (falsified_true (decisions k (held l s)) (literal_of y) e q))
+      where
+        idle : (n : Counters) → n.decisions ≡ k → (c : Catalogue) (cl wt : List ℕ) (w : Reading)
+            → state_of c l w n (held l s) cl wt ≡ decided_to (literal_of y) level (state_of c l w n (held l s) cl wt)
+        idle n z c cl wt w = unfold decided_to when state_of in rw (z, undecided_seen, ← e, q)
+
+        changes : (n : Counters) → n.decisions ≡ k → Changes l (decided_to (literal_of y) level) n (held l s) (with_decisions k n) (held l s)
+        changes n z =
+            let same : with_decisions k n ≡ n = rw (← z) in
+            rw same (record { is = λ c cl wt. changes_as unchanged (idle n z c cl wt) })
+
+    pub decided_against_law : v ≡ Some false → DecidesLiteral l (literal_of y) level k s (Err DecidedAgainst) s
+    decided_against_law q =
+        record {
+          to = λ d p. absurd (not_one (cc));
+          changes = λ d p. absurd (not_one (cc));
+          refused = λ f p. let z : f ≡ DecidedAgainst = cc in (z, sym (falsified_false (decisions k (held l s)) (literal_of y) e q));
+          same = λ f p. refl;
+        }
+
+    pub decided_new : v ≡ None → {i : ℕ} {b : Bool} → i ≡ (literal_of y).variable → b ≡ (literal_of y).positive → {d : ℕ} {s' : List ℕ}
+        → Told l d (snoc (decisions k (held l s)) (decision_of (new_decision i b level))) (held l s) (held l s') → DecidesLiteral l (literal_of y) level k s (Ok d) s'
+    decided_new q {i} {b} ei eb t =
+        literal_to (λ n z. record { is = λ c cl wt. changes_as (told_changes n t c cl wt) (new n z c cl wt) }) (sym (falsified_undecided (decisions k (held l s)) (literal_of y) e q))
+      where
+        new : (n : Counters) → n.decisions ≡ k → (c : Catalogue) (cl wt : List ℕ) (w : Reading)
+            → set_decisions (snoc (decisions k (held l s)) (decision_of (new_decision i b level))) (state_of c l w n (held l s) cl wt)
+            ≡ decided_to (literal_of y) level (state_of c l w n (held l s) cl wt)
+        new n z c cl wt w =
+            unfold decided_to when state_of decision_of clause_of in
+            rw (z, reads_undecided (decisions k (held l s)) (literal_of y) v e q, ei, eb)
 
 -- ---- the command decide: its refusals in the order 4, 5, 9, 8
 
@@ -168,56 +150,87 @@ module _ (k : limits.Limits) (c : Catalogue) (x value level : ℕ) (s : rules.St
       passes g h = rw (e, f, g, h)
 
 -- of the state that the areas hold
-module _ (x : State) (i value level : ℕ) where
-  module _ (c : Catalogue) (cl wt : List ℕ) (v : Reading) where
-    counted : leb (length (state_of c x.limits v x.used (regions_of x) cl wt).variables) i ≡ leb x.used.variables i
-    unfolding state_of
-    counted = rw (variables.count x.used.variables (regions_of x))
+module _ (l : Limits) (n : Counters) (st : ℕ → List ℕ) (c : Catalogue) (cl wt : List ℕ) (v : Reading) where
+  counted : {variables : ℕ} (i : ℕ) → n.variables ≡ variables → leb (length (state_of c l v n st cl wt).variables) i ≡ leb variables i
+  unfolding state_of
+  counted i p = rw (variable_map.count n.variables st, p)
 
-    decisions_are : decisions_of x ≡ (state_of c x.limits v x.used (regions_of x) cl wt).decisions
-    unfolding state_of
-    decisions_are = refl
+  missing : {variables : ℕ} (i : ℕ) → n.variables ≡ variables → variables ≤ i → leb (length (state_of c l v n st cl wt).variables) i ≡ true
+  missing {variables} i p h = counted i p ∙ le-leb variables i h
 
-  refused_as : {f : Refusal} → ((c : Catalogue) (cl wt : List ℕ) (v : Reading)
-      → carry_out (limits_of x.limits) c (Command.decide i value level) (state_of c x.limits v x.used (regions_of x) cl wt) ≡ refuse (refusal_of f))
-      → Decides (Command.decide i value level) x (Err f) x
-  refused_as h = record { outcomes = record { is = λ c. outcome_refused (h c) }; counters = refl }
+  there : {variables : ℕ} (i : ℕ) → n.variables ≡ variables → i < variables → leb (length (state_of c l v n st cl wt).variables) i ≡ false
+  there {variables} i p h = counted i p ∙ lt-leb variables i h
 
-  pub decide_missing : x.used.variables ≤ i → Decides (Command.decide i value level) x (Err (MissingVariable 1)) x
-  decide_missing h = refused_as (λ c cl wt v. no_variable (limits_of x.limits) c i value level _ (counted c cl wt v ∙ le-leb x.used.variables i h))
+  decisions_are : {k : ℕ} → n.decisions ≡ k → decisions k st ≡ (state_of c l v n st cl wt).decisions
+  unfolding state_of
+  decisions_are q = rw q
 
-  module _ (h : i < x.used.variables) where
-    there : (c : Catalogue) (cl wt : List ℕ) (v : Reading) → leb (length (state_of c x.limits v x.used (regions_of x) cl wt).variables) i ≡ false
-    there c cl wt v = counted c cl wt v ∙ lt-leb x.used.variables i h
+  low_there : {k : ℕ} (level : ℕ) {low : Bool} → n.decisions ≡ k → low ≡ (eqb level 0 || ltb level (last_level (decisions k st))) → too_low level (state_of c l v n st cl wt) ≡ low
+  low_there level q e = low_is c l v n st cl wt level (rw q e)
 
-    pub decide_other : 1 < value → Decides (Command.decide i value level) x (Err (Contradicts OtherValue)) x
-    decide_other a = refused_as (λ c cl wt v. no_value (limits_of x.limits) c i value level _ (there c cl wt v) (lt-ltb 1 value a))
+-- with whatever counters have these numbers
+module _ {l : Limits} {variables k : ℕ} {s : List ℕ} {i value level : ℕ} where
+  refused_as : {f : Refusal} → ((n : Counters) → n.variables ≡ variables → n.decisions ≡ k → (c : Catalogue) (cl wt : List ℕ) (v : Reading)
+      → carry_out (limits_of l) c (Command.decide i value level) (state_of c l v n (held l s) cl wt) ≡ refuse (refusal_of f))
+      → DecidesTo l (Command.decide i value level) variables k s (Err f) s
+  refused_as {f} h = record { to = λ d q. absurd (not_one (cc)); refused = λ g q. let z : g ≡ f = cc in rw z h; same = λ g q. refl }
 
-    module _ (a : value ≤ 1) {low : Bool} (e : low ≡ (eqb level 0 || ltb level (last_level (decisions_of x)))) where
-      pub decide_low : low ≡ true → Decides (Command.decide i value level) x (Err LevelLow) x
-      decide_low q =
+  pub decide_missing : variables ≤ i → DecidesTo l (Command.decide i value level) variables k s (Err (MissingVariable 1)) s
+  decide_missing h = refused_as (λ n p q c cl wt v. no_variable (limits_of l) c i value level _ (missing l n (held l s) c cl wt v i p h))
+
+  module _ (h : i < variables) where
+    pub decide_other : 1 < value → DecidesTo l (Command.decide i value level) variables k s (Err (Contradicts OtherValue)) s
+    decide_other a = refused_as (λ n p q c cl wt v. no_value (limits_of l) c i value level _ (there l n (held l s) c cl wt v i p h) (lt-ltb 1 value a))
+
+    module _ (a : value ≤ 1) {low : Bool} (e : low ≡ (eqb level 0 || ltb level (last_level (decisions k (held l s))))) where
+      pub decide_low : low ≡ true → DecidesTo l (Command.decide i value level) variables k s (Err LevelLow) s
+      decide_low z =
           refused_as
-          (λ c cl wt v. is_low (limits_of x.limits) c i value level _ (there c cl wt v) (le-ltb 1 value a) (low_is c x.limits v x.used (regions_of x) cl wt level e ∙ q))
+          (λ n p q c cl wt v. is_low (limits_of l) c i value level _ (there l n (held l s) c cl wt v i p h) (le-ltb 1 value a) (low_there l n (held l s) c cl wt v level q e ∙ z))
 
-      module _ (q : low ≡ false) (y : code.Literal) (p : literal_of y ≡ signed i (eqb value 1)) where
-        pub decide_carried : {r : Result (Unit {0}) Refusal} {x' : State} → DecidesLiteral (literal_of y) level x r x' → Decides (Command.decide i value level) x r x'
-        decide_carried {r} {x'} d = record { outcomes = record { is = λ c. outcome c r d }; counters = d.counters }
+      module _ (z : low ≡ false) (y : code.Literal) (w : literal_of y ≡ signed i (eqb value 1)) where
+        pub decide_carried : {r : Result ℕ Refusal} {s' : List ℕ} → DecidesLiteral l (literal_of y) level k s r s' → DecidesTo l (Command.decide i value level) variables k s r s'
+        decide_carried {r} {s'} d' =
+            record {
+              to = λ m t n p q c cl wt. carried_out_law ((d.changes m t n q).is c cl wt)
+                  (λ v. passes (limits_of l) c i value level _ (there l n (held l s) c cl wt v i p h) (le-ltb 1 value a) (low_there l n (held l s) c cl wt v level q e ∙ z)
+                  (rw (decisions_are l n (held l s) c cl wt v q) at (d.to m t)));
+              refused = λ f t n p q c cl wt v.
+                  let g = d.refused f t in
+                  rw g.0
+                  (is_false (limits_of l) c i value level _ (there l n (held l s) c cl wt v i p h) (le-ltb 1 value a) (low_there l n (held l s) c cl wt v level q e ∙ z)
+                  (rw (decisions_are l n (held l s) c cl wt v q) at g.1));
+              same = d.same;
+            }
           where
-            literal : {r : Result (Unit {0}) Refusal} → DecidesLiteral (literal_of y) level x r x' → DecidesLiteral (signed i (eqb value 1)) level x r x'
-            literal k = rw p at k
+            d : DecidesLiteral l (signed i (eqb value 1)) level k s r s'
+            d = rw w at d'
 
-            outcome : (c : Catalogue) (r : Result (Unit {0}) Refusal) → DecidesLiteral (literal_of y) level x r x' → Outcomes c (Command.decide i value level) x r x'
-            outcome c (Ok u) k =
-                let k' = literal k in
-                outcome_carried (k'.changes refl)
-                (λ cl wt v. passes (limits_of x.limits) c i value level _ (there c cl wt v) (le-ltb 1 value a) (low_is c x.limits v x.used (regions_of x) cl wt level e ∙ q) (rw (decisions_are c cl wt v) at (k'.to refl)))
-            outcome c (Err f) k =
-                let k' = literal k in
-                let s = k'.refused f refl in
-                rw (k'.same f refl)
-                (outcome_refused (λ cl wt v. rw s.0 (is_false (limits_of x.limits) c i value level _ (there c cl wt v) (le-ltb 1 value a) (low_is c x.limits v x.used (regions_of x) cl wt level e ∙ q) (rw (decisions_are c cl wt v) at s.1))))
+-- the same of the encoder's state
+module _ {o : Command} {x x' : State} where
+  pub decided_carried : {d : ℕ} → DecidesTo x.limits o x.used.variables x.used.decisions x.area.now (Ok d) x'.area.now → x'.limits ≡ x.limits → x'.area.ghost_name ≡ x.area.ghost_name
+      → x'.used ≡ with_decisions d x.used → Decides o x (Ok tt) x'
+  decided_carried h limits area e = record { outcomes = record { is = λ c. outcome_done limits area (λ cl wt. rw e (h.to _ refl x.used refl refl c cl wt)) }; counters = rw e }
+
+  pub decided_refused : {f : Refusal} {s : List ℕ} → DecidesTo x.limits o x.used.variables x.used.decisions x.area.now (Err f) s → x' ≡ x → Decides o x (Err f) x'
+  decided_refused h e = rw e (record { outcomes = record { is = λ c. outcome_refused (h.refused _ refl x.used refl refl c) }; counters = refl })
 
 -- ---- the command undo: it has no refusals
+
+-- these became the decisions, and no counter changed but theirs
+pub record Decided (ds : List Decision) (x x' : State) : Type 0 where
+  pub limits : x'.limits ≡ x.limits
+  pub area : x'.area.ghost_name ≡ x.area.ghost_name
+  pub counters : x'.used ≡ with_decisions x'.used.decisions x.used
+  pub told : Told x.limits x'.used.decisions ds (regions_of x) (held x.limits x'.area.now)
+
+decided_changes : {ds : List Decision} {x x' : State} → Decided ds x x' → StateChanges (set_decisions ds) x x'
+decided_changes {ds} {x} {x'} d =
+    record {
+      limits = d.limits;
+      area = d.area;
+      changes = record { is = λ c cl wt. rw d.counters (told_changes x.used d.told c cl wt) };
+    }
 
 pub undone : {level : ℕ} {x x' : State} → Decided (up_to_level level (decisions_of x)) x x' → Decides (Command.undo level) x (Ok tt) x'
 undone t =

@@ -1,8 +1,10 @@
 -- From a change of the state to a command's outcome: carried out where no refusal holds, or refused.
-use mathlib.Core.Path.{◌≡◌, refl, sym, ◌∙◌, ap}
+use mathlib.Core.Path.{◌≡◌, refl, sym, ◌∙◌, ap, subst}
 use mathlib.Core.List.{List}
 use Prim.Native.Nat.{ℕ}
+use lib.ListN.{length}
 use Rattle.std.specs.Prelude.{Result, Ok, Err}
+use Rattle.std.specs.Coded.{le_prop}
 use Rattle.rules.specs.Catalogue.{Catalogue}
 use Rattle.rules.specs.Refusals.{ok, refuse}
 use Rattle.rules.specs.Records.{Command}
@@ -12,6 +14,7 @@ use Rattle.rules.proofs.Member.{not_one}
 use Rattle.refusal.specs.declared.Refusal.{Refusal}
 use Rattle.refusal.specs.Refusing.{refusal_of}
 use Rattle.state.specs.declared.Limits.{Limits}
+use Rattle.state.specs.Layout.{held, Fits}
 use Rattle.tables.specs.declared.Counts.{Counts}
 use Rattle.cache.specs.Areas.{catalogue}
 use Rattle.cache.proofs.Laws.{parts_held}
@@ -40,17 +43,21 @@ pub carried_out_law : {c : Catalogue} {l : Limits} {o : Command} {F : rules.Stat
 carried_out_law h e = record { good = h.good; hand = h.hand; full = h.full; runs = h.runs; is = λ v. e v ∙ ap ok (sym (h.is v)) }
 
 module _ {c : Catalogue} {o : Command} {x : State} where
-  pub outcome_carried : {F : rules.State → rules.State} {x' : State} → StateChanges F x x'
-      → ((cl wt : List ℕ) (v : Reading) → carry_out (limits_of x.limits) c o (state_of c x.limits v x.used (regions_of x) cl wt) ≡ ok (F (state_of c x.limits v x.used (regions_of x) cl wt)))
-      → Outcomes c o x (Ok tt) x'
-  outcome_carried h p =
+  pub outcome_done : {x' : State} → x'.limits ≡ x.limits → x'.area.ghost_name ≡ x.area.ghost_name
+      → ((cl wt : List ℕ) → CarriedOut c x.limits o x.used (regions_of x) cl wt x'.used (held x.limits x'.area.now)) → Outcomes c o x (Ok tt) x'
+  outcome_done limits area h =
       record {
-        limits = h.limits;
-        area = h.area;
-        carried = λ e cl wt. carried_out_law (h.changes.is c cl wt) (p cl wt);
+        limits = limits;
+        area = area;
+        carried = λ e. h;
         refused = λ f e. absurd (not_one (cc));
         same = λ f e. absurd (not_one (cc));
       }
+
+  pub outcome_carried : {F : rules.State → rules.State} {x' : State} → StateChanges F x x'
+      → ((cl wt : List ℕ) (v : Reading) → carry_out (limits_of x.limits) c o (state_of c x.limits v x.used (regions_of x) cl wt) ≡ ok (F (state_of c x.limits v x.used (regions_of x) cl wt)))
+      → Outcomes c o x (Ok tt) x'
+  outcome_carried h p = outcome_done h.limits h.area (λ cl wt. carried_out_law (h.changes.is c cl wt) (p cl wt))
 
   pub outcome_refused : {f : Refusal}
       → ((cl wt : List ℕ) (v : Reading) → carry_out (limits_of x.limits) c o (state_of c x.limits v x.used (regions_of x) cl wt) ≡ refuse (refusal_of f))
@@ -63,6 +70,15 @@ module _ {c : Catalogue} {o : Command} {x : State} where
         refused = λ g e cl wt v. let q : g ≡ f = cc in rw q (p cl wt v);
         same = λ g e. refl;
       }
+
+-- ---- a state whose area has its bytes again is the same
+
+fits_prop : (l : Limits) (bytes : ℕ) → IsProp (Fits l bytes)
+fits_prop l bytes = Prim.hlevel le_prop
+
+pub state_same : (x : State) {s : List ℕ} (h : Fits x.limits (length s)) → s ≡ x.area.now → record x { area = record (x.area) { now = s }; fits = h } ≡ x
+state_same x h e = subst (λ (t : List ℕ). (h : Fits x.limits (length t)) → record x { area = record (x.area) { now = t }; fits = h } ≡ x)
+    (sym e) (λ h. ap (λ (f : Fits x.limits (length x.area.now)). record x { fits = f }) (fits_prop x.limits (length x.area.now) h x.fits)) h
 
 -- ---- for callers: of the catalogue that the areas hold
 

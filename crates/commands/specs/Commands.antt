@@ -18,12 +18,13 @@ use Rattle.refusal.specs.declared.Refusal.TheVariants.{DecidedAgainst}
 use Rattle.refusal.specs.Refusing.{refusal_of}
 use Rattle.state.specs.declared.Limits.{Limits}
 use Rattle.state.specs.Layout.{held}
+use Rattle.decision_tracker.specs.Tracking.{decisions}
 use Rattle.marked.specs.Marked.{Marked}
 use Rattle.encoder.specs.declared.Counters.{Counters}
 use Rattle.encoder.specs.declared.State.{State}
 use Rattle.encoder.specs.Held.{Reading, state_of, Good}
 use Rattle.encoder.specs.Did.{on_opening, is_full}
-use Rattle.encoder.specs.Does.{regions_of, decisions_of}
+use Rattle.encoder.specs.Does.{regions_of}
 use Rattle.state.specs.Limits.{limits_of}
 use Rattle.encoder.proofs.Counted.{with_decisions}
 
@@ -69,10 +70,9 @@ with_added x n =
       full = n.full;
     }
 
--- owner o is added; no other counter changes
-pub record AddsOwner (o : Owner) (x x' : State) : Type 0 where
-  pub changes : StateChanges (on_opening (opening.add o)) x x'
-  pub counters : x'.used ≡ with_added x'.used.added x.used
+-- owner o is added where there were k, and there are k'; no other counter changes
+pub record AddsOwner (l : Limits) (o : Owner) (k : ℕ) (st : ℕ → List ℕ) (k' : ℕ) (st' : ℕ → List ℕ) : Type 0 where
+  pub changes : (n : Counters) → n.added ≡ k → Changes l (on_opening (opening.add o)) n st (with_added k' n) st'
 
 -- ---- a draw
 
@@ -111,13 +111,12 @@ decided_to x level s =
     when (is_undecided (evaluate s.decisions x))
     (λ (u : rules.State). set_decisions (snoc u.decisions (record { variable = x.variable; value = x.positive; level = level; clause = none })) u) s
 
--- the same, or refused where it is decided false, and then nothing changes; no other counter does
-pub record DecidesLiteral (y : Literal) (level : ℕ) (x : State) (r : Result (Unit {0}) Refusal) (x' : State) : Type 0 where
-  pub to : r ≡ Ok tt → is_falsified (evaluate (decisions_of x) y) ≡ false
-  pub changes : r ≡ Ok tt → StateChanges (decided_to y level) x x'
-  pub refused : (f : Refusal) → r ≡ Err f → (f ≡ DecidedAgainst) × (is_falsified (evaluate (decisions_of x) y) ≡ true)
-  pub same : (f : Refusal) → r ≡ Err f → x' ≡ x
-  pub counters : x'.used ≡ with_decisions x'.used.decisions x.used
+-- the same, where there are k decisions, or refused where it is decided false, and then no byte changes; no other counter does
+pub record DecidesLiteral (l : Limits) (y : Literal) (level k : ℕ) (s : List ℕ) (r : Result ℕ Refusal) (s' : List ℕ) : Type 0 where
+  pub to : (d : ℕ) → r ≡ Ok d → is_falsified (evaluate (decisions k (held l s)) y) ≡ false
+  pub changes : (d : ℕ) → r ≡ Ok d → (n : Counters) → n.decisions ≡ k → Changes l (decided_to y level) n (held l s) (with_decisions d n) (held l s')
+  pub refused : (f : Refusal) → r ≡ Err f → (f ≡ DecidedAgainst) × (is_falsified (evaluate (decisions k (held l s)) y) ≡ true)
+  pub same : (f : Refusal) → r ≡ Err f → s' ≡ s
 
 -- ---- a command
 
@@ -145,6 +144,22 @@ pub record PlainOutcomes (o : Command) (x : State) (r : Result (Unit {0}) Refusa
 -- of one that reads only how many parts it has
 pub record PartOutcomes (parts : ℕ) (o : Command) (x : State) (r : Result (Unit {0}) Refusal) (x' : State) : Type 0 where
   pub is : (c : Catalogue) → length c.parts ≡ parts → Outcomes c o x r x'
+
+-- of one that changes added owners alone, in an area of these bytes: where there were k there are d, whatever the other counters; if refused, no byte changes
+pub record AddsTo (parts : ℕ) (l : Limits) (o : Command) (k : ℕ) (s : List ℕ) (r : Result ℕ Refusal) (s' : List ℕ) : Type 0 where
+  pub to : (d : ℕ) → r ≡ Ok d → (n : Counters) → n.added ≡ k → (c : Catalogue) → length c.parts ≡ parts → (cl wt : List ℕ)
+      → CarriedOut c l o n (held l s) cl wt (with_added d n) (held l s')
+  pub refused : (f : Refusal) → r ≡ Err f → (n : Counters) → n.added ≡ k → (c : Catalogue) → length c.parts ≡ parts → (cl wt : List ℕ) (v : Reading)
+      → carry_out (limits_of l) c o (state_of c l v n (held l s) cl wt) ≡ refuse (refusal_of f)
+  pub same : (f : Refusal) → r ≡ Err f → s' ≡ s
+
+-- of one that changes decisions alone, where there are v variables and k decisions; likewise
+pub record DecidesTo (l : Limits) (o : Command) (v k : ℕ) (s : List ℕ) (r : Result ℕ Refusal) (s' : List ℕ) : Type 0 where
+  pub to : (d : ℕ) → r ≡ Ok d → (n : Counters) → n.variables ≡ v → n.decisions ≡ k → (c : Catalogue) (cl wt : List ℕ)
+      → CarriedOut c l o n (held l s) cl wt (with_decisions d n) (held l s')
+  pub refused : (f : Refusal) → r ≡ Err f → (n : Counters) → n.variables ≡ v → n.decisions ≡ k → (c : Catalogue) (cl wt : List ℕ) (u : Reading)
+      → carry_out (limits_of l) c o (state_of c l u n (held l s) cl wt) ≡ refuse (refusal_of f)
+  pub same : (f : Refusal) → r ≡ Err f → s' ≡ s
 
 -- of one that changes added owners and their number alone
 pub record Adds (parts : ℕ) (o : Command) (x : State) (r : Result (Unit {0}) Refusal) (x' : State) : Type 0 where

@@ -7,12 +7,14 @@ ghost use Rattle.rules.specs.Decisions.{last_level};
 ghost use Rattle.rules.specs.Records.{Command};
 ghost use Rattle.rules.proofs.Levels.{Rising};
 ghost use Rattle.clause.specs.Literals.{literal_of};
+ghost use Rattle.state.specs.Layout.{held, Fits};
+ghost use Rattle.decision_tracker.specs.Tracking.{decisions, Kept};
 ghost use Rattle.marked.specs.Marked.{owner_of, Marked};
 ghost use Rattle.entries.specs.Entries.{no_entry, waiting_in, Long};
 ghost use Rattle.entries.specs.Deferred.{Flags};
 ghost use Rattle.encoder.specs.Does.{regions_of, decisions_of, IsMapped, IsTracked};
 ghost use Rattle.goals.specs.Goals.{AllGiven};
-ghost use Rattle.commands.specs.Commands.{AddsOwner, Adds, is_flagged, DrawDoes, DecidesLiteral, Decides};
+ghost use Rattle.commands.specs.Commands.{AddsOwner, AddsTo, Adds, is_flagged, DrawDoes, DecidesLiteral, DecidesTo, Decides};
 ghost use Rattle.index.specs.Views.{catalogue_of, counts_of};
 ghost use Rattle.tables.specs.Views.{tables_of};
 
@@ -28,38 +30,49 @@ use tables::{Counts, Tables};
 
 // ---- add
 
-// Owner o is added, unless it is already.
-fn push_added(state: &mut State, o: u16)
-    requires marked { Marked 6 7 state.old.used.added (regions_of state.old) × (o < 1025) }
-    ensures { AddsOwner (owner_of o) state.old state.new }
+// Owner o is added, unless it is already: how many are then.
+fn push_added(area: &mut [u8], limits: Limits, count: usize, o: u16) -> usize
+    requires fits { Fits limits (length area.old) }
+    requires marked { Marked 6 7 count (held limits area.old) × (o < 1025) }
+    ensures { AddsOwner limits (owner_of o) count (held limits area.old) result (held limits area.new) }
 {
-    if state.lists(MarkedList::Added, o) {
-        return;
+    if marked::contains(area, limits, MarkedList::Added, o) {
+        return count;
     }
-    state.used.added = marked::push(
-        state.area,
-        state.limits,
-        MarkedList::Added,
-        state.used.added,
-        o,
-    );
+    marked::push(area, limits, MarkedList::Added, count, o)
 }
 
-// An owner is added where there are so many parts.
+// An owner is added where there are so many parts, and so many are added: it changes no other counter, and needs none.
+pub fn add_to(
+    counts: Counts,
+    area: &mut [u8],
+    limits: Limits,
+    count: usize,
+    owner: u16,
+) -> Result<usize, Refusal>
+    requires parts_bound { counts.parts ≤ 1024 }
+    requires fits { Fits limits (length area.old) }
+    requires marked { Marked 6 7 count (held limits area.old) }
+    ensures { AddsTo counts.parts limits (Command.add owner) count area.old result area.new }
+{
+    match Owner::from(owner) {
+        Owner::Root => Ok(push_added(area, limits, count, ROOT)),
+        Owner::Part(part) => {
+            if part as usize >= counts.parts {
+                return Err(Refusal::Missing(Thing::Part, 1));
+            }
+            Ok(push_added(area, limits, count, part))
+        }
+    }
+}
+
+// The same of the encoder's state.
 pub fn add(counts: Counts, state: &mut State, owner: u16) -> Result<(), Refusal>
     requires parts_bound { counts.parts ≤ 1024 }
     requires marked { Marked 6 7 state.old.used.added (regions_of state.old) }
     ensures { Adds counts.parts (Command.add owner) state.old result state.new }
 {
-    match Owner::from(owner) {
-        Owner::Root => push_added(state, ROOT),
-        Owner::Part(part) => {
-            if part as usize >= counts.parts {
-                return Err(Refusal::Missing(Thing::Part, 1));
-            }
-            push_added(state, part);
-        }
-    }
+    state.used.added = add_to(counts, state.area, state.limits, state.used.added, owner)?;
     Ok(())
 }
 
@@ -144,20 +157,36 @@ pub fn draw(catalogue: &Catalogue, state: &mut State, w: &mut [u8], c: u16)
 // ---- decide and undo
 
 // A level is 0 or below the last decision's.
-pub fn too_low(state: &State, level: u16) -> bool
+pub fn too_low(area: &[u8], limits: Limits, count: usize, level: u16) -> bool
+    requires fits { Fits limits (length area.now) }
+    requires count_le_variables { count ≤ limits.variables }
+    ensures { result ≡ (eqb level 0 || ltb level (last_level (decisions count (held limits area.now)))) }
+{
+    level == 0 || level < decision_tracker::last_level(area, limits, count)
+}
+
+// The same of the encoder's state.
+pub fn level_too_low(state: &State, level: u16) -> bool
     requires { state.now.used.decisions ≤ state.now.limits.variables }
     ensures { result ≡ (eqb level 0 || ltb level (last_level (decisions_of state.now))) }
 {
-    level == 0 || level < state.last_level()
+    too_low(state.area, state.limits, state.used.decisions, level)
 }
 
-// A variable gets a value, unless it has the other.
-fn decide_literal(state: &mut State, literal: Literal, level: u16) -> Result<(), Refusal>
-    requires kept { IsTracked state.old × ((literal_of literal).variable < state.old.limits.variables) }
-    ensures { DecidesLiteral (literal_of literal) level state.old result state.new }
+// A variable gets a value, unless it has the other: how many decisions there are then.
+fn decide_literal(
+    area: &mut [u8],
+    limits: Limits,
+    count: usize,
+    literal: Literal,
+    level: u16,
+) -> Result<usize, Refusal>
+    requires fits { Fits limits (length area.old) }
+    requires kept { Kept limits count (held limits area.old) × ((literal_of literal).variable < limits.variables) }
+    ensures { DecidesLiteral limits (literal_of literal) level count area.old result area.new }
 {
-    match state.eval(literal) {
-        Some(true) => Ok(()),
+    match decision_tracker::eval(area, limits, count, literal) {
+        Some(true) => Ok(count),
         Some(false) => Err(Refusal::DecidedAgainst),
         None => {
             let new = Decision {
@@ -166,31 +195,58 @@ fn decide_literal(state: &mut State, literal: Literal, level: u16) -> Result<(),
                 level,
                 clause: None,
             };
-            state.used.decisions = decision_tracker::decide(
-                state.area,
-                state.limits,
-                state.used.decisions,
-                new,
-            );
-            Ok(())
+            Ok(decision_tracker::decide(area, limits, count, new))
         }
     }
 }
 
-pub fn decide(state: &mut State, variable: u16, value: u8, level: u16) -> Result<(), Refusal>
-    requires kept { IsTracked state.old × (state.old.used.variables ≤ state.old.limits.variables) }
-    ensures { Decides (Command.decide variable value level) state.old result state.new }
+// A decision, where there are so many variables and decisions: it changes no other counter, and needs none.
+pub fn decide_to(
+    area: &mut [u8],
+    limits: Limits,
+    variables: usize,
+    count: usize,
+    variable: u16,
+    value: u8,
+    level: u16,
+) -> Result<usize, Refusal>
+    requires fits { Fits limits (length area.old) }
+    requires kept { Kept limits count (held limits area.old) × (variables ≤ limits.variables) }
+    ensures { DecidesTo limits (Command.decide variable value level) variables count area.old result area.new }
 {
-    if variable as usize >= state.used.variables {
+    if variable as usize >= variables {
         return Err(Refusal::MissingVariable(1));
     }
     if value > 1 {
         return Err(Refusal::Contradicts(Contradiction::OtherValue));
     }
-    if too_low(state, level) {
+    if too_low(area, limits, count, level) {
         return Err(Refusal::LevelLow);
     }
-    decide_literal(state, Literal::new(variable, value == 1), level)
+    decide_literal(
+        area,
+        limits,
+        count,
+        Literal::new(variable, value == 1),
+        level,
+    )
+}
+
+// The same of the encoder's state.
+pub fn decide(state: &mut State, variable: u16, value: u8, level: u16) -> Result<(), Refusal>
+    requires kept { IsTracked state.old × (state.old.used.variables ≤ state.old.limits.variables) }
+    ensures { Decides (Command.decide variable value level) state.old result state.new }
+{
+    state.used.decisions = decide_to(
+        state.area,
+        state.limits,
+        state.used.variables,
+        state.used.decisions,
+        variable,
+        value,
+        level,
+    )?;
+    Ok(())
 }
 
 // The decisions above this level are removed.

@@ -47,7 +47,7 @@ fn run(
     ensures command_did { CommandDid (catalogue_of catalogue.now) (rules.Command.run level) state.old clauses.old w.old result state.new clauses.new w.new }
     ensures flagged_after { FlaggedAfter (catalogue_of catalogue.now) settled.new result state.new }
 {
-    if commands::too_low(state, level) {
+    if commands::level_too_low(state, level) {
         return Err(Refusal::LevelLow);
     }
     encoding::run_once(catalogue, state, clauses, w, level, settled);

@@ -1,13 +1,14 @@
--- `commands::add` adds the root or a part that is given, and refuses another.
-use borrow.Author.Rules.{rules}
-use Rattle.commands.proofs.Adding.{add_root, add_part, add_missing}
+-- `commands::add` is `add_to` of the state's area, limits and number of added owners.
+use mathlib.Core.Path.{refl}
+use Rattle.std.proofs.lemmas.Result.{err_from_is_err_and}
+use Rattle.commands.proofs.Outcomes.{state_same}
+use Rattle.commands.proofs.Adding.{added_to, added_refused}
 use Rattle.commands.proofs.add.Goals as goal
 
-pub returns-in-Root : goal.returns-in-Root
-returns-in-Root c = search (rules, add_root)
+pub returns : goal.returns
+returns c = added_to c.in_ok-state.ensures refl refl refl
 
-pub returns-then-part-counts : goal.returns-then-part-counts
-returns-then-part-counts c = add_missing c.in-Part.ensures c.if-part-counts.true
-
-pub returns-else-part-counts : goal.returns-else-part-counts
-returns-else-part-counts c = search (rules, add_part)
+pub returns-in_err-state : goal.returns-in_err-state
+returns-in_err-state c =
+    let p = err_from_is_err_and c.from_residual.result c.from_residual.ensures.1 in
+    rw (p.1, p.2) (added_refused c.in_err-state.ensures (state_same _ _ (c.in_err-state.ensures.same _ refl)))

@@ -1,20 +1,14 @@
--- `commands::decide` carries a decision out, or gives the first of its refusals.
-use borrow.Author.Rules.{rules}
-use Rattle.commands.proofs.Deciding.{literal_below, decide_missing, decide_other, decide_low, decide_carried}
+-- `commands::decide` is `decide_to` of the state's area, limits and numbers of variables and decisions.
+use mathlib.Core.Path.{refl}
+use Rattle.std.proofs.lemmas.Result.{err_from_is_err_and}
+use Rattle.commands.proofs.Outcomes.{state_same}
+use Rattle.commands.proofs.Deciding.{decided_carried, decided_refused}
 use Rattle.commands.proofs.decide.Goals as goal
 
-pub returns-then-variable-state : goal.returns-then-variable-state
-returns-then-variable-state c = search (rules, decide_missing)
-
-pub returns-then-value-gt1 : goal.returns-then-value-gt1
-returns-then-value-gt1 c = search (rules, decide_other)
-
-pub returns-then-too_low : goal.returns-then-too_low
-returns-then-too_low c = search (rules, decide_low)
-
 pub returns : goal.returns
-returns c = search (rules, decide_carried)
+returns c = decided_carried c.in_ok-state.ensures refl refl refl
 
-pub decide_literal-requires : goal.decide_literal-requires
-decide_literal-requires c =
-    record { kept = (c.requires.kept.0, literal_below _ _ c.new.ensures c.if-variable-state.false c.requires.kept.1) }
+pub returns-in_err-state : goal.returns-in_err-state
+returns-in_err-state c =
+    let p = err_from_is_err_and c.from_residual.result c.from_residual.ensures.1 in
+    rw (p.1, p.2) (decided_refused c.in_err-state.ensures (state_same _ _ (c.in_err-state.ensures.same _ refl)))
