@@ -34,6 +34,16 @@ fn digits(out: &mut [u8], n: usize)
     }
 }
 
+// The bytes of `from`, into a place of their length. Byte by byte: so the archive for C needs no `memmove`.
+fn copy_bytes(to: &mut [u8], from: &[u8])
+    requires { length to.old ≡ length from.now }
+    ensures { to.new ≡ from.now }
+{
+    for i in 0..from.len() {
+        to[i] = from[i];
+    }
+}
+
 // The n bytes from place `begin` on, once more at place `at`, as far as the area reaches.
 fn copy(out: &mut [u8], begin: usize, n: usize, at: usize)
     requires { begin + n ≤ at }
@@ -42,7 +52,7 @@ fn copy(out: &mut [u8], begin: usize, n: usize, at: usize)
     if at < out.len() {
         let (written, free) = out.split_at_mut(at);
         let most = n.min(free.len());
-        free[..most].copy_from_slice(&written[begin..begin + most]);
+        copy_bytes(&mut free[..most], &written[begin..begin + most]);
     }
 }
 
@@ -86,7 +96,7 @@ impl<'a> Writer<'a> {
         let end = self.at.saturating_add(bytes.len());
         let length = self.out.len();
         if end <= self.room.min(length) {
-            self.out[self.at..end].copy_from_slice(bytes);
+            copy_bytes(&mut self.out[self.at..end], bytes);
             self.at = end;
         } else if end <= self.room && length == 0 {
             self.at = end;

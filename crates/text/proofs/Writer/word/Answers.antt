@@ -6,7 +6,7 @@ use Rattle.text.proofs.Writer.word.Goals as goal
 
 pub returns-then-end-min : goal.returns-then-end-min
 returns-then-end-min c =
-    at_once _ _ refl refl _ (omega (arith, c.args.self.now.addressable)) (omega arith) _ c.copy_from_slice.ensures.after refl (omega arith)
+    at_once _ _ refl refl _ (omega (arith, c.args.self.now.addressable)) (omega arith) _ c.copy_bytes.ensures refl (omega arith)
 
 pub returns-then-length-eq0 : goal.returns-then-length-eq0
 returns-then-length-eq0 c = counted _ _ refl refl _ (omega (arith, c.args.self.now.addressable)) (omega arith) refl c.if-length-eq0.true
