@@ -135,7 +135,7 @@ fn add_fired(
 {
     let count = condition_literals::disjunct_literals(catalogue, state, q, i);
     if state.limits.literals - state.used.literals < count {
-        state.used.full = 1;
+        state.used = encoder::filled(state.used);
         return;
     }
     let it = catalogue.index.areas.tables.requirement_at(q);

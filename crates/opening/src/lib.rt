@@ -41,7 +41,7 @@ pub fn queue(state: &mut State, task: Task)
     if state.used.tail < 3649 + state.limits.waiting {
         state.used.tail = line::push(state.area, state.limits, state.used.tail, task);
     } else {
-        state.used.full = 1;
+        state.used = encoder::filled(state.used);
     }
 }
 
@@ -120,7 +120,7 @@ pub fn push_several(state: &mut State, name: u16)
         );
         state.used.several += 1;
     } else {
-        state.used.full = 1;
+        state.used = encoder::filled(state.used);
     }
 }
 
@@ -164,7 +164,7 @@ pub fn add_waiting(state: &mut State, w: &mut [u8], e: Entry)
     if state.used.waiting < state.limits.waiting {
         state.used.waiting = entries::push_waiting(w, state.limits, state.used.waiting, e);
     } else {
-        state.used.full = 1;
+        state.used = encoder::filled(state.used);
     }
 }
 
@@ -181,7 +181,7 @@ pub fn name_variable(state: &mut State, o: Origin)
     }
     match variable_map::name(state.area, state.limits, state.used.variables, o) {
         Some(named) => state.used.variables = named.count,
-        None => state.used.full = 1,
+        None => state.used = encoder::filled(state.used),
     }
 }
 

@@ -119,7 +119,7 @@ pub fn add_requires(
         return;
     }
     if state.limits.literals < state.used.literals + count {
-        state.used.full = 1;
+        state.used = encoder::filled(state.used);
     } else {
         store_requires(state, clauses, run, owner, count, goal, all);
     }

@@ -37,7 +37,7 @@ pub fn store(state: &mut State, clauses: &mut [u8], clause: Clause, conflict: Op
         state.used.clauses = solver::append(clauses, state.used.clauses, clause.row(conflict));
         state.used.literals += clause.condition_literals() as usize;
     } else {
-        state.used.full = 1;
+        state.used = encoder::filled(state.used);
     }
 }
 

@@ -1,6 +1,5 @@
 -- `handling::add_fired` adds the requires clause of a fired disjunct, if there is room for its literals.
 use mathlib.Core.Path.{refl}
-use Rattle.encoder.specs.Did.{filled}
 use Rattle.encoder.proofs.Does.{good_with_then, long_then}
 use Rattle.storing.proofs.Adding.{good_can_add}
 use Rattle.condition_literals.proofs.Pushing.{pushes_good, pushes_do}
@@ -10,7 +9,7 @@ use Rattle.handling.proofs.Steps.{hand_after}
 use Rattle.handling.proofs.add_fired.Goals as goal
 
 pub returns-then-state-count : goal.returns-then-state-count
-returns-then-state-count c = fired_over _ c.requires.named c.disjunct_literals-count.ensures _ refl refl (pushes_good c.disjunct_literals-count.ensures c.requires.good.state).literals c.if-state-count.true (unfold filled in refl)
+returns-then-state-count c = fired_over _ c.requires.named c.disjunct_literals-count.ensures _ refl refl (pushes_good c.disjunct_literals-count.ensures c.requires.good.state).literals c.if-state-count.true c.filled-state.ensures
 
 pub returns : goal.returns
 returns c = fired_added _ c.requires.named c.disjunct_literals-count.ensures _ (its_goal _ _ _ _ _ _ c.requirement_at-it.ensures) c.owner_variable-x.ensures (pushes_good c.disjunct_literals-count.ensures c.requires.good.state).literals c.if-state-count.false c.rest_false-all.ensures c.add_requires.ensures.added

@@ -1,6 +1,5 @@
 use mathlib.Core.Path.{refl}
 use borrow.Author.Rules.{rules}
-use Rattle.encoder.specs.Did.{filled}
 use Rattle.storing.proofs.Storing.{store_full, store_more, store_over}
 use Rattle.storing.proofs.store.Goals as goal
 
@@ -11,4 +10,4 @@ pub returns-then-state : goal.returns-then-state
 returns-then-state c = store_more refl refl c.if-state.true refl c.append-state.ensures.value c.append-state.ensures.clauses_after c.row.ensures c.condition_literals.ensures
 
 pub returns-else-state : goal.returns-else-state
-returns-else-state c = store_over refl refl c.requires.0 c.if-state.false (unfold filled in refl)
+returns-else-state c = store_over refl refl c.requires.0 c.if-state.false c.filled-state.ensures
