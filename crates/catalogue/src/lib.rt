@@ -2,7 +2,7 @@
 // What is left of the definitions' walks stays the same at every record.
 #![tactic(auto)]
 
-ghost use Rattle.std.specs.Prelude.{◌≡◌, ◌+◌, ◌*◌, ◌<◌, ◌≤◌, length, take, drop, IsTrue, OnErr};
+ghost use Rattle.std.specs.Prelude.{◌≡◌, ◌+◌, ◌*◌, ◌<◌, ◌≤◌, Ok, None, length, take, drop, IsTrue, IfOk, OnErr};
 ghost use Rattle.rules.specs.Bytes.{word_at};
 ghost use Rattle.reader.specs.Naming.{item_length};
 ghost use Rattle.reader.specs.Reading.{item_read};
@@ -52,7 +52,7 @@ fn add_part(body: &[u8], draft: &mut Draft) -> Result<(), Refusal>
     )
 }
 
-// The item of the record, which is whole, by its kind.
+// The item of the record, which is whole, by its kind. The body is cut by a number of its kind, so that it waits for no table of lengths.
 #[tactic(auto, unfolding(rules::specs::Bytes::byte_at, reader::specs::Reading::item_read, kept::specs::Entered::rows_of))]
 pub fn add_item(reader: Reader, kind: ItemKind, draft: &mut Draft) -> Result<(), Refusal>
     requires whole { reader.at + 1 + item_length kind ≤ length reader.job.now }
@@ -61,33 +61,38 @@ pub fn add_item(reader: Reader, kind: ItemKind, draft: &mut Draft) -> Result<(),
     ensures refused { OnErr result (Unchanged draft.old draft.new) }
     ensures same_areas { SameAreas draft.old draft.new }
 {
-    let body = reader.body(kind.body_length());
     match kind {
-        ItemKind::Name => part_items::add_name(draft, body[0]),
-        ItemKind::Part => add_part(body, draft),
-        ItemKind::Range => part_items::add_range(draft, number(body, 0)),
-        ItemKind::Member => part_items::add_member(draft, number(body, 0), number(body, 2)),
+        ItemKind::Name => part_items::add_name(draft, reader.body(1)[0]),
+        ItemKind::Part => add_part(reader.body(7), draft),
+        ItemKind::Range => part_items::add_range(draft, number(reader.body(2), 0)),
+        ItemKind::Member => {
+            let body = reader.body(4);
+            part_items::add_member(draft, number(body, 0), number(body, 2))
+        }
         ItemKind::Union => rule_items::add_union(draft),
-        ItemKind::UnionMember => rule_items::add_union_member(
-            draft,
-            number(body, 0),
-            number(body, 2),
-        ),
-        ItemKind::Leaf => rule_items::add_leaf(draft, number(body, 0)),
-        ItemKind::Joined => rule_items::add_joined(
-            draft,
-            body[0],
-            number(body, 1),
-            number(body, 3),
-        ),
-        ItemKind::Requirement => rule_items::add_requirement(
-            draft,
-            number(body, 0),
-            body[2],
-            number(body, 3),
-            number(body, 5),
-        ),
-        ItemKind::Constraint => rule_items::add_constraint(draft, number(body, 0), number(body, 2)),
+        ItemKind::UnionMember => {
+            let body = reader.body(4);
+            rule_items::add_union_member(draft, number(body, 0), number(body, 2))
+        }
+        ItemKind::Leaf => rule_items::add_leaf(draft, number(reader.body(2), 0)),
+        ItemKind::Joined => {
+            let body = reader.body(5);
+            rule_items::add_joined(draft, body[0], number(body, 1), number(body, 3))
+        }
+        ItemKind::Requirement => {
+            let body = reader.body(7);
+            rule_items::add_requirement(
+                draft,
+                number(body, 0),
+                body[2],
+                number(body, 3),
+                number(body, 5),
+            )
+        }
+        ItemKind::Constraint => {
+            let body = reader.body(4);
+            rule_items::add_constraint(draft, number(body, 0), number(body, 2))
+        }
     }
 }
 
@@ -95,14 +100,16 @@ pub fn add_item(reader: Reader, kind: ItemKind, draft: &mut Draft) -> Result<(),
 pub fn read_record(reader: Reader, draft: &mut Draft) -> Result<Option<usize>, Refusal>
     requires { (5 * draft.old.members.now.count ≤ reader.at) × (length reader.job.now ≤ 65536) }
     ensures record { RecordRead reader.entry.job.now reader.entry.at (catalogue_in draft.old) result (catalogue_in draft.new) draft.new.members.now.count }
+    ensures unread { (result ≡ Ok None) → Unchanged draft.old draft.new }
     ensures same_areas { SameAreas draft.old draft.new }
 {
     match reader.kind()? {
         Kind::Command(_) => Ok(None),
         Kind::Item(kind) => {
-            let next = reader.behind(kind.body_length())?;
+            reader.behind(kind.body_length())?;
             add_item(reader, kind, draft)?;
-            Ok(Some(next))
+            // The length once more, where the kind is known: the next place waits for no table.
+            Ok(Some(reader.at + 1 + kind.body_length()))
         }
     }
 }
@@ -117,21 +124,25 @@ fn is_part(job: &[u8], at: usize) -> bool
     8 <= job.len() - at && item_kind(job[at]) == Some(ItemKind::Part)
 }
 
-// The parts from `from` on, up to a record of another kind: the place behind them.
+// The parts from `from` on, where one stands, up to a record of another kind: the place behind them.
 fn add_parts(job: &[u8], from: usize, draft: &mut Draft) -> Result<usize, RefusedAt>
-    requires { (from ≤ length job.now) × (5 * draft.old.members.now.count ≤ from) × (length job.now ≤ 65536) }
+    requires first { PartAt job.now from }
+    requires within { (from ≤ length job.now) × (5 * draft.old.members.now.count ≤ from) × (length job.now ≤ 65536) }
     ensures parts { PartsRead job.now from (catalogue_in draft.old) result (catalogue_in draft.new) draft.new.members.now.count }
+    ensures onward { IfOk result (λ next. from < next) }
     ensures same_areas { SameAreas draft.old draft.new }
 {
     let mut at = from;
-    while is_part(job, at) {
+    loop {
         let reader = Reader { job, at };
         if let Err(refusal) = add_part(reader.body(7), draft) {
             return Err(RefusedAt { refusal, at });
         }
         at += 8;
+        if !is_part(job, at) {
+            return Ok(at);
+        }
     }
-    Ok(at)
 }
 
 // The records from the start of the job on: the place of the first sheet record, or the end.
@@ -142,8 +153,12 @@ fn read_records(job: &[u8], draft: &mut Draft) -> Result<usize, RefusedAt>
 {
     let mut at = 0;
     while at < job.len() {
+        if is_part(job, at) {
+            at = add_parts(job, at, draft)?;
+            continue;
+        }
         match read_record(Reader { job, at }, draft) {
-            Ok(Some(next)) => at = add_parts(job, next, draft)?,
+            Ok(Some(next)) => at = next,
             Ok(None) => break,
             Err(refusal) => return Err(RefusedAt { refusal, at }),
         }

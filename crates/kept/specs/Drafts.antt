@@ -30,6 +30,16 @@ pub record Unchanged (d d' : Draft) : Type 0 where
   pub members : d'.members.now.area.now ≡ d.members.now.area.now
   pub vacancies : d'.vacancies.now ≡ d.vacancies.now
 
+-- an area that an item does not enter stays, byte for byte
+abbrev pub MarksStay : Draft → Draft → Type 0
+MarksStay d d' = d'.marks.now.area.now ≡ d.marks.now.area.now
+
+abbrev pub MembersStay : Draft → Draft → Type 0
+MembersStay d d' = d'.members.now.area.now ≡ d.members.now.area.now
+
+abbrev pub TablesStay : Draft → Draft → Type 0
+TablesStay d d' = d'.tables.now.area.now ≡ d.tables.now.area.now
+
 -- the lent areas are the same
 pub record SameAreas (d d' : Draft) : Type 0 where
   pub marks : d'.marks.ghost_name ≡ d.marks.ghost_name

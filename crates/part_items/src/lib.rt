@@ -8,7 +8,7 @@ ghost use Rattle.rules.specs.Lists.{any};
 ghost use Rattle.rules.specs.Catalogue.{no_part};
 ghost use Rattle.tables.specs.Views.{tables_of};
 ghost use Rattle.kept.specs.Vacancies.{nothing_known};
-ghost use Rattle.kept.specs.Drafts.{catalogue_in, EnteredInto, Unchanged, SameAreas};
+ghost use Rattle.kept.specs.Drafts.{catalogue_in, EnteredInto, Unchanged, MarksStay, MembersStay, TablesStay, SameAreas};
 ghost use Rattle.part_items.specs.Second.{such, is_second};
 ghost use Rattle.part_items.specs.Claimed.{Claimed};
 
@@ -19,6 +19,7 @@ use tables::{Flag, Tables};
 pub fn add_name(draft: &mut Draft, flags: u8) -> Result<(), Refusal>
     ensures entered { EnteredInto draft.old (Item.name flags) result draft.new }
     ensures refused { OnErr result (Unchanged draft.old draft.new) }
+    ensures stay { MarksStay draft.old draft.new × MembersStay draft.old draft.new }
     ensures same_areas { SameAreas draft.old draft.new }
 {
     if 64 <= draft.tables.counts.names {
@@ -92,6 +93,7 @@ pub fn add_part(
 ) -> Result<(), Refusal>
     ensures entered { EnteredInto draft.old (Item.part name flags unknown exclusion) result draft.new }
     ensures refused { OnErr result (Unchanged draft.old draft.new) }
+    ensures stay { MarksStay draft.old draft.new × MembersStay draft.old draft.new }
     ensures same_areas { SameAreas draft.old draft.new }
 {
     if 1024 <= draft.tables.counts.parts {
@@ -113,6 +115,7 @@ pub fn add_part(
 pub fn add_range(draft: &mut Draft, name: u16) -> Result<(), Refusal>
     ensures entered { EnteredInto draft.old (Item.range name) result draft.new }
     ensures refused { OnErr result (Unchanged draft.old draft.new) }
+    ensures stay { MembersStay draft.old draft.new }
     ensures same_areas { SameAreas draft.old draft.new }
 {
     if 512 <= draft.tables.counts.ranges {
@@ -129,6 +132,7 @@ pub fn add_range(draft: &mut Draft, name: u16) -> Result<(), Refusal>
 pub fn add_member(draft: &mut Draft, range: u16, part: u16) -> Result<(), Refusal>
     ensures entered { EnteredInto draft.old (Item.member range part) result draft.new }
     ensures refused { OnErr result (Unchanged draft.old draft.new) }
+    ensures stay { MembersStay draft.old draft.new × TablesStay draft.old draft.new }
     ensures same_areas { SameAreas draft.old draft.new }
 {
     let range = range as usize;

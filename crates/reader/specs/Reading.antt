@@ -1,6 +1,6 @@
 -- What the reader's enums stand for in the definitions, and what stands at a place of a job.
 use Rattle.std.specs.Prelude.{◌≡◌, List, ℕ, ◌+◌, get_or, take, Result, Ok, Err}
-use Rattle.std.proofs.Math.Option.{none, some}
+use Rattle.std.proofs.Math.Option.{Option, none, some}
 use Rattle.rules.specs.Bytes.{byte_at, word_at}
 use Rattle.rules.specs.Refusals as refusals
 use Rattle.rules.specs.Records.{kind_of}
@@ -50,6 +50,15 @@ command_read CommandKind.Draw b = rules.Command.draw (word_at b 0)
 command_read CommandKind.Run b = rules.Command.run (word_at b 0)
 command_read CommandKind.Decide b = rules.Command.decide (word_at b 0) (byte_at b 2) (word_at b 3)
 command_read CommandKind.Undo b = rules.Command.undo (word_at b 0)
+
+-- of no kind's: 99
+unfoldable pub length_in : Option (rules.Kind × ℕ) → ℕ
+length_in none = 99
+length_in (some k) = k.1
+
+-- by the number of the kind
+abbrev pub body_length : ℕ → ℕ
+body_length n = length_in (kind_of n)
 
 -- ---- records
 

@@ -194,13 +194,27 @@ pub struct Reader<'a> {
 
 impl<'a> Reader<'a> {
     ghost use Rattle.rules.specs.Records.{read};
-    ghost use Rattle.reader.specs.Reading.{Named, result_of, next_of};
+    ghost use Rattle.reader.specs.Reading.{Named, body_length, result_of, next_of};
 
     // The kind of the record.
     pub fn kind(self) -> Result<Kind, Refusal>
         ensures { Named (get_or self.entry.job.now self.entry.at 0) result }
     {
         Kind::try_from(self.job[self.at])
+    }
+
+    // The place behind the record, be it whole or not. A byte that is of no kind stands for a body of 99.
+    #[tactic(auto, unfolding(crate::specs::Reading::length_in))]
+    pub fn next(self) -> usize
+        requires { length self.job.now ≤ 65536 }
+        ensures { result ≡ self.entry.at + 1 + body_length (get_or self.entry.job.now self.entry.at 0) }
+    {
+        let size = match self.kind() {
+            Ok(Kind::Item(kind)) => kind.body_length(),
+            Ok(Kind::Command(kind)) => kind.body_length(),
+            Err(_) => 99,
+        };
+        self.at + 1 + size
     }
 
     // The place behind a body of this length, if the job has it whole. With room for the longest the length is not looked at.

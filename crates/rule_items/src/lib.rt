@@ -4,7 +4,7 @@
 ghost use Rattle.std.specs.Prelude.{◌≡◌, ◌&&◌, ◌<◌, eqb, leb, OnErr};
 ghost use Rattle.rules.specs.Records.{Item};
 ghost use Rattle.tables.specs.Views.{tables_of};
-ghost use Rattle.kept.specs.Drafts.{EnteredInto, Unchanged, SameAreas};
+ghost use Rattle.kept.specs.Drafts.{EnteredInto, Unchanged, MarksStay, MembersStay, TablesStay, SameAreas};
 ghost use Rattle.rule_items.specs.Such.{past, past_condition, unknown_in, Joined};
 
 use conditions::Conditions;
@@ -19,6 +19,7 @@ use unions::Member;
 pub fn add_union(draft: &mut Draft) -> Result<(), Refusal>
     ensures entered { EnteredInto draft.old Item.union result draft.new }
     ensures refused { OnErr result (Unchanged draft.old draft.new) }
+    ensures stay { MarksStay draft.old draft.new × MembersStay draft.old draft.new × TablesStay draft.old draft.new }
     ensures same_areas { SameAreas draft.old draft.new }
 {
     if 128 <= draft.tables.counts.unions {
@@ -32,6 +33,7 @@ pub fn add_union_member(draft: &mut Draft, union: u16, range: u16) -> Result<(),
     requires { draft.old.members.now.count < 13107 }
     ensures entered { EnteredInto draft.old (Item.union_member union range) result draft.new }
     ensures refused { OnErr result (Unchanged draft.old draft.new) }
+    ensures stay { MarksStay draft.old draft.new × TablesStay draft.old draft.new }
     ensures same_areas { SameAreas draft.old draft.new }
 {
     if draft.tables.counts.unions <= union as usize {
@@ -49,6 +51,7 @@ pub fn add_union_member(draft: &mut Draft, union: u16, range: u16) -> Result<(),
 pub fn add_leaf(draft: &mut Draft, range: u16) -> Result<(), Refusal>
     ensures entered { EnteredInto draft.old (Item.leaf range) result draft.new }
     ensures refused { OnErr result (Unchanged draft.old draft.new) }
+    ensures stay { MarksStay draft.old draft.new × MembersStay draft.old draft.new }
     ensures same_areas { SameAreas draft.old draft.new }
 {
     if 256 <= draft.tables.counts.conditions {
@@ -80,6 +83,7 @@ fn joined(operator: u8, left: u16, right: u16) -> Result<Condition, Refusal>
 pub fn add_joined(draft: &mut Draft, operator: u8, left: u16, right: u16) -> Result<(), Refusal>
     ensures entered { EnteredInto draft.old (Item.joined operator left right) result draft.new }
     ensures refused { OnErr result (Unchanged draft.old draft.new) }
+    ensures stay { MarksStay draft.old draft.new × MembersStay draft.old draft.new }
     ensures same_areas { SameAreas draft.old draft.new }
 {
     if 256 <= draft.tables.counts.conditions {
@@ -150,6 +154,7 @@ pub fn add_requirement(
 ) -> Result<(), Refusal>
     ensures entered { EnteredInto draft.old (Item.requirement owner form number condition) result draft.new }
     ensures refused { OnErr result (Unchanged draft.old draft.new) }
+    ensures stay { MarksStay draft.old draft.new × MembersStay draft.old draft.new }
     ensures same_areas { SameAreas draft.old draft.new }
 {
     let counts = draft.tables.counts;
@@ -187,6 +192,7 @@ pub fn add_requirement(
 pub fn add_constraint(draft: &mut Draft, owner: u16, range: u16) -> Result<(), Refusal>
     ensures entered { EnteredInto draft.old (Item.constraint owner range) result draft.new }
     ensures refused { OnErr result (Unchanged draft.old draft.new) }
+    ensures stay { MarksStay draft.old draft.new × MembersStay draft.old draft.new }
     ensures same_areas { SameAreas draft.old draft.new }
 {
     let counts = draft.tables.counts;

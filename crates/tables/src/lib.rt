@@ -346,11 +346,14 @@ impl TablesMut<'_> {
     pub fn push_union(&mut self)
         requires unions_bound { self.old.counts.unions < 128 }
         ensures added { AddedTo self.old self.new (with_union (tables_mut_of self.old)) }
+        ensures bytes { self.new.area.now ≡ self.old.area.now }
         ensures same_area { self.new.area.ghost_name ≡ self.old.area.ghost_name }
     {
         self.counts.unions += 1;
     }
 
+    // Inlined, so that the counts stay in registers while a catalogue is read.
+    #[inline(always)]
     pub fn push_condition(&mut self, condition: Condition, size: Size)
         requires conditions_bound { self.old.counts.conditions < 256 }
         ensures added { AddedTo self.old self.new (with_condition (tables_mut_of self.old) (condition_is condition) (size_is size)) }
@@ -366,6 +369,8 @@ impl TablesMut<'_> {
         self.counts.conditions += 1;
     }
 
+    // Inlined, so that the counts stay in registers while a catalogue is read.
+    #[inline(always)]
     pub fn push_requirement(&mut self, requirement: ConditionalRequirement)
         requires requirements_bound { self.old.counts.requirements < 1024 }
         ensures added { AddedTo self.old self.new (with_requirement (tables_mut_of self.old) (stored_requirement requirement)) }

@@ -1,3 +1,5 @@
+use mathlib.Core.Path.{refl}
+use Rattle.std.proofs.Common.{arith}
 use Rattle.std.proofs.lemmas.Result.{err_from_is_err_and}
 use Rattle.catalogue.proofs.Steps.{step_unknown, step_sheet, step_short, item_room, step_refused, step_entered}
 use Rattle.catalogue.proofs.read_record.Goals as goal
@@ -10,22 +12,24 @@ returns-in_err-kind-clause-record c =
 pub returns-in-Command-clause-record : goal.returns-in-Command-clause-record
 returns-in-Command-clause-record c = step_sheet _ _ _ c.args.reader.inside _ (rw c.in-Command.is at c.in_ok-kind.ensures)
 
-pub returns-in_err-next-in-Item-clause-record : goal.returns-in_err-next-in-Item-clause-record
-returns-in_err-next-in-Item-clause-record c =
-    let p = err_from_is_err_and c.from_residual-in_err-next-in-Item.result c.from_residual-in_err-next-in-Item.ensures.1 in
+pub returns-in_err-behind-in-Item-clause-record : goal.returns-in_err-behind-in-Item-clause-record
+returns-in_err-behind-in-Item-clause-record c =
+    let p = err_from_is_err_and c.from_residual-in_err-behind-in-Item.result c.from_residual-in_err-behind-in-Item.ensures.1 in
     let e = rw c.in-Item.is at c.in_ok-kind.ensures in
-    rw (p.1, p.2) (step_short _ _ _ c.args.reader.inside _ e _ c.body_length.ensures _ c.in_err-next-in-Item.ensures)
+    rw (p.1, p.2) (step_short _ _ _ c.args.reader.inside _ e _ c.body_length.ensures _ c.in_err-behind-in-Item.ensures)
 
 pub add_item-requires-clause-room : goal.add_item-requires-clause-room
-add_item-requires-clause-room c = item_room _ _ _ _ _ c.body_length.ensures _ _ c.requires c.in_ok-next-in-Item.ensures
+add_item-requires-clause-room c = item_room _ _ _ _ _ c.body_length.ensures _ _ c.requires c.in_ok-behind-in-Item.ensures
 
 pub returns-in_err-add_item-in-Item-clause-record : goal.returns-in_err-add_item-in-Item-clause-record
 returns-in_err-add_item-in-Item-clause-record c =
     let p = err_from_is_err_and c.from_residual-in_err-add_item-in-Item.result c.from_residual-in_err-add_item-in-Item.ensures.1 in
     let e = rw c.in-Item.is at c.in_ok-kind.ensures in
-    rw (p.1, p.2) (step_refused _ _ _ c.args.reader.inside _ e _ c.body_length.ensures _ _ c.requires c.in_ok-next-in-Item.ensures _ _ _ c.in_err-add_item-in-Item.ensures.entered)
+    rw (p.1, p.2) (step_refused _ _ _ c.args.reader.inside _ e _ c.body_length.ensures _ _ c.requires c.in_ok-behind-in-Item.ensures _ _ _ c.in_err-add_item-in-Item.ensures.entered)
 
 pub returns-in_ok-add_item-in-Item-clause-record : goal.returns-in_ok-add_item-in-Item-clause-record
 returns-in_ok-add_item-in-Item-clause-record c =
     let e = rw c.in-Item.is at c.in_ok-kind.ensures in
-    step_entered _ _ _ c.args.reader.inside _ e _ c.body_length.ensures _ _ c.requires c.in_ok-next-in-Item.ensures _ _ _ c.in_ok-add_item-in-Item.ensures.entered
+    let b = c.in_ok-behind-in-Item.ensures in
+    step_entered _ _ _ c.args.reader.inside _ e _ c.body_length-in-Item.ensures _ _ c.requires (refl, omega (arith, b.0, b.1, c.body_length.ensures, c.body_length-in-Item.ensures))
+    _ _ _ c.in_ok-add_item-in-Item.ensures.entered
