@@ -33,20 +33,23 @@ use Rattle.tables.specs.Tables.{tables}
 use Rattle.cache.specs.Areas.{catalogue}
 use Rattle.cache.proofs.Laws.{ranges_held, unions_held}
 use Rattle.state.specs.declared.Limits.{Limits}
+use Rattle.line.specs.declared.Task.{Task}
 use Rattle.encoder.specs.declared.Counters.{Counters}
 use Rattle.encoder.specs.declared.State as encoder
 use Rattle.encoder.specs.Held.{Reading, opening_of, state_of}
-use Rattle.encoder.specs.Does.{IsGoodWith}
+use Rattle.encoder.specs.Does.{IsGoodWith, Does}
 use Rattle.index.specs.Catalogued.{Catalogued}
 use Rattle.owners.specs.Owners.{serving}
 use Rattle.firing.proofs.Required.{goal_is, goal_given}
 use Rattle.naming.specs.Settled.{Settled, AllSettled, Settles}
 use Rattle.naming.specs.Alike.{AlikeDoes, ClausesDoAlike}
 use Rattle.naming.proofs.Settled.{any_stands, Stands}
-use Rattle.naming.proofs.AlikeDid.{settled_done, settled_stand, clauses_alike_all}
+use Rattle.naming.proofs.AlikeDid.{settled_done, settled_stand, clauses_alike_all, does_alike}
 use Rattle.serving.specs.Flags.{goal_from, Flagged, AreFlagged}
 use Rattle.serving.specs.Line.{from}
-use Rattle.serving.proofs.Stands.{each_stands, ready_stands, serving_stands}
+use Rattle.serving.specs.Serving.{served_as}
+use Rattle.serving.proofs.Stands.{each_stands, ready_stands, serving_stands, served_stands}
+use Rattle.serving.proofs.Tasks.{as_kind}
 
 -- ---- a served requirement settles its goal's candidates
 
@@ -115,6 +118,11 @@ module _ {c : Catalogue} {flags : List Bool} {x x' : encoder.State} where
   flagged_more r q is i e d g f =
       let k = clauses_alike_all {wt = []} d in
       flagged_set i (rw e (settled_done k g (λ v. requirement_settles c r q is))) (flagged_stand k g (λ v. serving_stands c r (requirement q is)) f)
+
+  -- any task is served
+  pub kind_served : (r : Run) (ds : List (ℕ × ℕ)) {cl wt cl' wt' : List ℕ} {t k : Task} → t ≡ k → Does c (λ v. served_as c r ds v k) x cl wt x' cl' wt'
+      → IsGoodWith c x cl wt → AreFlagged c flags x → AlikeDoes c (λ v. served_as c r ds v t) x cl wt x' cl' wt' × AreFlagged c flags x'
+  kind_served r ds {k = k} i d g f = (as_kind r ds i (does_alike d), flagged_stand (does_alike d) g (λ v. served_stands c r ds v k) f)
 
 -- the flag says that the requirement's candidates are settled
 pub flag_settles : {c : Catalogue} {l : Limits} {flags : List Bool} {n : Counters} {st : ℕ → List ℕ} (q i : ℕ) → goal_from i ≡ goal_at c q → Flagged c l flags n st

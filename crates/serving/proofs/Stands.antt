@@ -13,11 +13,14 @@ use Rattle.rules.specs.Run.{serve_task}
 use Rattle.rules.proofs.Effects.{emit_leaves}
 use Rattle.rules.proofs.Grows.{whole, longer, ending}
 use Rattle.rules.proofs.Capped.{add_waitings_is}
+use Rattle.line.specs.declared.Task as line
+use Rattle.line.specs.declared.Task.TheVariants as numbered
 use Rattle.encoder.specs.Held.{Reading}
 use Rattle.encoder.specs.Did.{on_opening}
 use Rattle.owners.specs.Owners.{serving}
 use Rattle.firing.specs.Firing.{waits, queued, queued_if, condition_served}
 use Rattle.naming.proofs.Settled.{Stands, stands_same, tracking_stands}
+use Rattle.serving.specs.Serving.{served_fired, served_drawn, served_as}
 
 -- ---- one step after another
 
@@ -98,3 +101,13 @@ module _ (c : Catalogue) where
       queued_stands : (t : Task) (is : List ℕ) (o : Opening) → Stands o (queued_if c q t is o)
       queued_stands t [] o = unfold queued_if in stands_same
       queued_stands t (i ∷ is) o = unfold queued_if queued in then (open_names_stands (ranges_of c q) o) (queue_stands t _)
+
+  -- by its number
+  pub served_stands : (r : Run) (ds : List (ℕ × ℕ)) (v : Reading) (t : line.Task) (s : State) → Stands s.opening (served_as c r ds v t s).opening
+  unfolding served_as served_fired served_drawn
+  served_stands r ds v (numbered.Owner o) s = serving_stands r _ s
+  served_stands r ds v (numbered.Name n) s = serving_stands r _ s
+  served_stands r ds v (numbered.Condition q) s = condition_stands v q s
+  served_stands r ds v (numbered.Requirement q) s = serving_stands r _ s
+  served_stands r ds v (numbered.Constraint k) s = serving_stands r _ s
+  served_stands r ds v (numbered.Drawn e) s = serving_stands r _ s
