@@ -12,7 +12,9 @@ use Rattle.rules.specs.Items.{add_item}
 use Rattle.refusal.specs.declared.Refusal.{Refusal}
 use Rattle.refusal.specs.Refusing.{refusal_of}
 use Rattle.tables.specs.declared.Counts.{Counts}
+use Rattle.tables.specs.declared.TablesMut.{TablesMut}
 use Rattle.tables.specs.Tables.{Tables, tables, tables_in, Added}
+use Rattle.tables.specs.Views.{tables_mut_of, AddedTo}
 use Rattle.tables.proofs.Laws.{unions_counted}
 use Rattle.unions.specs.Unions.{Row}
 use Rattle.conditions.specs.Sizes.{Sized}
@@ -24,7 +26,8 @@ use Rattle.kept.specs.Kept.{Given, Kept}
 use Rattle.kept.specs.Vacancies.{Vacant}
 use Rattle.kept.specs.Entered.{rows_of, rows_taken, answered, Entered}
 use Rattle.kept.specs.Drafts.{catalogue_in, counts_in}
-use Rattle.kept.proofs.Fields.{gathered, unions_are}
+use Rattle.kept.specs.Entering.{gathered, StillKept}
+use Rattle.kept.proofs.Fields.{unions_are}
 
 -- one thing more in the tables
 module _ {k r : Counts} {t' : List ℕ} {x : Tables} (a : Added k r t' x) (t : List ℕ) where
@@ -36,6 +39,12 @@ module _ {k r : Counts} {t' : List ℕ} {x : Tables} (a : Added k r t' x) (t : L
 
   pub vacant_still : {vs : List Vacancy} → x.parts ≡ (tables k t).parts → Vacant vs (tables k t).parts → Vacant vs (tables r t').parts
   vacant_still e v = rw (a.is, e) v
+
+pub kept_same : (t : TablesMut) → StillKept t t
+kept_same t = record { sized = λ s. s; unions = refl }
+
+pub kept_with : (t t' : TablesMut) {x : Tables} → AddedTo t t' x → x.unions ≡ (tables_mut_of t).unions → x.conditions ≡ (tables_mut_of t).conditions → x.sizes ≡ (tables_mut_of t).sizes → StillKept t t'
+kept_with t t' a u e f = record { sized = sized_still a t.area.now e f; unions = unions_are a ∙ u ∙ unions_counted t.counts t.area.now }
 
 -- a part, as the tables have it
 pub part_is : (k : Counts) (n : ℕ) (m u t : List ℕ) (p : ℕ) → part_at (gathered k n m u t) p ≡ get_or (tables k t).parts p no_part

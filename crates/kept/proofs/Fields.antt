@@ -24,12 +24,9 @@ use Rattle.unions.specs.Unions.{Row, rows, ranges_of, pushed}
 use Rattle.unions.proofs.Laws.{ranges_pushed, ranges_pushed_other}
 use Rattle.cache.specs.Areas.{assembled}
 use Rattle.kept.specs.Kept.{Given}
+use Rattle.kept.specs.Entering.{gathered}
 
 -- ---- how many
-
--- the catalogue of areas: the tables, of which k counts the rows, the marks, and n members of unions
-abbrev pub gathered : Counts → ℕ → (marks unions bytes : List ℕ) → Catalogue
-gathered k n m u t = assembled (tables k t) (is_marked m) (rows n u)
 
 module _ (k : Counts) (n : ℕ) (m u t : List ℕ) where
   pub names_given : given (gathered k n m u t) Thing.name ≡ k.names

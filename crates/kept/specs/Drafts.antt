@@ -4,15 +4,12 @@ use Rattle.rules.specs.Catalogue.{Catalogue}
 use Rattle.rules.specs.Records.{Item}
 use Rattle.refusal.specs.declared.Refusal.{Refusal}
 use Rattle.tables.specs.declared.Counts.{Counts}
-use Rattle.tables.specs.Views.{tables_mut_of}
-use Rattle.unions.specs.Views.{rows_in_mut}
-use Rattle.marks.specs.Marks.{is_marked}
-use Rattle.cache.specs.Areas.{assembled}
 use Rattle.kept.specs.declared.Draft.{Draft}
 use Rattle.kept.specs.Entered.{Entered}
+use Rattle.kept.specs.Entering.{catalogue_of}
 
 abbrev pub catalogue_in : Draft → Catalogue
-catalogue_in d = assembled (tables_mut_of d.tables.now) (is_marked d.marks.now.area.now) (rows_in_mut d.members.now)
+catalogue_in d = catalogue_of d.marks.now d.members.now d.tables.now
 
 abbrev pub counts_in : Draft → Counts
 counts_in d = record d.tables.now.counts { members = d.members.now.count }
@@ -29,16 +26,6 @@ pub record Unchanged (d d' : Draft) : Type 0 where
   pub count : d'.members.now.count ≡ d.members.now.count
   pub members : d'.members.now.area.now ≡ d.members.now.area.now
   pub vacancies : d'.vacancies.now ≡ d.vacancies.now
-
--- an area that an item does not enter stays, byte for byte
-abbrev pub MarksStay : Draft → Draft → Type 0
-MarksStay d d' = d'.marks.now.area.now ≡ d.marks.now.area.now
-
-abbrev pub MembersStay : Draft → Draft → Type 0
-MembersStay d d' = d'.members.now.area.now ≡ d.members.now.area.now
-
-abbrev pub TablesStay : Draft → Draft → Type 0
-TablesStay d d' = d'.tables.now.area.now ≡ d.tables.now.area.now
 
 -- the lent areas are the same
 pub record SameAreas (d d' : Draft) : Type 0 where

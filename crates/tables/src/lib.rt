@@ -286,6 +286,17 @@ impl Tables<'_> {
             }
         }
     }
+
+    // The counts with a union more, which has no row of its own.
+    pub fn with_union(&self) -> Counts
+        requires unions_bound { self.now.counts.unions < 128 }
+        ensures { Added self.now.counts result self.now.area.now (with_union (tables_of self.now)) }
+    {
+        Counts {
+            unions: self.counts.unions + 1,
+            ..self.counts
+        }
+    }
 }
 
 // ---- one thing more
@@ -341,15 +352,6 @@ impl TablesMut<'_> {
     {
         words::put(self.area, RANGES + RANGE_ROW * self.counts.ranges, name);
         self.counts.ranges += 1;
-    }
-
-    pub fn push_union(&mut self)
-        requires unions_bound { self.old.counts.unions < 128 }
-        ensures added { AddedTo self.old self.new (with_union (tables_mut_of self.old)) }
-        ensures bytes { self.new.area.now ≡ self.old.area.now }
-        ensures same_area { self.new.area.ghost_name ≡ self.old.area.ghost_name }
-    {
-        self.counts.unions += 1;
     }
 
     // Inlined, so that the counts stay in registers while a catalogue is read.
