@@ -41,10 +41,14 @@ module _ {k r : Counts} {t' : List ℕ} {x : Tables} (a : Added k r t' x) (t : L
   vacant_still e v = rw (a.is, e) v
 
 pub kept_same : (t : TablesMut) → StillKept t t
-kept_same t = record { sized = λ s. s; unions = refl }
+kept_same t = record { sized = λ s. s; unions = refl; members = refl }
+
+-- the sizes of conditions are to be shown where a condition is entered
+pub kept_sized : (t t' : TablesMut) {x : Tables} → AddedTo t t' x → x.unions ≡ (tables_mut_of t).unions → (Sized (tables_mut_of t) → Sized (tables_mut_of t')) → StillKept t t'
+kept_sized t t' a u s = record { sized = s; unions = unions_are a ∙ u ∙ unions_counted t.counts t.area.now; members = a.members }
 
 pub kept_with : (t t' : TablesMut) {x : Tables} → AddedTo t t' x → x.unions ≡ (tables_mut_of t).unions → x.conditions ≡ (tables_mut_of t).conditions → x.sizes ≡ (tables_mut_of t).sizes → StillKept t t'
-kept_with t t' a u e f = record { sized = sized_still a t.area.now e f; unions = unions_are a ∙ u ∙ unions_counted t.counts t.area.now }
+kept_with t t' a u e f = kept_sized t t' a u (sized_still a t.area.now e f)
 
 -- a part, as the tables have it
 pub part_is : (k : Counts) (n : ℕ) (m u t : List ℕ) (p : ℕ) → part_at (gathered k n m u t) p ≡ get_or (tables k t).parts p no_part

@@ -6,7 +6,7 @@ use Prim.Native.Nat.{ℕ, ◌/◌, ◌%◌, ◌≤◌}
 use native.Mathlib.Omega.{arith}
 use native.Mathlib.Decide.{ℕ_discrete, dec_lt}
 use lib.Dec.{eqb}
-use lib.ListN.{length, get_or, set, length-set, get_or-eq_default}
+use lib.ListN.{length, get_or, set, replicate, length-set, length-replicate, get_or-replicate, get_or-eq_default}
 use lib.Seq.{get_or-set_same, get_or-set_other}
 use borrow.Author.Tests.{ne_eqb}
 use Rattle.rules.specs.AtMostOne.{bit}
@@ -67,6 +67,16 @@ nothing Unknown e = false≢true e
 nothing Locked e = false≢true e
 nothing Favoured e = false≢true e
 nothing Excluded e = false≢true e
+
+-- where nothing is known of any name
+pub vacant_nothing : (n : ℕ) (ps : List Part) → Vacant (replicate n nothing_known) ps
+vacant_nothing n ps = record { none = λ w i h. absurd (nothing w (rw (none i) at h)) }
+  where
+    none : (i : ℕ) → get_or (replicate n nothing_known) i nothing_known ≡ nothing_known
+    none i = elim (dec_lt i n) [
+      | yes l ↦ get_or-replicate n i nothing_known nothing_known l
+      | no l ↦ get_or-eq_default (replicate n nothing_known) nothing_known (rw (length-replicate n nothing_known) (omega arith))
+    ]
 
 pub vacant_more : (vs : List Vacancy) (ps : List Part) (n f x e : ℕ) → Vacant vs ps → Vacant (set vs n (noted f (get_or vs n nothing_known))) (snoc ps (part_of n f x e))
 vacant_more vs ps n f x e y = record { none = λ w i h. any_snoc (λ (q : Part). eqb q.name i && flag_of w q) ps (part_of n f x e) ∙ more w i h }

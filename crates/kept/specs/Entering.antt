@@ -49,3 +49,4 @@ EnteredCounts t e (Err f) = (n : ℕ) (m u : List ℕ) → Entered (gathered t.c
 pub record StillKept (t t' : TablesMut) : Type 0 where
   pub sized : Sized (tables_mut_of t) → Sized (tables_mut_of t')
   pub unions : t'.counts.unions ≡ t.counts.unions
+  pub members : t'.counts.members ≡ t.counts.members

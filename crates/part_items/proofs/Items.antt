@@ -28,7 +28,8 @@ use Rattle.marks.proofs.Laws.{marked_row, marked_other, cleared_row, cleared_oth
 use Rattle.unions.specs.Unions.{rows}
 use Rattle.cache.specs.Areas.{assembled}
 use Rattle.kept.specs.Entered.{rows_of, Entered}
-use Rattle.kept.proofs.Fields.{gathered, full, not_full, none_such, one_such, put_is, range_more, member_more, names_given, parts_given, ranges_given}
+use Rattle.kept.specs.Entering.{gathered}
+use Rattle.kept.proofs.Fields.{full, not_full, none_such, one_such, put_is, range_more, member_more, names_given, parts_given, ranges_given}
 use Rattle.kept.proofs.Entered.{entered_refused, entered_well, part_is}
 use Rattle.part_items.specs.Second.{is_second}
 
@@ -107,18 +108,18 @@ module _ (k : Counts) (n₀ : ℕ) (m u t : List ℕ) where
         part_bits h = entered_refused (rw (room, named, lt-ltb 31 f h, unless_any))
 
         module _ (o : f ≤ 31) where
-          module _ (a : Bool) (d : a ≡ is_second c Flag.Locked n f) where
+          module _ (a : Bool) (d : a ≡ is_second (tables k t).parts Flag.Locked n f) where
             locked_twice : (bit 2 f && of_same_name c (λ (q : Part). q.locked) n) ≡ a
-            unfolding is_second
+            unfolding is_second of_same_name assembled
             locked_twice = sym d
 
             pub part_locked : a ≡ true → Entered c n₀ part_item (Err (Contradicts Contradiction.SecondLocked)) c n₀
             unfolding refusal_of contradiction_of add_item item_refusals unless_any
             part_locked h = entered_refused (rw (room, named, le-ltb 31 f o, locked_twice, h, unless_any))
 
-            module _ (w : a ≡ false) (b : Bool) (g : b ≡ is_second c Flag.Favoured n f) where
+            module _ (w : a ≡ false) (b : Bool) (g : b ≡ is_second (tables k t).parts Flag.Favoured n f) where
               favoured_twice : (bit 3 f && of_same_name c (λ (q : Part). q.favoured) n) ≡ b
-              unfolding is_second
+              unfolding is_second of_same_name assembled
               favoured_twice = sym g
 
               pub part_favoured : b ≡ true → Entered c n₀ part_item (Err (Contradicts Contradiction.SecondFavoured)) c n₀

@@ -9,16 +9,13 @@ use lib.ListN.{length, get_or, drop, drop_of_length-le}
 use lib.Seq.{drop-cons}
 use Rattle.rules.specs.Lists.{any}
 use Rattle.rules.specs.Catalogue.{Part, no_part}
-use Rattle.rules.specs.Items.{of_same_name}
 use Rattle.tables.specs.declared.Counts.{Counts}
 use Rattle.tables.specs.declared.Flag.{Flag}
 use Rattle.tables.specs.Tables.{tables}
 use Rattle.tables.proofs.Laws.{parts_counted}
-use Rattle.cache.specs.Areas.{assembled}
 use Rattle.kept.specs.declared.Vacancy.{Vacancy}
 use Rattle.kept.specs.Vacancies.{knows_none, nothing_known, in_flags, Vacant}
-use Rattle.kept.proofs.Fields.{gathered}
-use Rattle.part_items.specs.Second.{such, is_second}
+use Rattle.part_items.specs.Second.{such, is_second, Known}
 
 -- none of the first p parts is so
 pub record Unseen (ps : List Part) (w : Flag) (n p : ℕ) : Type 0 where
@@ -51,20 +48,22 @@ none_left k t w n p x h =
 
 -- ---- is a part a second one? Where the flag is set, and it is not known that none has it
 
-module _ (k : Counts) (n₀ : ℕ) (m u t : List ℕ) (w : Flag) (n f : ℕ) (a : Bool) (d : a ≡ in_flags w f) where
-  pub second_unset : a ≡ false → (x : Bool) → x ≡ a → x ≡ is_second (gathered k n₀ m u t) w n f
+module _ (ps : List Part) (w : Flag) (n f : ℕ) (a : Bool) (d : a ≡ in_flags w f) where
+  pub second_unset : a ≡ false → (x : Bool) → x ≡ a → x ≡ is_second ps w n f
   unfolding is_second
   second_unset h x e = rw (← d, h) (e ∙ h)
 
-  pub second_searched : a ≡ true → (k' : Counts) (t' : List ℕ) → k' ≡ k → t' ≡ t → (b : Bool) → b ≡ any (such w n) (tables k' t').parts → b ≡ is_second (gathered k n₀ m u t) w n f
-  unfolding is_second of_same_name assembled
-  second_searched h k' t' x y b e = rw (← d, h) (rw (x, y) at e)
+  pub second_searched : a ≡ true → (k : Counts) (t : List ℕ) → (tables k t).parts ≡ ps → (b : Bool) → b ≡ any (such w n) (tables k t).parts → b ≡ is_second ps w n f
+  unfolding is_second
+  second_searched h k t x b e = rw (← d, h) (rw x at e)
 
-  pub second_known : a ≡ true → (vs : List Vacancy) (v : Vacancy) → v ≡ get_or vs n nothing_known → (b x : Bool) → b ≡ knows_none v w → x ≡ not b → x ≡ false → Vacant vs (tables k t).parts
-      → x ≡ is_second (gathered k n₀ m u t) w n f
-  unfolding is_second of_same_name assembled
-  second_known h vs v q b x e g i y = rw (← d, h) (i ∙ sym (y.none w n (rw q at (sym e ∙ not_is b (sym g ∙ i)))))
+  pub second_known : a ≡ true → (v : Vacancy) (b x : Bool) → b ≡ knows_none v w → x ≡ not b → x ≡ false → Known v n ps → x ≡ is_second ps w n f
+  unfolding is_second
+  second_known h v b x e g i y = rw (← d, h) (i ∙ sym (y.none w (sym e ∙ not_is b (sym g ∙ i))))
     where
       not_is : (b : Bool) → not b ≡ false → b ≡ true
       not_is true q = refl
       not_is false q = sym q
+
+pub known_of : (vs : List Vacancy) (ps : List Part) (n : ℕ) (v : Vacancy) → v ≡ get_or vs n nothing_known → Vacant vs ps → Known v n ps
+known_of vs ps n v q y = record { none = λ w h. y.none w n (rw q at h) }

@@ -1,4 +1,4 @@
-// The catalogue's names, parts, ranges and members: the refusals 3, 4 and 5 of each in their order, and its effect on the draft.
+// The catalogue's names, parts, ranges and members: the refusals 3, 4 and 5 of each in their order, and its effect on the areas that it is entered into.
 // A part that is the second locked or favoured one of its name is told by what is known of the name, and where that does not tell by a search.
 #![tactic(auto)]
 
@@ -6,29 +6,31 @@ ghost use Rattle.std.specs.Prelude.{◌≡◌, ◌<◌, get_or, OnErr};
 ghost use Rattle.rules.specs.Records.{Item};
 ghost use Rattle.rules.specs.Lists.{any};
 ghost use Rattle.rules.specs.Catalogue.{no_part};
-ghost use Rattle.tables.specs.Views.{tables_of};
-ghost use Rattle.kept.specs.Vacancies.{nothing_known};
-ghost use Rattle.kept.specs.Drafts.{catalogue_in, EnteredInto, Unchanged, MarksStay, MembersStay, TablesStay, SameAreas};
-ghost use Rattle.part_items.specs.Second.{such, is_second};
+ghost use Rattle.tables.specs.Views.{tables_of, tables_mut_of};
+ghost use Rattle.kept.specs.Vacancies.{Vacant};
+ghost use Rattle.kept.specs.Entering.{EnteredTables, EnteredMarked, EnteredMarks, StillKept};
+ghost use Rattle.part_items.specs.Second.{such, is_second, Known};
 ghost use Rattle.part_items.specs.Claimed.{Claimed};
 
-use kept::{Draft, Vacancy, has_flag};
+use kept::{Vacancy, has_flag};
+use marks::MarksMut;
 use refusal::{Contradiction, Refusal, Thing};
-use tables::{Flag, Tables};
+use tables::{Flag, Tables, TablesMut};
 
-pub fn add_name(draft: &mut Draft, flags: u8) -> Result<(), Refusal>
-    ensures entered { EnteredInto draft.old (Item.name flags) result draft.new }
-    ensures refused { OnErr result (Unchanged draft.old draft.new) }
-    ensures stay { MarksStay draft.old draft.new × MembersStay draft.old draft.new }
-    ensures same_areas { SameAreas draft.old draft.new }
+#[tactic(auto, using(kept::proofs::Entered::kept_same))]
+pub fn add_name(tables: &mut TablesMut, flags: u8) -> Result<(), Refusal>
+    ensures entered { EnteredTables tables.old (Item.name flags) result tables.new }
+    ensures kept { StillKept tables.old tables.new }
+    ensures refused { OnErr result (tables.new ≡ tables.old) }
+    ensures same_area { tables.new.area.ghost_name ≡ tables.old.area.ghost_name }
 {
-    if 64 <= draft.tables.counts.names {
+    if 64 <= tables.counts.names {
         return Err(Refusal::TooMany(Thing::Name));
     }
     if 1 < flags {
         return Err(Refusal::Contradicts(Contradiction::OtherBits));
     }
-    draft.tables.push_name(flags);
+    tables.push_name(flags);
     Ok(())
 }
 
@@ -54,102 +56,137 @@ fn has_such(tables: &Tables, flag: Flag, name: u16) -> bool
 }
 
 // Would a part of these flags be the second one of its name that has the flag? So much is known of the name.
-fn is_second(draft: &Draft, known: Vacancy, flag: Flag, name: u16, flags: u8) -> bool
-    requires { known ≡ get_or draft.now.vacancies.now name nothing_known }
-    ensures { result ≡ is_second (catalogue_in draft.now) flag name flags }
+fn is_second(tables: &TablesMut, known: Vacancy, flag: Flag, name: u16, flags: u8) -> bool
+    requires { Known known name (tables_mut_of tables.now).parts }
+    ensures { result ≡ is_second (tables_mut_of tables.now).parts flag name flags }
 {
-    has_flag(flags, flag) && !known.is_of(flag) && has_such(&draft.tables.as_tables(), flag, name)
+    has_flag(flags, flag) && !known.is_of(flag) && has_such(&tables.as_tables(), flag, name)
 }
 
 // Refuses a part that is the second locked or favoured one of its name; of any other it is noted what flags it has. Most parts are neither.
 #[inline(always)]
-fn claim(draft: &mut Draft, name: u16, flags: u8) -> Result<(), Refusal>
-    requires { name < 64 }
-    ensures claimed { Claimed draft.old name flags result draft.new }
-    ensures refused { OnErr result (Unchanged draft.old draft.new) }
-    ensures same_areas { SameAreas draft.old draft.new }
+fn claim(
+    tables: &TablesMut,
+    vacancies: &mut [Vacancy; 64],
+    name: u16,
+    flags: u8,
+) -> Result<(), Refusal>
+    requires named { name < 64 }
+    requires vacant { Vacant vacancies.old (tables_mut_of tables.now).parts }
+    ensures claimed { Claimed (tables_mut_of tables.now).parts name flags result vacancies.new }
+    ensures refused { OnErr result (vacancies.new ≡ vacancies.old) }
 {
     if !has_flag(flags, Flag::Locked) && !has_flag(flags, Flag::Favoured) {
         return Ok(());
     }
-    let known = draft.vacancies[name as usize];
-    if is_second(draft, known, Flag::Locked, name, flags) {
+    let known = vacancies[name as usize];
+    if is_second(tables, known, Flag::Locked, name, flags) {
         return Err(Refusal::Contradicts(Contradiction::SecondLocked));
     }
-    if is_second(draft, known, Flag::Favoured, name, flags) {
+    if is_second(tables, known, Flag::Favoured, name, flags) {
         return Err(Refusal::Contradicts(Contradiction::SecondFavoured));
     }
-    draft.vacancies[name as usize].note(flags);
+    vacancies[name as usize].note(flags);
     Ok(())
 }
 
+// A part, where something is known of each name: with it that is so again.
 #[inline(always)]
-pub fn add_part(
-    draft: &mut Draft,
+#[tactic(auto, using(kept::proofs::Entered::kept_same))]
+pub fn add_part_knowing(
+    tables: &mut TablesMut,
+    vacancies: &mut [Vacancy; 64],
     name: u16,
     flags: u8,
     unknown: u16,
     exclusion: u16,
 ) -> Result<(), Refusal>
-    ensures entered { EnteredInto draft.old (Item.part name flags unknown exclusion) result draft.new }
-    ensures refused { OnErr result (Unchanged draft.old draft.new) }
-    ensures stay { MarksStay draft.old draft.new × MembersStay draft.old draft.new }
-    ensures same_areas { SameAreas draft.old draft.new }
+    requires { Vacant vacancies.old (tables_mut_of tables.old).parts }
+    ensures entered { EnteredTables tables.old (Item.part name flags unknown exclusion) result tables.new }
+    ensures vacant { Vacant vacancies.new (tables_mut_of tables.new).parts }
+    ensures kept { StillKept tables.old tables.new }
+    ensures refused { OnErr result ((tables.new ≡ tables.old) × (vacancies.new ≡ vacancies.old)) }
+    ensures same_area { tables.new.area.ghost_name ≡ tables.old.area.ghost_name }
 {
-    if 1024 <= draft.tables.counts.parts {
+    if 1024 <= tables.counts.parts {
         return Err(Refusal::TooMany(Thing::Part));
     }
-    if draft.tables.counts.names <= name as usize {
+    if tables.counts.names <= name as usize {
         return Err(Refusal::Missing(Thing::Name, 1));
     }
     if 31 < flags {
         return Err(Refusal::Contradicts(Contradiction::OtherBits));
     }
-    claim(draft, name, flags)?;
-    draft.tables.push_part(name, flags, unknown, exclusion);
+    claim(tables, vacancies, name, flags)?;
+    tables.push_part(name, flags, unknown, exclusion);
     Ok(())
+}
+
+// A part, where nothing is known of names.
+pub fn add_part(
+    tables: &mut TablesMut,
+    name: u16,
+    flags: u8,
+    unknown: u16,
+    exclusion: u16,
+) -> Result<(), Refusal>
+    ensures entered { EnteredTables tables.old (Item.part name flags unknown exclusion) result tables.new }
+    ensures kept { StillKept tables.old tables.new }
+    ensures refused { OnErr result (tables.new ≡ tables.old) }
+    ensures same_area { tables.new.area.ghost_name ≡ tables.old.area.ghost_name }
+{
+    let mut vacancies = [Vacancy {
+        locked: false,
+        favoured: false,
+    }; 64];
+    add_part_knowing(tables, &mut vacancies, name, flags, unknown, exclusion)
 }
 
 // ---- ranges and their members
 
-pub fn add_range(draft: &mut Draft, name: u16) -> Result<(), Refusal>
-    ensures entered { EnteredInto draft.old (Item.range name) result draft.new }
-    ensures refused { OnErr result (Unchanged draft.old draft.new) }
-    ensures stay { MembersStay draft.old draft.new }
-    ensures same_areas { SameAreas draft.old draft.new }
+#[tactic(auto, using(kept::proofs::Entered::kept_same))]
+pub fn add_range(marks: &mut MarksMut, tables: &mut TablesMut, name: u16) -> Result<(), Refusal>
+    ensures entered { EnteredMarked marks.old tables.old (Item.range name) result marks.new tables.new }
+    ensures kept { StillKept tables.old tables.new }
+    ensures refused { OnErr result ((marks.new ≡ marks.old) × (tables.new ≡ tables.old)) }
+    ensures same_areas { (marks.new.area.ghost_name ≡ marks.old.area.ghost_name)
+        × (tables.new.area.ghost_name ≡ tables.old.area.ghost_name) }
 {
-    if 512 <= draft.tables.counts.ranges {
+    if 512 <= tables.counts.ranges {
         return Err(Refusal::TooMany(Thing::Range));
     }
-    if draft.tables.counts.names <= name as usize {
+    if tables.counts.names <= name as usize {
         return Err(Refusal::Missing(Thing::Name, 1));
     }
-    draft.marks.clear_row(draft.tables.counts.ranges);
-    draft.tables.push_range(name);
+    marks.clear_row(tables.counts.ranges);
+    tables.push_range(name);
     Ok(())
 }
 
-pub fn add_member(draft: &mut Draft, range: u16, part: u16) -> Result<(), Refusal>
-    ensures entered { EnteredInto draft.old (Item.member range part) result draft.new }
-    ensures refused { OnErr result (Unchanged draft.old draft.new) }
-    ensures stay { MembersStay draft.old draft.new × TablesStay draft.old draft.new }
-    ensures same_areas { SameAreas draft.old draft.new }
+pub fn add_member(
+    marks: &mut MarksMut,
+    tables: &Tables,
+    range: u16,
+    part: u16,
+) -> Result<(), Refusal>
+    ensures entered { EnteredMarks tables.now marks.old (Item.member range part) result marks.new }
+    ensures refused { OnErr result (marks.new ≡ marks.old) }
+    ensures same_area { marks.new.area.ghost_name ≡ marks.old.area.ghost_name }
 {
     let range = range as usize;
     let part = part as usize;
-    if draft.tables.counts.ranges <= range {
+    if tables.counts.ranges <= range {
         return Err(Refusal::Missing(Thing::Range, 1));
     }
-    if draft.tables.counts.parts <= part {
+    if tables.counts.parts <= part {
         return Err(Refusal::Missing(Thing::Part, 3));
     }
-    let tables = draft.tables.as_tables();
     if tables.part_name(part) != tables.range_name(range) {
         return Err(Refusal::Contradicts(Contradiction::PartOfAnotherName));
     }
-    if draft.marks.as_marks().marked(range, part) {
+    if marks.as_marks().marked(range, part) {
         return Err(Refusal::Contradicts(Contradiction::MemberTwice));
     }
-    draft.marks.mark(range, part);
+    marks.mark(range, part);
     Ok(())
 }

@@ -31,7 +31,8 @@ use Rattle.conditions.specs.Sizes.{size_of, Earlier, Sized}
 use Rattle.conditions.proofs.Kept.{too_many_by, too_wide_by, sized_leaf, sized_joined}
 use Rattle.cache.specs.Areas.{assembled}
 use Rattle.kept.specs.Entered.{rows_of, Entered}
-use Rattle.kept.proofs.Fields.{gathered, full, not_full, none_such, one_such, put_is, ranges_given, conditions_given}
+use Rattle.kept.specs.Entering.{gathered}
+use Rattle.kept.proofs.Fields.{full, not_full, none_such, one_such, put_is, ranges_given, conditions_given}
 use Rattle.kept.proofs.Entered.{entered_refused, entered_well}
 
 -- ---- every way out

@@ -31,7 +31,8 @@ use Rattle.unions.specs.Unions.{Row, rows, row_of, pushed}
 use Rattle.cache.specs.Areas.{assembled}
 use Rattle.kept.specs.Kept.{Given}
 use Rattle.kept.specs.Entered.{rows_of, rows_taken, answered, Entered}
-use Rattle.kept.proofs.Fields.{gathered, full, not_full, none_such, one_such, put_is, unions_are, union_more, row_more, given_more}
+use Rattle.kept.specs.Entering.{gathered}
+use Rattle.kept.proofs.Fields.{full, not_full, none_such, one_such, put_is, unions_are, union_more, row_more, given_more}
 use Rattle.kept.proofs.Fields.{parts_given, ranges_given, unions_given, conditions_given, requirements_given, constraints_given}
 use Rattle.kept.proofs.Entered.{entered_refused, entered_well, part_is}
 use Rattle.rule_items.specs.Such.{past, past_condition, unknown_in}

@@ -1,70 +1,77 @@
-// The catalogue's unions, conditions, requirements and constraints: the refusals 3, 4, 5 and 6 of each in their order, and its effect on the draft.
+// The catalogue's unions, conditions, requirements and constraints: the refusals 3, 4, 5 and 6 of each in their order, and its effect on the areas that it is entered into.
 #![tactic(auto)]
 
-ghost use Rattle.std.specs.Prelude.{◌≡◌, ◌&&◌, ◌<◌, eqb, leb, OnErr};
+ghost use Rattle.std.specs.Prelude.{◌≡◌, ◌&&◌, ◌<◌, eqb, leb, IfOk, OnErr};
 ghost use Rattle.rules.specs.Records.{Item};
-ghost use Rattle.tables.specs.Views.{tables_of};
-ghost use Rattle.kept.specs.Drafts.{EnteredInto, Unchanged, MarksStay, MembersStay, TablesStay, SameAreas};
+ghost use Rattle.tables.specs.Tables.{with_union, Added};
+ghost use Rattle.tables.specs.Views.{tables_of, tables_mut_of};
+ghost use Rattle.unions.specs.Views.{rows_in_mut};
+ghost use Rattle.conditions.specs.Sizes.{Sized};
+ghost use Rattle.kept.specs.Kept.{Given};
+ghost use Rattle.kept.specs.Entering.{EnteredTables, EnteredMembers, EnteredCounts, StillKept};
 ghost use Rattle.rule_items.specs.Such.{past, past_condition, unknown_in, Joined};
 
 use conditions::Conditions;
-use kept::Draft;
 use refusal::{Contradiction, Refusal, Thing};
 use requirement::{ConditionalRequirement, Owner, Requirement, condition_of};
-use tables::{Condition, Constraint, Flag, Size, Tables};
-use unions::Member;
+use tables::{Condition, Constraint, Counts, Flag, Size, Tables, TablesMut};
+use unions::{Member, MembersMut};
 
 // ---- unions
 
-pub fn add_union(draft: &mut Draft) -> Result<(), Refusal>
-    ensures entered { EnteredInto draft.old Item.union result draft.new }
-    ensures refused { OnErr result (Unchanged draft.old draft.new) }
-    ensures stay { MarksStay draft.old draft.new × MembersStay draft.old draft.new × TablesStay draft.old draft.new }
-    ensures same_areas { SameAreas draft.old draft.new }
+// The counts with the union: nothing is written for it.
+pub fn add_union(tables: &Tables) -> Result<Counts, Refusal>
+    ensures entered { EnteredCounts tables.now Item.union result }
+    ensures added { IfOk result (λ counts. Added tables.now.counts counts tables.now.area.now (with_union (tables_of tables.now))) }
 {
-    if 128 <= draft.tables.counts.unions {
+    if 128 <= tables.counts.unions {
         return Err(Refusal::TooMany(Thing::Union));
     }
-    draft.tables.push_union();
-    Ok(())
+    Ok(tables.with_union())
 }
 
-pub fn add_union_member(draft: &mut Draft, union: u16, range: u16) -> Result<(), Refusal>
-    requires { draft.old.members.now.count < 13107 }
-    ensures entered { EnteredInto draft.old (Item.union_member union range) result draft.new }
-    ensures refused { OnErr result (Unchanged draft.old draft.new) }
-    ensures stay { MarksStay draft.old draft.new × TablesStay draft.old draft.new }
-    ensures same_areas { SameAreas draft.old draft.new }
+pub fn add_union_member(
+    members: &mut MembersMut,
+    tables: &Tables,
+    union: u16,
+    range: u16,
+) -> Result<(), Refusal>
+    requires { members.old.count < 13107 }
+    ensures entered { EnteredMembers tables.now members.old (Item.union_member union range) result members.new }
+    ensures given { Given tables.now.counts.unions (rows_in_mut members.old) → Given tables.now.counts.unions (rows_in_mut members.new) }
+    ensures refused { OnErr result (members.new ≡ members.old) }
+    ensures same_area { members.new.area.ghost_name ≡ members.old.area.ghost_name }
 {
-    if draft.tables.counts.unions <= union as usize {
+    if tables.counts.unions <= union as usize {
         return Err(Refusal::Missing(Thing::Union, 1));
     }
-    if draft.tables.counts.ranges <= range as usize {
+    if tables.counts.ranges <= range as usize {
         return Err(Refusal::Missing(Thing::Range, 3));
     }
-    draft.members.push(Member { union, range });
+    members.push(Member { union, range });
     Ok(())
 }
 
 // ---- conditions
 
-pub fn add_leaf(draft: &mut Draft, range: u16) -> Result<(), Refusal>
-    ensures entered { EnteredInto draft.old (Item.leaf range) result draft.new }
-    ensures refused { OnErr result (Unchanged draft.old draft.new) }
-    ensures stay { MarksStay draft.old draft.new × MembersStay draft.old draft.new }
-    ensures same_areas { SameAreas draft.old draft.new }
+#[tactic(auto, using(kept::proofs::Entered::kept_same))]
+pub fn add_leaf(tables: &mut TablesMut, range: u16) -> Result<(), Refusal>
+    ensures entered { EnteredTables tables.old (Item.leaf range) result tables.new }
+    ensures kept { StillKept tables.old tables.new }
+    ensures refused { OnErr result (tables.new ≡ tables.old) }
+    ensures same_area { tables.new.area.ghost_name ≡ tables.old.area.ghost_name }
 {
-    if 256 <= draft.tables.counts.conditions {
+    if 256 <= tables.counts.conditions {
         return Err(Refusal::TooMany(Thing::Condition));
     }
-    if draft.tables.counts.ranges <= range as usize {
+    if tables.counts.ranges <= range as usize {
         return Err(Refusal::Missing(Thing::Range, 1));
     }
     let size = Size {
         count: 1,
         longest: 1,
     };
-    draft.tables.push_condition(Condition::Range(range), size);
+    tables.push_condition(Condition::Range(range), size);
     Ok(())
 }
 
@@ -80,24 +87,31 @@ fn joined(operator: u8, left: u16, right: u16) -> Result<Condition, Refusal>
     }
 }
 
-pub fn add_joined(draft: &mut Draft, operator: u8, left: u16, right: u16) -> Result<(), Refusal>
-    ensures entered { EnteredInto draft.old (Item.joined operator left right) result draft.new }
-    ensures refused { OnErr result (Unchanged draft.old draft.new) }
-    ensures stay { MarksStay draft.old draft.new × MembersStay draft.old draft.new }
-    ensures same_areas { SameAreas draft.old draft.new }
+#[tactic(auto, using(kept::proofs::Entered::kept_same))]
+pub fn add_joined(
+    tables: &mut TablesMut,
+    operator: u8,
+    left: u16,
+    right: u16,
+) -> Result<(), Refusal>
+    requires { Sized (tables_mut_of tables.old) }
+    ensures entered { EnteredTables tables.old (Item.joined operator left right) result tables.new }
+    ensures kept { StillKept tables.old tables.new }
+    ensures refused { OnErr result (tables.new ≡ tables.old) }
+    ensures same_area { tables.new.area.ghost_name ≡ tables.old.area.ghost_name }
 {
-    if 256 <= draft.tables.counts.conditions {
+    if 256 <= tables.counts.conditions {
         return Err(Refusal::TooMany(Thing::Condition));
     }
-    if draft.tables.counts.conditions <= left as usize {
+    if tables.counts.conditions <= left as usize {
         return Err(Refusal::Missing(Thing::Condition, 2));
     }
-    if draft.tables.counts.conditions <= right as usize {
+    if tables.counts.conditions <= right as usize {
         return Err(Refusal::Missing(Thing::Condition, 4));
     }
     let condition = joined(operator, left, right)?;
     let conditions = Conditions {
-        tables: draft.tables.as_tables(),
+        tables: tables.as_tables(),
     };
     let size = conditions.next_size(condition);
     if 64 < size.count {
@@ -106,7 +120,7 @@ pub fn add_joined(draft: &mut Draft, operator: u8, left: u16, right: u16) -> Res
     if 16 < size.longest {
         return Err(Refusal::RangesOver);
     }
-    draft.tables.push_condition(condition, size);
+    tables.push_condition(condition, size);
     Ok(())
 }
 
@@ -145,19 +159,20 @@ fn is_unknown(tables: &Tables, owner: Owner) -> bool
     }
 }
 
+#[tactic(auto, using(kept::proofs::Entered::kept_same))]
 pub fn add_requirement(
-    draft: &mut Draft,
+    tables: &mut TablesMut,
     owner: u16,
     form: u8,
     number: u16,
     condition: u16,
 ) -> Result<(), Refusal>
-    ensures entered { EnteredInto draft.old (Item.requirement owner form number condition) result draft.new }
-    ensures refused { OnErr result (Unchanged draft.old draft.new) }
-    ensures stay { MarksStay draft.old draft.new × MembersStay draft.old draft.new }
-    ensures same_areas { SameAreas draft.old draft.new }
+    ensures entered { EnteredTables tables.old (Item.requirement owner form number condition) result tables.new }
+    ensures kept { StillKept tables.old tables.new }
+    ensures refused { OnErr result (tables.new ≡ tables.old) }
+    ensures same_area { tables.new.area.ghost_name ≡ tables.old.area.ghost_name }
 {
-    let counts = draft.tables.counts;
+    let counts = tables.counts;
     let owner = Owner::from(owner);
     let condition = condition_of(condition);
     if 1024 <= counts.requirements {
@@ -178,10 +193,10 @@ pub fn add_requirement(
     if 1 < form {
         return Err(Refusal::Contradicts(Contradiction::OtherForm));
     }
-    if is_unknown(&draft.tables.as_tables(), owner) {
+    if is_unknown(&tables.as_tables(), owner) {
         return Err(Refusal::Contradicts(Contradiction::OwnerUnknown));
     }
-    draft.tables.push_requirement(ConditionalRequirement {
+    tables.push_requirement(ConditionalRequirement {
         owner,
         requirement: Requirement::from_parts(form as u16, number),
         condition,
@@ -189,13 +204,14 @@ pub fn add_requirement(
     Ok(())
 }
 
-pub fn add_constraint(draft: &mut Draft, owner: u16, range: u16) -> Result<(), Refusal>
-    ensures entered { EnteredInto draft.old (Item.constraint owner range) result draft.new }
-    ensures refused { OnErr result (Unchanged draft.old draft.new) }
-    ensures stay { MarksStay draft.old draft.new × MembersStay draft.old draft.new }
-    ensures same_areas { SameAreas draft.old draft.new }
+#[tactic(auto, using(kept::proofs::Entered::kept_same))]
+pub fn add_constraint(tables: &mut TablesMut, owner: u16, range: u16) -> Result<(), Refusal>
+    ensures entered { EnteredTables tables.old (Item.constraint owner range) result tables.new }
+    ensures kept { StillKept tables.old tables.new }
+    ensures refused { OnErr result (tables.new ≡ tables.old) }
+    ensures same_area { tables.new.area.ghost_name ≡ tables.old.area.ghost_name }
 {
-    let counts = draft.tables.counts;
+    let counts = tables.counts;
     let owner = Owner::from(owner);
     if 512 <= counts.constraints {
         return Err(Refusal::TooMany(Thing::Constraint));
@@ -206,9 +222,9 @@ pub fn add_constraint(draft: &mut Draft, owner: u16, range: u16) -> Result<(), R
     if counts.ranges <= range as usize {
         return Err(Refusal::Missing(Thing::Range, 3));
     }
-    if is_unknown(&draft.tables.as_tables(), owner) {
+    if is_unknown(&tables.as_tables(), owner) {
         return Err(Refusal::Contradicts(Contradiction::OwnerUnknown));
     }
-    draft.tables.push_constraint(Constraint { owner, range });
+    tables.push_constraint(Constraint { owner, range });
     Ok(())
 }
