@@ -1,7 +1,7 @@
 -- One record, the parts behind it, and the loop over them: what is left of the walks stays the same.
 use mathlib.Core.Path.{◌≡◌, refl, sym, ◌∙◌, ap}
 use mathlib.Core.Bool.{Bool, true, false}
-use mathlib.Core.List.{List}
+use mathlib.Core.List.{List, [], ◌∷◌}
 use Prim.Native.Nat.{ℕ, ◌+◌, ◌*◌, ◌<◌, ◌≤◌}
 use native.Mathlib.Omega.{arith}
 use native.Mathlib.Nat.{le_refl}
@@ -10,7 +10,9 @@ use Rattle.std.specs.Prelude.{Ok, Err}
 use Rattle.rules.proofs.WalkLaws.{walk_record, walk_still, Reads, run_reads, check_reads}
 use Rattle.rules.specs.Lists.{filter, up_to}
 use Rattle.rules.specs.Catalogue.{Catalogue, empty_catalogue}
+use Rattle.rules.specs.Refusals.{unless_any}
 use Rattle.rules.specs.Refusals as rules
+use Rattle.rules.specs.Items.{with_item, add_item}
 use Rattle.rules.specs.Records.{kind_of, of_sheet, read}
 use Rattle.rules.specs.Records as records
 use Rattle.rules.specs.Job.{Progress, reading, stopped, body_of, walk, run_step, check_step, starts_sheet}
@@ -25,9 +27,9 @@ use Rattle.reader.specs.Naming.{item_length}
 use Rattle.reader.specs.Reading.{item_read, record_in, result_of, Named}
 use Rattle.reader.proofs.Laws.{item_number, command_number, at_unknown, item_short, at_item}
 use Rattle.tables.specs.declared.Counts.{Counts}
-use Rattle.tables.specs.Tables.{listed, tables, tables_in}
+use Rattle.tables.specs.Tables.{Tables, listed, tables, tables_in}
 use Rattle.tables.proofs.Rows.{counts}
-use Rattle.unions.specs.Unions.{rows, ranges_of}
+use Rattle.unions.specs.Unions.{Row, rows, ranges_of}
 use Rattle.conditions.specs.Sizes.{Sized}
 use Rattle.conditions.proofs.Kept.{sized_none}
 use Rattle.cache.specs.Areas.{assembled}
@@ -36,7 +38,7 @@ use Rattle.kept.specs.declared.Vacancy.{Vacancy}
 use Rattle.kept.specs.Kept.{Given}
 use Rattle.kept.specs.Vacancies.{Vacant}
 use Rattle.kept.specs.Drafts.{catalogue_in, counts_in}
-use Rattle.kept.proofs.Fields.{gathered}
+use Rattle.kept.specs.Entering.{gathered}
 use Rattle.kept.proofs.Vacancies.{vacant_start}
 use Rattle.kept.proofs.Entered.{draft_is, draft_kept}
 use Rattle.kept.specs.Entered.{rows_of, rows_taken, answered, Entered}
@@ -160,6 +162,39 @@ module _ (job : List ℕ) (at : ℕ) (c : Catalogue) (h : at < length job) where
               };
             },
           )
+
+-- ---- the parts after an item that is none
+
+entered_is : {A : Type 0} (ts : List (rules.Refusal × Bool)) (x y : A) → rules.ok y ≡ unless_any ts x → y ≡ x
+unfolding unless_any
+entered_is [] x y e = cc
+entered_is (t ∷ ts) x y e = go t.1 e (entered_is ts x y)
+  where
+    go : (b : Bool) → rules.ok y ≡ elim b [ true ↦ rules.refuse t.0 | false ↦ unless_any ts x ] → (rules.ok y ≡ unless_any ts x → y ≡ x) → y ≡ x
+    go true q r = absurd (cc)
+    go false q r = r q
+
+parts_with : (c : Catalogue) (k : ItemKind) (b : List ℕ) → (k ≡ ItemKind.Part → ⊥) → (with_item c (item_read k b)).parts ≡ c.parts
+unfolding with_item item_read
+parts_with c ItemKind.Name b n = refl
+parts_with c ItemKind.Part b n = absurd (n refl)
+parts_with c ItemKind.Range b n = refl
+parts_with c ItemKind.Member b n = refl
+parts_with c ItemKind.Union b n = refl
+parts_with c ItemKind.UnionMember b n = refl
+parts_with c ItemKind.Leaf b n = refl
+parts_with c ItemKind.Joined b n = refl
+parts_with c ItemKind.Requirement b n = refl
+parts_with c ItemKind.Constraint b n = refl
+
+pub parts_same : (c c' : Catalogue) (n n' : ℕ) (k : ItemKind) (b : List ℕ) (z : Unit {0}) → Entered c n (item_read k b) (Ok z) c' n' → (k ≡ ItemKind.Part → ⊥) → c'.parts ≡ c.parts
+unfolding answered add_item
+parts_same c c' n n' k b z g e = ap (λ (x : Catalogue). x.parts) (entered_is _ _ _ g.is) ∙ parts_with c k b e
+
+pub vacant_same : (vs : List Vacancy) (t t' : Tables) (m m' : ℕ → ℕ → Bool) (us us' : List Row) (n n' : ℕ) (k : ItemKind) (b : List ℕ) (z : Unit {0})
+    → Entered (assembled t m us) n (item_read k b) (Ok z) (assembled t' m' us') n' → (k ≡ ItemKind.Part → ⊥) → Vacant vs t.parts → Vacant vs t'.parts
+unfolding assembled
+vacant_same vs t t' m m' us us' n n' k b z g e v = rw (parts_same _ _ n n' k b z g e) v
 
 -- ---- parts that follow one another
 

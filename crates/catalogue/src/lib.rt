@@ -7,8 +7,14 @@ ghost use Rattle.rules.specs.Bytes.{word_at};
 ghost use Rattle.reader.specs.Naming.{item_length};
 ghost use Rattle.reader.specs.Reading.{item_read};
 ghost use Rattle.reader.specs.declared.ItemKind.TheVariants.{Part};
-ghost use Rattle.kept.specs.Entered.{rows_of};
+ghost use Rattle.tables.specs.Views.{tables_mut_of};
+ghost use Rattle.unions.specs.Views.{rows_in_mut};
+ghost use Rattle.conditions.specs.Sizes.{Sized};
+ghost use Rattle.kept.specs.Kept.{Given};
+ghost use Rattle.kept.specs.Entered.{rows_of, Entered};
+ghost use Rattle.kept.specs.Entering.{catalogue_of};
 ghost use Rattle.kept.specs.Drafts.{catalogue_in, EnteredInto, Unchanged, SameAreas};
+ghost use Rattle.catalogue.specs.Staying.{Stay};
 ghost use Rattle.catalogue.specs.Walking.{RecordRead, PartAt, PartsRead, RecordsRead, ReadUp};
 
 use kept::{Draft, Vacancy};
@@ -34,55 +40,69 @@ fn number(body: &[u8], i: usize) -> u16
     u16::from(body[i]) + 256 * u16::from(body[i + 1])
 }
 
-// The part whose record, which is whole, has this body.
-#[inline(always)]
-#[tactic(auto, unfolding(rules::specs::Bytes::byte_at, reader::specs::Reading::item_read))]
-fn add_part(body: &[u8], draft: &mut Draft) -> Result<(), Refusal>
-    requires { length body.now ≡ 7 }
-    ensures entered { EnteredInto draft.old (item_read Part body.now) result draft.new }
-    ensures refused { OnErr result (Unchanged draft.old draft.new) }
-    ensures same_areas { SameAreas draft.old draft.new }
-{
-    part_items::add_part(
-        draft,
-        number(body, 0),
-        body[2],
-        number(body, 3),
-        number(body, 5),
-    )
-}
-
 // The item of the record, which is whole, by its kind. The body is cut by a number of its kind, so that it waits for no table of lengths.
 #[tactic(auto, unfolding(rules::specs::Bytes::byte_at, reader::specs::Reading::item_read, kept::specs::Entered::rows_of))]
-pub fn add_item(reader: Reader, kind: ItemKind, draft: &mut Draft) -> Result<(), Refusal>
+pub fn add_item(
+    reader: Reader,
+    kind: ItemKind,
+    marks: &mut MarksMut,
+    members: &mut MembersMut,
+    tables: &mut TablesMut,
+) -> Result<(), Refusal>
     requires whole { reader.at + 1 + item_length kind ≤ length reader.job.now }
-    requires room { draft.old.members.now.count + rows_of (item_read kind (take (item_length kind) (drop (reader.at + 1) reader.job.now))) ≤ 13107 }
-    ensures entered { EnteredInto draft.old (item_read kind (take (item_length kind) (drop (reader.entry.at + 1) reader.entry.job.now))) result draft.new }
-    ensures refused { OnErr result (Unchanged draft.old draft.new) }
-    ensures same_areas { SameAreas draft.old draft.new }
+    requires room { members.old.count + rows_of (item_read kind (take (item_length kind) (drop (reader.at + 1) reader.job.now))) ≤ 13107 }
+    requires given { Given tables.old.counts.unions (rows_in_mut members.old) }
+    requires sized { Sized (tables_mut_of tables.old) }
+    ensures entered { Entered (catalogue_of marks.old members.old tables.old) members.old.count
+        (item_read kind (take (item_length kind) (drop (reader.entry.at + 1) reader.entry.job.now)))
+        result (catalogue_of marks.new members.new tables.new) members.new.count }
+    ensures given { Given tables.new.counts.unions (rows_in_mut members.new) }
+    ensures sized { Sized (tables_mut_of tables.new) }
+    ensures refused { OnErr result ((marks.new ≡ marks.old) × (members.new ≡ members.old) × (tables.new ≡ tables.old)) }
+    ensures stay { Stay kind marks.old marks.new members.old members.new tables.old tables.new }
+    ensures same_areas { (marks.new.area.ghost_name ≡ marks.old.area.ghost_name)
+        × (members.new.area.ghost_name ≡ members.old.area.ghost_name)
+        × (tables.new.area.ghost_name ≡ tables.old.area.ghost_name) }
 {
     match kind {
-        ItemKind::Name => part_items::add_name(draft, reader.body(1)[0]),
-        ItemKind::Part => add_part(reader.body(7), draft),
-        ItemKind::Range => part_items::add_range(draft, number(reader.body(2), 0)),
+        ItemKind::Name => part_items::add_name(tables, reader.body(1)[0]),
+        ItemKind::Part => {
+            let body = reader.body(7);
+            part_items::add_part(
+                tables,
+                number(body, 0),
+                body[2],
+                number(body, 3),
+                number(body, 5),
+            )
+        }
+        ItemKind::Range => part_items::add_range(marks, tables, number(reader.body(2), 0)),
         ItemKind::Member => {
             let body = reader.body(4);
-            part_items::add_member(draft, number(body, 0), number(body, 2))
+            part_items::add_member(marks, &tables.as_tables(), number(body, 0), number(body, 2))
         }
-        ItemKind::Union => rule_items::add_union(draft),
+        ItemKind::Union => {
+            tables.counts = rule_items::add_union(&tables.as_tables())?;
+            Ok(())
+        }
         ItemKind::UnionMember => {
             let body = reader.body(4);
-            rule_items::add_union_member(draft, number(body, 0), number(body, 2))
+            rule_items::add_union_member(
+                members,
+                &tables.as_tables(),
+                number(body, 0),
+                number(body, 2),
+            )
         }
-        ItemKind::Leaf => rule_items::add_leaf(draft, number(reader.body(2), 0)),
+        ItemKind::Leaf => rule_items::add_leaf(tables, number(reader.body(2), 0)),
         ItemKind::Joined => {
             let body = reader.body(5);
-            rule_items::add_joined(draft, body[0], number(body, 1), number(body, 3))
+            rule_items::add_joined(tables, body[0], number(body, 1), number(body, 3))
         }
         ItemKind::Requirement => {
             let body = reader.body(7);
             rule_items::add_requirement(
-                draft,
+                tables,
                 number(body, 0),
                 body[2],
                 number(body, 3),
@@ -91,7 +111,7 @@ pub fn add_item(reader: Reader, kind: ItemKind, draft: &mut Draft) -> Result<(),
         }
         ItemKind::Constraint => {
             let body = reader.body(4);
-            rule_items::add_constraint(draft, number(body, 0), number(body, 2))
+            rule_items::add_constraint(tables, number(body, 0), number(body, 2))
         }
     }
 }
@@ -107,7 +127,14 @@ pub fn read_record(reader: Reader, draft: &mut Draft) -> Result<Option<usize>, R
         Kind::Command(_) => Ok(None),
         Kind::Item(kind) => {
             reader.behind(kind.body_length())?;
-            add_item(reader, kind, draft)?;
+            add_item(reader, kind, draft.marks, draft.members, draft.tables)?;
+            // Behind a part that was entered alone it is no longer known what any name has.
+            if kind == ItemKind::Part {
+                *draft.vacancies = [Vacancy {
+                    locked: false,
+                    favoured: false,
+                }; 64];
+            }
             // The length once more, where the kind is known: the next place waits for no table.
             Ok(Some(reader.at + 1 + kind.body_length()))
         }
@@ -122,6 +149,25 @@ fn is_part(job: &[u8], at: usize) -> bool
     ensures { IsTrue result → PartAt job.now at }
 {
     8 <= job.len() - at && item_kind(job[at]) == Some(ItemKind::Part)
+}
+
+// The part whose record, which is whole, has this body.
+#[inline(always)]
+#[tactic(auto, unfolding(rules::specs::Bytes::byte_at, reader::specs::Reading::item_read))]
+fn add_part(body: &[u8], draft: &mut Draft) -> Result<(), Refusal>
+    requires { length body.now ≡ 7 }
+    ensures entered { EnteredInto draft.old (item_read Part body.now) result draft.new }
+    ensures refused { OnErr result (Unchanged draft.old draft.new) }
+    ensures same_areas { SameAreas draft.old draft.new }
+{
+    part_items::add_part_knowing(
+        draft.tables,
+        draft.vacancies,
+        number(body, 0),
+        body[2],
+        number(body, 3),
+        number(body, 5),
+    )
 }
 
 // The parts from `from` on, where one stands, up to a record of another kind: the place behind them.

@@ -1,8 +1,11 @@
 use mathlib.Core.Path.{refl}
+use mathlib.Core.Bool.{false≢true}
 use Rattle.std.proofs.Common.{arith}
 use Rattle.std.proofs.lemmas.Result.{err_from_is_err_and}
-use Rattle.catalogue.proofs.Steps.{step_unknown, step_sheet, step_short, item_room, step_refused, step_entered}
+use Rattle.kept.proofs.Vacancies.{vacant_nothing}
+use Rattle.catalogue.proofs.Steps.{step_unknown, step_sheet, step_short, item_room, step_refused, step_entered, vacant_same}
 use Rattle.catalogue.proofs.read_record.Goals as goal
+use Rattle.catalogue.proofs.read_record.Goals.{then-eq, else-eq}
 
 pub returns-in_err-kind-clause-record : goal.returns-in_err-kind-clause-record
 returns-in_err-kind-clause-record c =
@@ -27,9 +30,23 @@ returns-in_err-add_item-in-Item-clause-record c =
     let e = rw c.in-Item.is at c.in_ok-kind.ensures in
     rw (p.1, p.2) (step_refused _ _ _ c.args.reader.inside _ e _ c.body_length.ensures _ _ c.requires c.in_ok-behind-in-Item.ensures _ _ _ c.in_err-add_item-in-Item.ensures.entered)
 
-pub returns-in_ok-add_item-in-Item-clause-record : goal.returns-in_ok-add_item-in-Item-clause-record
-returns-in_ok-add_item-in-Item-clause-record c =
+pub invariant_of-draft-then-eq : goal.invariant_of-draft-then-eq
+invariant_of-draft-then-eq c = record { given = c.in_ok-add_item-in-Item.ensures.given; sized = c.in_ok-add_item-in-Item.ensures.sized; vacant = vacant_nothing 64 _ }
+
+pub invariant_of-draft-else-eq : goal.invariant_of-draft-else-eq
+invariant_of-draft-else-eq c = record {
+  given = c.in_ok-add_item-in-Item.ensures.given;
+  sized = c.in_ok-add_item-in-Item.ensures.sized;
+  vacant = vacant_same _ _ _ _ _ _ _ _ _ _ _ _ c.in_ok-add_item-in-Item.ensures.entered (λ e. false≢true (rw e at c.if-eq.ensures)) c.args.draft.now.vacant;
+}
+
+pub returns-after-eq-clause-record : goal.returns-after-eq-clause-record
+returns-after-eq-clause-record c =
     let e = rw c.in-Item.is at c.in_ok-kind.ensures in
     let b = c.in_ok-behind-in-Item.ensures in
-    step_entered _ _ _ c.args.reader.inside _ e _ c.body_length-in-Item.ensures _ _ c.requires (refl, omega (arith, b.0, b.1, c.body_length.ensures, c.body_length-in-Item.ensures))
-    _ _ _ c.in_ok-add_item-in-Item.ensures.entered
+    let q = step_entered _ _ _ c.args.reader.inside _ e _ c.body_length-in-Item.ensures _ _ c.requires (refl, omega (arith, b.0, b.1, c.body_length.ensures, c.body_length-in-Item.ensures))
+    _ _ _ c.in_ok-add_item-in-Item.ensures.entered in
+    elim c.if-eq.branch [
+      | then-eq w ↦ rw w.draft-is q
+      | else-eq w ↦ rw w.draft-is q
+    ]
