@@ -24,14 +24,15 @@ gathered k n m u t = assembled (tables k t) (is_marked m) (rows n u)
 abbrev pub catalogue_of : MarksMut → MembersMut → TablesMut → Catalogue
 catalogue_of m u t = gathered t.counts u.count m.area.now u.area.now t.area.now
 
--- ---- item e: the answer, and what is left of the areas. For all that the areas hold which the function is not lent: marks m, n members u
+-- ---- item e: the answer, and what is left of the areas that it is entered into; for all n members of unions u, and marks m, that others hold
 
 abbrev pub EnteredTables : TablesMut → Item → Result (Unit {0}) Refusal → TablesMut → Type 0
 EnteredTables t e r t' = (n : ℕ) (m u : List ℕ) → Entered (gathered t.counts n m u t.area.now) n e r (gathered t'.counts n m u t'.area.now) n
 
-abbrev pub EnteredMarked : (marks : MarksMut) (tables : TablesMut) → Item → Result (Unit {0}) Refusal → (marks' : MarksMut) (tables' : TablesMut) → Type 0
-EnteredMarked m t e r m' t' =
-    (n : ℕ) (u : List ℕ) → Entered (gathered t.counts n m.area.now u t.area.now) n e r (gathered t'.counts n m'.area.now u t'.area.now) n
+abbrev pub EnteredMarksAndTables : MarksMut → TablesMut → Item → Result (Unit {0}) Refusal → MarksMut → TablesMut → Type 0
+EnteredMarksAndTables m t e r m' t' = (n : ℕ) (u : List ℕ) → Entered (gathered t.counts n m.area.now u t.area.now) n e r (gathered t'.counts n m'.area.now u t'.area.now) n
+
+-- the tables t are only read
 
 abbrev pub EnteredMarks : Tables → MarksMut → Item → Result (Unit {0}) Refusal → MarksMut → Type 0
 EnteredMarks t m e r m' = (n : ℕ) (u : List ℕ) → Entered (gathered t.counts n m.area.now u t.area.now) n e r (gathered t.counts n m'.area.now u t.area.now) n
@@ -39,12 +40,12 @@ EnteredMarks t m e r m' = (n : ℕ) (u : List ℕ) → Entered (gathered t.count
 abbrev pub EnteredMembers : Tables → MembersMut → Item → Result (Unit {0}) Refusal → MembersMut → Type 0
 EnteredMembers t u e r u' = (m : List ℕ) → Entered (gathered t.counts u.count m u.area.now t.area.now) u.count e r (gathered t.counts u'.count m u'.area.now t.area.now) u'.count
 
--- the members of unions that are not given yet have none
+-- a union more is a count more: where one that is not given yet has no rows
 abbrev pub EnteredCounts : Tables → Item → Result Counts Refusal → Type 0
 EnteredCounts t e (Ok k) = (n : ℕ) (m u : List ℕ) → Given t.counts.unions (rows n u) → Entered (gathered t.counts n m u t.area.now) n e (Ok tt) (gathered k n m u t.area.now) n
 EnteredCounts t e (Err f) = (n : ℕ) (m u : List ℕ) → Entered (gathered t.counts n m u t.area.now) n e (Err f) (gathered t.counts n m u t.area.now) n
 
--- ---- what holds again of tables into which an item other than a union was entered
+-- ---- what holds again of the tables after an item that is no union
 
 pub record StillKept (t t' : TablesMut) : Type 0 where
   pub sized : Sized (tables_mut_of t) → Sized (tables_mut_of t')

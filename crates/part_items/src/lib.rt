@@ -8,7 +8,7 @@ ghost use Rattle.rules.specs.Lists.{any};
 ghost use Rattle.rules.specs.Catalogue.{no_part};
 ghost use Rattle.tables.specs.Views.{tables_of, tables_mut_of};
 ghost use Rattle.kept.specs.Vacancies.{Vacant};
-ghost use Rattle.kept.specs.Entering.{EnteredTables, EnteredMarked, EnteredMarks, StillKept};
+ghost use Rattle.kept.specs.Entering.{EnteredTables, EnteredMarksAndTables, EnteredMarks, StillKept};
 ghost use Rattle.part_items.specs.Second.{such, is_second, Known};
 ghost use Rattle.part_items.specs.Claimed.{Claimed};
 
@@ -90,7 +90,7 @@ fn claim(
     Ok(())
 }
 
-// A part, where something is known of each name: with it that is so again.
+// A part. What is known of names is so before it, and after it.
 #[inline(always)]
 #[tactic(auto, using(kept::proofs::Entered::kept_same))]
 pub fn add_part_knowing(
@@ -146,7 +146,7 @@ pub fn add_part(
 
 #[tactic(auto, using(kept::proofs::Entered::kept_same))]
 pub fn add_range(marks: &mut MarksMut, tables: &mut TablesMut, name: u16) -> Result<(), Refusal>
-    ensures entered { EnteredMarked marks.old tables.old (Item.range name) result marks.new tables.new }
+    ensures entered { EnteredMarksAndTables marks.old tables.old (Item.range name) result marks.new tables.new }
     ensures kept { StillKept tables.old tables.new }
     ensures refused { OnErr result ((marks.new ≡ marks.old) × (tables.new ≡ tables.old)) }
     ensures same_areas { (marks.new.area.ghost_name ≡ marks.old.area.ghost_name)
