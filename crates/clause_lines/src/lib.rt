@@ -15,7 +15,7 @@ ghost use Rattle.cache.specs.Lists as lists;
 ghost use Rattle.variable_map.specs.Mapping.{AllKnown};
 ghost use Rattle.solver.specs.Rows.{row_of};
 ghost use Rattle.encoder.specs.Held.{literals_in, clause_in, Sound};
-ghost use Rattle.encoder.specs.Does.{regions_of, variables_of, IsMapped};
+ghost use Rattle.encoder.specs.StateRefs.{regions_at, variables_at, IsMappedAt};
 ghost use Rattle.clause_lines.specs.Spans.{goal_text, Stand};
 ghost use Rattle.clause_lines.specs.Asserted.{asserted_by};
 ghost use Rattle.line_fields.specs.Listed.{texts, part_text, chosen_text, literal_text, clause_text, assertion_text, clauses_stored, HasGoodRows};
@@ -23,7 +23,7 @@ ghost use Rattle.index.specs.Views.{catalogue_of, counts_of};
 
 use cache::Choice;
 use clause::Literal;
-use encoder::State;
+use encoder::StateRef;
 use index::Catalogue;
 use requirement::Requirement;
 use solver::{Clause, Stored};
@@ -39,18 +39,18 @@ use variable_map::Origin;
 fn chosen_literal(
     writer: &mut Writer,
     catalogue: &Catalogue,
-    state: &State,
+    state: &StateRef,
     range: u16,
     choice: Choice,
     p: usize,
 )
-    requires mapped { IsMapped state.now }
+    requires mapped { IsMappedAt state.now }
     requires p_lt_parts { p < (counts_of catalogue.now).parts }
-    requires all_known { AllKnown (variables_of state.now) (lists.choice (catalogue_of catalogue.now) range choice) }
-    ensures { Writes writer.old writer.new (chosen_text (catalogue_of catalogue.now) (variables_of state.now) range choice p) }
+    requires all_known { AllKnown (variables_at state.now) (lists.choice (catalogue_of catalogue.now) range choice) }
+    ensures { Writes writer.old writer.new (chosen_text (catalogue_of catalogue.now) (variables_at state.now) range choice p) }
 {
     if catalogue.index.areas.chosen(range as usize, choice, p) {
-        let x = opening::variable_of(state, Origin::Part(p as u16));
+        let x = state.variable(Origin::Part(p as u16)).unwrap_or(0);
         writer.field_literal(x as usize, true);
     }
 }
@@ -59,13 +59,13 @@ fn chosen_literal(
 fn chosen_literals(
     writer: &mut Writer,
     catalogue: &Catalogue,
-    state: &State,
+    state: &StateRef,
     range: u16,
     choice: Choice,
 )
-    requires mapped { IsMapped state.now }
-    requires all_known { AllKnown (variables_of state.now) (lists.choice (catalogue_of catalogue.now) range choice) }
-    ensures { Writes writer.old writer.new (part_text (variables_of state.now) (lists.choice (catalogue_of catalogue.now) range choice)) }
+    requires mapped { IsMappedAt state.now }
+    requires all_known { AllKnown (variables_at state.now) (lists.choice (catalogue_of catalogue.now) range choice) }
+    ensures { Writes writer.old writer.new (part_text (variables_at state.now) (lists.choice (catalogue_of catalogue.now) range choice)) }
 {
     let mut p = catalogue.index.first_chosen(range as usize, choice);
     while p < catalogue.index.areas.tables.counts.parts {
@@ -74,10 +74,10 @@ fn chosen_literals(
     }
 }
 
-fn range_literals(writer: &mut Writer, catalogue: &Catalogue, state: &State, range: u16)
-    requires mapped { IsMapped state.now }
-    requires all_known { AllKnown (variables_of state.now) (sorted (catalogue_of catalogue.now) range) }
-    ensures { Writes writer.old writer.new (part_text (variables_of state.now) (sorted (catalogue_of catalogue.now) range)) }
+fn range_literals(writer: &mut Writer, catalogue: &Catalogue, state: &StateRef, range: u16)
+    requires mapped { IsMappedAt state.now }
+    requires all_known { AllKnown (variables_at state.now) (sorted (catalogue_of catalogue.now) range) }
+    ensures { Writes writer.old writer.new (part_text (variables_at state.now) (sorted (catalogue_of catalogue.now) range)) }
 {
     chosen_literals(writer, catalogue, state, range, Choice::Favoured);
     chosen_literals(writer, catalogue, state, range, Choice::Others);
@@ -88,14 +88,14 @@ fn shared_range(
     writer: &mut Writer,
     spans: &mut Spans,
     catalogue: &Catalogue,
-    state: &State,
+    state: &StateRef,
     range: u16,
 )
-    requires mapped { IsMapped state.now }
-    requires all_known { AllKnown (variables_of state.now) (candidates (catalogue_of catalogue.now) (goal_of (Requirement.Single range))) }
-    requires spans { Stand (catalogue_of catalogue.now) (variables_of state.now) spans.old writer.old }
-    ensures wrote { Writes writer.old writer.new (goal_text (catalogue_of catalogue.now) (variables_of state.now) (Requirement.Single range)) }
-    ensures spans_2 { Stand (catalogue_of catalogue.now) (variables_of state.now) spans.new writer.new }
+    requires mapped { IsMappedAt state.now }
+    requires all_known { AllKnown (variables_at state.now) (candidates (catalogue_of catalogue.now) (goal_of (Requirement.Single range))) }
+    requires spans { Stand (catalogue_of catalogue.now) (variables_at state.now) spans.old writer.old }
+    ensures wrote { Writes writer.old writer.new (goal_text (catalogue_of catalogue.now) (variables_at state.now) (Requirement.Single range)) }
+    ensures spans_2 { Stand (catalogue_of catalogue.now) (variables_at state.now) spans.new writer.new }
 {
     let goal = Requirement::Single(range);
     if spans.again(writer, goal) {
@@ -111,14 +111,14 @@ fn union_literals(
     writer: &mut Writer,
     spans: &mut Spans,
     catalogue: &Catalogue,
-    state: &State,
+    state: &StateRef,
     union: u16,
 )
-    requires mapped { IsMapped state.now }
-    requires all_known { AllKnown (variables_of state.now) (candidates (catalogue_of catalogue.now) (goal_of (Requirement.Union union))) }
-    requires spans { Stand (catalogue_of catalogue.now) (variables_of state.now) spans.old writer.old }
-    ensures wrote { Writes writer.old writer.new (goal_text (catalogue_of catalogue.now) (variables_of state.now) (Requirement.Union union)) }
-    ensures spans_2 { Stand (catalogue_of catalogue.now) (variables_of state.now) spans.new writer.new }
+    requires mapped { IsMappedAt state.now }
+    requires all_known { AllKnown (variables_at state.now) (candidates (catalogue_of catalogue.now) (goal_of (Requirement.Union union))) }
+    requires spans { Stand (catalogue_of catalogue.now) (variables_at state.now) spans.old writer.old }
+    ensures wrote { Writes writer.old writer.new (goal_text (catalogue_of catalogue.now) (variables_at state.now) (Requirement.Union union)) }
+    ensures spans_2 { Stand (catalogue_of catalogue.now) (variables_at state.now) spans.new writer.new }
 {
     if no_candidate(catalogue, Requirement::Union(union)) {
         return;
@@ -139,14 +139,14 @@ fn shared_union(
     writer: &mut Writer,
     spans: &mut Spans,
     catalogue: &Catalogue,
-    state: &State,
+    state: &StateRef,
     union: u16,
 )
-    requires mapped { IsMapped state.now }
-    requires all_known { AllKnown (variables_of state.now) (candidates (catalogue_of catalogue.now) (goal_of (Requirement.Union union))) }
-    requires spans { Stand (catalogue_of catalogue.now) (variables_of state.now) spans.old writer.old }
-    ensures wrote { Writes writer.old writer.new (goal_text (catalogue_of catalogue.now) (variables_of state.now) (Requirement.Union union)) }
-    ensures spans_2 { Stand (catalogue_of catalogue.now) (variables_of state.now) spans.new writer.new }
+    requires mapped { IsMappedAt state.now }
+    requires all_known { AllKnown (variables_at state.now) (candidates (catalogue_of catalogue.now) (goal_of (Requirement.Union union))) }
+    requires spans { Stand (catalogue_of catalogue.now) (variables_at state.now) spans.old writer.old }
+    ensures wrote { Writes writer.old writer.new (goal_text (catalogue_of catalogue.now) (variables_at state.now) (Requirement.Union union)) }
+    ensures spans_2 { Stand (catalogue_of catalogue.now) (variables_at state.now) spans.new writer.new }
 {
     let goal = Requirement::Union(union);
     if spans.again(writer, goal) {
@@ -161,14 +161,14 @@ fn candidate_literals(
     writer: &mut Writer,
     spans: &mut Spans,
     catalogue: &Catalogue,
-    state: &State,
+    state: &StateRef,
     goal: Requirement,
 )
-    requires mapped { IsMapped state.now }
-    requires all_known { AllKnown (variables_of state.now) (candidates (catalogue_of catalogue.now) (goal_of goal)) }
-    requires spans { Stand (catalogue_of catalogue.now) (variables_of state.now) spans.old writer.old }
-    ensures wrote { Writes writer.old writer.new (goal_text (catalogue_of catalogue.now) (variables_of state.now) goal) }
-    ensures spans_2 { Stand (catalogue_of catalogue.now) (variables_of state.now) spans.new writer.new }
+    requires mapped { IsMappedAt state.now }
+    requires all_known { AllKnown (variables_at state.now) (candidates (catalogue_of catalogue.now) (goal_of goal)) }
+    requires spans { Stand (catalogue_of catalogue.now) (variables_at state.now) spans.old writer.old }
+    ensures wrote { Writes writer.old writer.new (goal_text (catalogue_of catalogue.now) (variables_at state.now) goal) }
+    ensures spans_2 { Stand (catalogue_of catalogue.now) (variables_at state.now) spans.new writer.new }
 {
     match goal {
         Requirement::Single(range) => shared_range(writer, spans, catalogue, state, range),
@@ -177,18 +177,18 @@ fn candidate_literals(
 }
 
 // The j-th condition literal from `start` on.
-fn condition_literal(writer: &mut Writer, state: &State, start: usize, j: usize)
+fn condition_literal(writer: &mut Writer, state: &StateRef, start: usize, j: usize)
     requires { start + j < state.now.limits.literals }
-    ensures { Writes writer.old writer.new (literal_text (regions_of state.now 19) start j) }
+    ensures { Writes writer.old writer.new (literal_text (regions_at state.now 19) start j) }
 {
     let code = state::get(state.area, state.limits, Region::Literals, start + j);
     let literal = Literal { code };
     writer.field_literal(literal.variable() as usize, literal.positive());
 }
 
-fn condition_literals(writer: &mut Writer, state: &State, start: usize, count: usize)
+fn condition_literals(writer: &mut Writer, state: &StateRef, start: usize, count: usize)
     requires { start + count ≤ state.now.limits.literals }
-    ensures { Writes writer.old writer.new (fields (map signed (literals_in (regions_of state.now 19) start count))) }
+    ensures { Writes writer.old writer.new (fields (map signed (literals_in (regions_at state.now 19) start count))) }
 {
     for j in 0..count {
         condition_literal(writer, state, start, j);
@@ -196,9 +196,9 @@ fn condition_literals(writer: &mut Writer, state: &State, start: usize, count: u
 }
 
 // The word, the literal of the owner, and the condition literals.
-fn conditional_head(writer: &mut Writer, state: &State, owner: u16, start: usize, count: usize)
+fn conditional_head(writer: &mut Writer, state: &StateRef, owner: u16, start: usize, count: usize)
     requires { start + count ≤ state.now.limits.literals }
-    ensures { Writes writer.old writer.new (fields (ascii "requires" ∷ signed (literal_of owner false) ∷ map signed (literals_in (regions_of state.now 19) start count))) }
+    ensures { Writes writer.old writer.new (fields (ascii "requires" ∷ signed (literal_of owner false) ∷ map signed (literals_in (regions_at state.now 19) start count))) }
 {
     line_fields::requires_head(writer, owner);
     condition_literals(writer, state, start, count);
@@ -209,15 +209,15 @@ fn clause_fields(
     writer: &mut Writer,
     spans: &mut Spans,
     catalogue: &Catalogue,
-    state: &State,
+    state: &StateRef,
     row: Stored,
 )
-    requires mapped { IsMapped state.now }
-    requires sound { Sound (catalogue_of catalogue.now) (variables_of state.now) state.now.used.literals (row_of row) }
+    requires mapped { IsMappedAt state.now }
+    requires sound { Sound (catalogue_of catalogue.now) (variables_at state.now) state.now.used.literals (row_of row) }
     requires literals_le_literals { state.now.used.literals ≤ state.now.limits.literals }
-    requires spans { Stand (catalogue_of catalogue.now) (variables_of state.now) spans.old writer.old }
-    ensures wrote { Writes writer.old writer.new (fields (clause_fields (catalogue_of catalogue.now) (clause_in (catalogue_of catalogue.now) (variables_of state.now) (regions_of state.now 19) (row_of row)))) }
-    ensures spans_2 { Stand (catalogue_of catalogue.now) (variables_of state.now) spans.new writer.new }
+    requires spans { Stand (catalogue_of catalogue.now) (variables_at state.now) spans.old writer.old }
+    ensures wrote { Writes writer.old writer.new (fields (clause_fields (catalogue_of catalogue.now) (clause_in (catalogue_of catalogue.now) (variables_at state.now) (regions_at state.now 19) (row_of row)))) }
+    ensures spans_2 { Stand (catalogue_of catalogue.now) (variables_at state.now) spans.new writer.new }
 {
     match row.clause() {
         Clause::Install => {
@@ -291,16 +291,16 @@ fn row_fields(
     writer: &mut Writer,
     spans: &mut Spans,
     catalogue: &Catalogue,
-    state: &State,
+    state: &StateRef,
     clauses: &[u8],
     i: usize,
 )
-    requires mapped { IsMapped state.now }
+    requires mapped { IsMappedAt state.now }
     requires good_rows { HasGoodRows (catalogue_of catalogue.now) state.now clauses.now }
     requires i_lt_clauses { i < state.now.used.clauses }
-    requires spans { Stand (catalogue_of catalogue.now) (variables_of state.now) spans.old writer.old }
+    requires spans { Stand (catalogue_of catalogue.now) (variables_at state.now) spans.old writer.old }
     ensures wrote { Writes writer.old writer.new (fields (clause_fields (catalogue_of catalogue.now) (get_or (clauses_stored (catalogue_of catalogue.now) state.now clauses.now) i install))) }
-    ensures spans_2 { Stand (catalogue_of catalogue.now) (variables_of state.now) spans.new writer.new }
+    ensures spans_2 { Stand (catalogue_of catalogue.now) (variables_at state.now) spans.new writer.new }
 {
     let row = solver::row_at(clauses, state.used.clauses, i);
     clause_fields(writer, spans, catalogue, state, row);
@@ -310,16 +310,16 @@ fn clause_line(
     writer: &mut Writer,
     spans: &mut Spans,
     catalogue: &Catalogue,
-    state: &State,
+    state: &StateRef,
     clauses: &[u8],
     i: usize,
 )
-    requires mapped { IsMapped state.now }
+    requires mapped { IsMappedAt state.now }
     requires good_rows { HasGoodRows (catalogue_of catalogue.now) state.now clauses.now }
     requires i_lt_clauses { i < state.now.used.clauses }
-    requires spans { Stand (catalogue_of catalogue.now) (variables_of state.now) spans.old writer.old }
+    requires spans { Stand (catalogue_of catalogue.now) (variables_at state.now) spans.old writer.old }
     ensures wrote { Writes writer.old writer.new (clause_text (catalogue_of catalogue.now) (clauses_stored (catalogue_of catalogue.now) state.now clauses.now) i) }
-    ensures spans_2 { Stand (catalogue_of catalogue.now) (variables_of state.now) spans.new writer.new }
+    ensures spans_2 { Stand (catalogue_of catalogue.now) (variables_at state.now) spans.new writer.new }
 {
     writer.put(b'c');
     writer.field_number(i);
@@ -328,8 +328,8 @@ fn clause_line(
 }
 
 // A line for each clause; at first no literals stand anywhere.
-pub fn clause_lines(writer: &mut Writer, catalogue: &Catalogue, state: &State, clauses: &[u8])
-    requires mapped { IsMapped state.now }
+pub fn clause_lines(writer: &mut Writer, catalogue: &Catalogue, state: &StateRef, clauses: &[u8])
+    requires mapped { IsMappedAt state.now }
     requires good_rows { HasGoodRows (catalogue_of catalogue.now) state.now clauses.now }
     ensures { Writes writer.old writer.new (texts (clause_text (catalogue_of catalogue.now) (clauses_stored (catalogue_of catalogue.now) state.now clauses.now)) state.now.used.clauses) }
 {
@@ -377,7 +377,7 @@ fn asserted(catalogue: &Catalogue, clause: Clause) -> Option<u16>
 fn assertion_line(
     writer: &mut Writer,
     catalogue: &Catalogue,
-    state: &State,
+    state: &StateRef,
     clauses: &[u8],
     i: usize,
 )
@@ -391,7 +391,7 @@ fn assertion_line(
     }
 }
 
-pub fn assertion_lines(writer: &mut Writer, catalogue: &Catalogue, state: &State, clauses: &[u8])
+pub fn assertion_lines(writer: &mut Writer, catalogue: &Catalogue, state: &StateRef, clauses: &[u8])
     requires { HasGoodRows (catalogue_of catalogue.now) state.now clauses.now }
     ensures { Writes writer.old writer.new (texts (assertion_text (clauses_stored (catalogue_of catalogue.now) state.now clauses.now)) state.now.used.clauses) }
 {

@@ -12,7 +12,7 @@ use Rattle.encoder.specs.Did.{Widens, is_full}
 use Rattle.state.specs.declared.Limits.{Limits}
 use Rattle.encoder.specs.Does.{StateDoes, PlainDoes, ClausesDoes, Does, IsGood, IsGoodWith, regions_of, variables_of}
 use Rattle.encoder.proofs.Did.{did_full, did_idle, did_then, told_full}
-use Rattle.encoder.proofs.Steps.{did_same, state_same, clauses_same, did_none, state_none, clauses_none, state_then, clauses_then, state_then_clauses, state_clauses, alone_after, good_after, good_later, known_after, known_later, variables_after_law}
+use Rattle.encoder.proofs.Steps.{did_same, state_same, clauses_same, state_none, clauses_none, state_then, clauses_then, state_then_clauses, state_clauses, alone_after, good_after, good_later, known_after, known_later, variables_after_law}
 
 module _ {c : Catalogue} {F G : Reading → rules.State → rules.State} {x x' : State} where
   -- the same by another name

@@ -3,3 +3,4 @@ pub mod Did
 pub mod Clauses
 pub mod Does
 pub mod Assignments
+pub mod StateRefs

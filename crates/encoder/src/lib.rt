@@ -1,6 +1,8 @@
 // The encoder's state in its areas: how much of each table is used. Steps that change it stand in `opening`, `storing`, `reporting`, `setting` and the crates above them.
 #![tactic(auto)]
 
+mod state_ref;
+
 ghost use Rattle.std.specs.Prelude.{◌≡◌, length};
 ghost use Rattle.state.specs.Layout.{Fits};
 ghost use Rattle.encoder.specs.Did.{filled};
@@ -9,6 +11,7 @@ use clause::Literal;
 use decision_tracker::Decision;
 use marked::MarkedList;
 use state::Limits;
+pub use state_ref::StateRef;
 use variable_map::Origin;
 
 // How much of each table is used; the tasks that the present task has queued begin at `first`. `full` is 1 if a limit would be passed, and else 0: a number

@@ -10,8 +10,8 @@ use Rattle.refusal.specs.declared.RefusedAt.{RefusedAt}
 use Rattle.refusal.specs.Refusing.{refusal_of}
 use Rattle.state.specs.declared.Limits.{Limits}
 use Rattle.encoder.specs.declared.Counters.{Counters}
-use Rattle.encoder.specs.declared.State as encoder
-use Rattle.encoder.specs.Does.{regions_of}
+use Rattle.encoder.specs.declared.state_ref.StateRef.{StateRef}
+use Rattle.encoder.specs.StateRefs.{regions_at}
 use Rattle.beginning.specs.Beginning.{Holds}
 use Rattle.ending.specs.declared.Accepted.{Accepted}
 
@@ -38,8 +38,8 @@ pub record Finishes (c : Catalogue) (l : Limits) (n : Counters) (st : ℕ → Li
 
 -- ---- the same two of the encoder's state and the two other areas
 
-abbrev pub IsPrinted : Catalogue → encoder.State → (cl wt : List ℕ) → Result Accepted RefusedAt → (out out' : List ℕ) → Type 0
-IsPrinted c x cl wt r out out' = Prints c x.limits x.used (regions_of x) cl wt r out out'
+abbrev pub IsPrinted : Catalogue → StateRef → (cl wt : List ℕ) → Result Accepted RefusedAt → (out out' : List ℕ) → Type 0
+IsPrinted c x cl wt r out out' = Prints c x.limits x.used (regions_at x) cl wt r out out'
 
-abbrev pub IsFinished : Catalogue → encoder.State → (cl wt : List ℕ) → Result Accepted RefusedAt → (out out' : List ℕ) → Type 0
-IsFinished c x cl wt r out out' = Finishes c x.limits x.used (regions_of x) cl wt r out out'
+abbrev pub IsFinished : Catalogue → StateRef → (cl wt : List ℕ) → Result Accepted RefusedAt → (out out' : List ℕ) → Type 0
+IsFinished c x cl wt r out out' = Finishes c x.limits x.used (regions_at x) cl wt r out out'

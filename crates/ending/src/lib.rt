@@ -4,13 +4,14 @@
 
 ghost use Rattle.std.specs.Prelude.{◌≡◌, [], length};
 ghost use Rattle.encoder.specs.Held.{LongEnough};
-ghost use Rattle.beginning.specs.Beginning.{IsReached};
+ghost use Rattle.encoder.specs.StateRefs.{regions_at};
+ghost use Rattle.beginning.specs.Beginning.{Reaches};
 ghost use Rattle.text.specs.Text.{Addressable};
 ghost use Rattle.line_fields.specs.Listed.{IsListed};
 ghost use Rattle.ending.specs.Ending.{IsPrinted, IsFinished};
 ghost use Rattle.index.specs.Views.{catalogue_of};
 
-use encoder::State;
+use encoder::StateRef;
 use index::Catalogue;
 use refusal::{Refusal, RefusedAt};
 
@@ -23,10 +24,10 @@ pub struct Accepted {
 }
 
 // How long the listing is, or one more than `room` if it is longer than that. Nothing is written.
-fn measure(catalogue: &Catalogue, state: &State, clauses: &[u8], w: &[u8], room: usize) -> usize
+fn measure(catalogue: &Catalogue, state: &StateRef, clauses: &[u8], w: &[u8], room: usize) -> usize
     requires addressable { Addressable room }
     requires long_enough { LongEnough state.now.limits (length clauses.now) (length w.now) }
-    requires reaches { IsReached (catalogue_of catalogue.now) state.now clauses.now w.now }
+    requires reaches { Reaches (catalogue_of catalogue.now) state.now.limits state.now.used (regions_at state.now) clauses.now w.now }
     ensures { IsListed (catalogue_of catalogue.now) state.now clauses.now w.now room result [] [] }
 {
     listing::write(catalogue, state, clauses, w, &mut [], room)
@@ -35,13 +36,13 @@ fn measure(catalogue: &Catalogue, state: &State, clauses: &[u8], w: &[u8], room:
 // The listing is written if it fits into the area.
 fn print(
     catalogue: &Catalogue,
-    state: &State,
+    state: &StateRef,
     clauses: &[u8],
     w: &[u8],
     out: &mut [u8],
 ) -> Result<Accepted, RefusedAt>
     requires long_enough { LongEnough state.now.limits (length clauses.now) (length w.now) }
-    requires reaches { IsReached (catalogue_of catalogue.now) state.now clauses.now w.now }
+    requires reaches { Reaches (catalogue_of catalogue.now) state.now.limits state.now.used (regions_at state.now) clauses.now w.now }
     ensures { IsPrinted (catalogue_of catalogue.now) state.now clauses.now w.now result out.old out.new }
 {
     let room = out.len();
@@ -63,13 +64,13 @@ fn print(
 // The end of a job: nothing added or drawn may be left, and the listing must fit.
 pub fn finish(
     catalogue: &Catalogue,
-    state: &State,
+    state: &StateRef,
     clauses: &[u8],
     w: &[u8],
     out: &mut [u8],
 ) -> Result<Accepted, RefusedAt>
     requires long_enough { LongEnough state.now.limits (length clauses.now) (length w.now) }
-    requires reaches { IsReached (catalogue_of catalogue.now) state.now clauses.now w.now }
+    requires reaches { Reaches (catalogue_of catalogue.now) state.now.limits state.now.used (regions_at state.now) clauses.now w.now }
     ensures { IsFinished (catalogue_of catalogue.now) state.now clauses.now w.now result out.old out.new }
 {
     if state.used.added != 0 || state.used.drawn != 0 {

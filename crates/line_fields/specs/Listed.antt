@@ -18,9 +18,9 @@ use Rattle.marked.specs.Marked.{listed, owner_of}
 use Rattle.entries.specs.Entries.{no_entry, waiting_in}
 use Rattle.solver.specs.Rows.{Row, no_row, rows}
 use Rattle.encoder.specs.declared.Counters.{Counters}
-use Rattle.encoder.specs.declared.State.{State}
+use Rattle.encoder.specs.declared.state_ref.StateRef.{StateRef}
 use Rattle.encoder.specs.Held.{Reading, literal_in, clauses_in, conflict_if, state_of, Sound}
-use Rattle.encoder.specs.Does.{regions_of}
+use Rattle.encoder.specs.StateRefs.{regions_at}
 
 -- ---- fields
 
@@ -80,7 +80,7 @@ unfoldable pub condition_text : Catalogue → List (ℕ × ℕ) → ℕ → ℕ 
 condition_text c es n k = texts (entry_text c es k) n
 
 -- the waiting entries of a state
-abbrev pub entries_waiting : State → (wt : List ℕ) → List (ℕ × ℕ)
+abbrev pub entries_waiting : StateRef → (wt : List ℕ) → List (ℕ × ℕ)
 entries_waiting x wt = waiting_in x.limits x.used.waiting wt
 
 -- ---- the whole
@@ -99,8 +99,8 @@ module _ (c : Catalogue) (n : Counters) (st : ℕ → List ℕ) (cl : List ℕ) 
   clause_notes = texts (conflict_text (rows n.clauses cl)) n.clauses ++ texts (assertion_text clauses_of) n.clauses
 
 -- the stored clauses of a state
-abbrev pub clauses_stored : Catalogue → State → (cl : List ℕ) → List Clause
-clauses_stored c x cl = clauses_of c x.used (regions_of x) cl
+abbrev pub clauses_stored : Catalogue → StateRef → (cl : List ℕ) → List Clause
+clauses_stored c x cl = clauses_of c x.used (regions_at x) cl
 
 unfoldable pub state_notes : Catalogue → (conditions : ℕ) → Limits → Counters → (ℕ → List ℕ) → (wt : List ℕ) → List ℕ
 state_notes c conditions l n st wt =
@@ -119,13 +119,13 @@ pub record GoodRows (c : Catalogue) (l : Limits) (n : Counters) (st : ℕ → Li
   pub sound : Each (Sound c (variables n.variables st) n.literals) (rows n.clauses cl)
 
 -- the same of a state's rows
-abbrev pub HasGoodRows : Catalogue → State → (cl : List ℕ) → Type 0
-HasGoodRows c x cl = GoodRows c x.limits x.used (regions_of x) cl
+abbrev pub HasGoodRows : Catalogue → StateRef → (cl : List ℕ) → Type 0
+HasGoodRows c x cl = GoodRows c x.limits x.used (regions_at x) cl
 
 -- the listing of the state was written, whatever the tasks of a run are read by
 pub record Lists (c : Catalogue) (l : Limits) (n : Counters) (st : ℕ → List ℕ) (cl wt : List ℕ) (room r : ℕ) (out out' : List ℕ) : Type 0 where
   pub is : (v : Reading) → Wrote 0 r (listing c (state_of c l v n st cl wt)) room out out'
 
 -- the same of this state
-abbrev pub IsListed : Catalogue → State → (cl wt : List ℕ) → (room r : ℕ) → (out out' : List ℕ) → Type 0
-IsListed c x cl wt room r out out' = Lists c x.limits x.used (regions_of x) cl wt room r out out'
+abbrev pub IsListed : Catalogue → StateRef → (cl wt : List ℕ) → (room r : ℕ) → (out out' : List ℕ) → Type 0
+IsListed c x cl wt room r out out' = Lists c x.limits x.used (regions_at x) cl wt room r out out'

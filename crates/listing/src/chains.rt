@@ -6,7 +6,7 @@ ghost use Rattle.line_fields.specs.Listed.{entries_waiting};
 ghost use Rattle.listing.specs.Chains.{Key, Linked};
 ghost use Rattle.index.specs.Views.{catalogue_of, counts_of};
 
-use encoder::State;
+use encoder::StateRef;
 use index::Catalogue;
 
 // For each condition its first entry, and for each entry the next one of the same condition. The number of entries ends a chain.
@@ -17,7 +17,7 @@ pub struct Chains {
 }
 
 // The condition of entry i.
-fn key(catalogue: &Catalogue, state: &State, w: &[u8], i: usize) -> usize
+fn key(catalogue: &Catalogue, state: &StateRef, w: &[u8], i: usize) -> usize
     requires long { Long state.now.limits (length w.now) × (state.now.used.waiting ≤ state.now.limits.waiting) }
     requires all_given { AllGiven (catalogue_of catalogue.now) (entries_waiting state.now w.now) }
     requires i_lt_waiting { i < state.now.used.waiting }
@@ -53,7 +53,7 @@ impl Chains {
     }
 
     // Entry i, those behind it being linked.
-    fn link_entry(&mut self, catalogue: &Catalogue, state: &State, w: &[u8], i: usize)
+    fn link_entry(&mut self, catalogue: &Catalogue, state: &StateRef, w: &[u8], i: usize)
         requires long { Long state.now.limits (length w.now) × (state.now.used.waiting ≤ state.now.limits.waiting) }
         requires all_given { AllGiven (catalogue_of catalogue.now) (entries_waiting state.now w.now) }
         requires linked { Linked (catalogue_of catalogue.now) (entries_waiting state.now w.now) state.now.used.waiting (counts_of catalogue.now).conditions (i + 1) self.old.heads self.old.links × (i < state.now.used.waiting) }
@@ -64,7 +64,7 @@ impl Chains {
     }
 
     // All of them, no condition having an entry yet.
-    pub fn link_entries(&mut self, catalogue: &Catalogue, state: &State, w: &[u8])
+    pub fn link_entries(&mut self, catalogue: &Catalogue, state: &StateRef, w: &[u8])
         requires long { Long state.now.limits (length w.now) × (state.now.used.waiting ≤ state.now.limits.waiting) }
         requires all_given { AllGiven (catalogue_of catalogue.now) (entries_waiting state.now w.now) }
         requires heads_value { (self.old.heads ≡ replicate 256 state.now.used.waiting) × (self.old.links ≡ replicate 2048 0) }

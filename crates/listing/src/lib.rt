@@ -13,8 +13,8 @@ ghost use Rattle.text.specs.Writing.{Writes};
 ghost use Rattle.requirement.specs.Requirements.{requirement_is};
 ghost use Rattle.conditions.specs.Disjuncts.{ranges_of};
 ghost use Rattle.entries.specs.Entries.{entry_of, Long};
-ghost use Rattle.encoder.specs.Held.{LongEnough};
-ghost use Rattle.encoder.specs.Does.{regions_of, IsMapped, IsGoodWith};
+ghost use Rattle.encoder.specs.Held.{Good, LongEnough};
+ghost use Rattle.encoder.specs.StateRefs.{regions_at, IsMappedAt};
 ghost use Rattle.goals.specs.Goals.{AllGiven};
 ghost use Rattle.line_fields.specs.Listed.{entry_fields, texts, entry_text, condition_text, entries_waiting, first_half, clause_notes, state_notes, second_half, HasGoodRows, IsListed};
 ghost use Rattle.listing.specs.Chains.{is_under, Linked};
@@ -22,7 +22,7 @@ ghost use Rattle.index.specs.Views.{catalogue_of, counts_of};
 
 use chains::Chains;
 use conditions::Disjunct;
-use encoder::State;
+use encoder::StateRef;
 use entries::Entry;
 use index::Catalogue;
 use requirement::ConditionalRequirement;
@@ -75,7 +75,7 @@ fn entry_under(writer: &mut Writer, catalogue: &Catalogue, entry: Entry, c: usiz
 fn waiting_line(
     writer: &mut Writer,
     catalogue: &Catalogue,
-    state: &State,
+    state: &StateRef,
     w: &[u8],
     c: usize,
     i: usize,
@@ -93,7 +93,7 @@ fn waiting_line(
 fn waiting_of(
     writer: &mut Writer,
     catalogue: &Catalogue,
-    state: &State,
+    state: &StateRef,
     w: &[u8],
     chains: &Chains,
     c: usize,
@@ -114,7 +114,7 @@ fn waiting_of(
 fn chained_lines(
     writer: &mut Writer,
     catalogue: &Catalogue,
-    state: &State,
+    state: &StateRef,
     w: &[u8],
     chains: &Chains,
 )
@@ -129,7 +129,7 @@ fn chained_lines(
 }
 
 // The same, after making the chains; nothing where no entry waits.
-fn waiting_lines(writer: &mut Writer, catalogue: &Catalogue, state: &State, w: &[u8])
+fn waiting_lines(writer: &mut Writer, catalogue: &Catalogue, state: &StateRef, w: &[u8])
     requires long { Long state.now.limits (length w.now) × (state.now.used.waiting ≤ state.now.limits.waiting) }
     requires all_given { AllGiven (catalogue_of catalogue.now) (entries_waiting state.now w.now) }
     ensures { Writes writer.old writer.new (texts (condition_text (catalogue_of catalogue.now) (entries_waiting state.now w.now) state.now.used.waiting) (counts_of catalogue.now).conditions) }
@@ -145,10 +145,10 @@ fn waiting_lines(writer: &mut Writer, catalogue: &Catalogue, state: &State, w: &
 // ---- the whole
 
 // Variables, clauses, owners and names.
-fn first_half(writer: &mut Writer, catalogue: &Catalogue, state: &State, clauses: &[u8])
-    requires mapped { IsMapped state.now }
+fn first_half(writer: &mut Writer, catalogue: &Catalogue, state: &StateRef, clauses: &[u8])
+    requires mapped { IsMappedAt state.now }
     requires good_rows { HasGoodRows (catalogue_of catalogue.now) state.now clauses.now }
-    ensures { Writes writer.old writer.new (first_half (catalogue_of catalogue.now) state.now.used (regions_of state.now) clauses.now) }
+    ensures { Writes writer.old writer.new (first_half (catalogue_of catalogue.now) state.now.used (regions_at state.now) clauses.now) }
 {
     state_lines::variable_lines(writer, state);
     clause_lines::clause_lines(writer, catalogue, state, clauses);
@@ -157,31 +157,37 @@ fn first_half(writer: &mut Writer, catalogue: &Catalogue, state: &State, clauses
 }
 
 // Conflicts and asserted variables.
-fn clause_notes(writer: &mut Writer, catalogue: &Catalogue, state: &State, clauses: &[u8])
+fn clause_notes(writer: &mut Writer, catalogue: &Catalogue, state: &StateRef, clauses: &[u8])
     requires good_rows { HasGoodRows (catalogue_of catalogue.now) state.now clauses.now }
-    ensures { Writes writer.old writer.new (clause_notes (catalogue_of catalogue.now) state.now.used (regions_of state.now) clauses.now) }
+    ensures { Writes writer.old writer.new (clause_notes (catalogue_of catalogue.now) state.now.used (regions_at state.now) clauses.now) }
 {
     state_lines::conflict_lines(writer, clauses, state.used.clauses);
     clause_lines::assertion_lines(writer, catalogue, state, clauses);
 }
 
 // Decisions and waiting entries.
-fn state_notes(writer: &mut Writer, catalogue: &Catalogue, state: &State, w: &[u8])
+fn state_notes(writer: &mut Writer, catalogue: &Catalogue, state: &StateRef, w: &[u8])
     requires decisions_le_variables { state.now.used.decisions ≤ state.now.limits.variables }
     requires long { Long state.now.limits (length w.now) × (state.now.used.waiting ≤ state.now.limits.waiting) }
     requires all_given { AllGiven (catalogue_of catalogue.now) (entries_waiting state.now w.now) }
-    ensures { Writes writer.old writer.new (state_notes (catalogue_of catalogue.now) (counts_of catalogue.now).conditions state.now.limits state.now.used (regions_of state.now) w.now) }
+    ensures { Writes writer.old writer.new (state_notes (catalogue_of catalogue.now) (counts_of catalogue.now).conditions state.now.limits state.now.used (regions_at state.now) w.now) }
 {
     state_lines::decision_lines(writer, state);
     waiting_lines(writer, catalogue, state, w);
 }
 
-fn second_half(writer: &mut Writer, catalogue: &Catalogue, state: &State, clauses: &[u8], w: &[u8])
+fn second_half(
+    writer: &mut Writer,
+    catalogue: &Catalogue,
+    state: &StateRef,
+    clauses: &[u8],
+    w: &[u8],
+)
     requires good_rows { HasGoodRows (catalogue_of catalogue.now) state.now clauses.now }
     requires decisions_le_variables { state.now.used.decisions ≤ state.now.limits.variables }
     requires long { Long state.now.limits (length w.now) × (state.now.used.waiting ≤ state.now.limits.waiting) }
     requires all_given { AllGiven (catalogue_of catalogue.now) (entries_waiting state.now w.now) }
-    ensures { Writes writer.old writer.new (second_half (catalogue_of catalogue.now) (counts_of catalogue.now).conditions state.now.limits state.now.used (regions_of state.now) clauses.now w.now) }
+    ensures { Writes writer.old writer.new (second_half (catalogue_of catalogue.now) (counts_of catalogue.now).conditions state.now.limits state.now.used (regions_at state.now) clauses.now w.now) }
 {
     clause_notes(writer, catalogue, state, clauses);
     state_notes(writer, catalogue, state, w);
@@ -190,7 +196,7 @@ fn second_half(writer: &mut Writer, catalogue: &Catalogue, state: &State, clause
 // Writes the listing into `out`, as far as `room` goes; its length, or one more than `room` if it is longer than that.
 pub fn write(
     catalogue: &Catalogue,
-    state: &State,
+    state: &StateRef,
     clauses: &[u8],
     w: &[u8],
     out: &mut [u8],
@@ -198,7 +204,7 @@ pub fn write(
 ) -> usize
     requires addressable { Addressable room }
     requires long_enough { LongEnough state.now.limits (length clauses.now) (length w.now) }
-    requires good { IsGoodWith (catalogue_of catalogue.now) state.now clauses.now w.now }
+    requires good { Good (catalogue_of catalogue.now) state.now.limits state.now.used (regions_at state.now) clauses.now w.now }
     requires all_given { AllGiven (catalogue_of catalogue.now) (entries_waiting state.now w.now) }
     ensures { IsListed (catalogue_of catalogue.now) state.now clauses.now w.now room result out.old out.new }
 {

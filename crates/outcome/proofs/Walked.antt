@@ -32,6 +32,9 @@ use Rattle.state.specs.declared.Limits.{Limits}
 use Rattle.state.specs.Layout.{held}
 use Rattle.encoder.specs.declared.Counters.{Counters}
 use Rattle.encoder.specs.declared.State.{State}
+use Rattle.encoder.specs.declared.state_ref.StateRef.{StateRef}
+use Rattle.encoder.specs.Does.{regions_of}
+use Rattle.encoder.specs.StateRefs.{regions_at, RefOf}
 use Rattle.index.specs.Catalogued.{Catalogued}
 use Rattle.carried.specs.Carrying.{end_from, SheetDid}
 use Rattle.beginning.specs.Beginning.{Reaches, IsReached}
@@ -153,20 +156,31 @@ module _ {l l' : Limits} (e : l ≡ l') where
   runs_within : {job : List ℕ} {at : ℕ} {p : Progress} {r : Result Accepted RefusedAt} {out out' : List ℕ} → RunsFrom l job at p r out out' → RunsFrom l' job at p r out out'
   runs_within h = rw (← e) h
 
+-- ---- a state and a reference to it
+
+module _ {x : State} {r : StateRef} (e : RefOf x r) {c : Catalogue} {cl wt : List ℕ} where
+  reached_by_reference : IsReached c x cl wt → Reaches c r.limits r.used (regions_at r) cl wt
+  reached_by_reference h = rw (e.area, e.limits, e.used) h
+
+  finished_by_reference : {y : Result Accepted RefusedAt} {out out' : List ℕ} → IsFinished c r cl wt y out out' → Finishes c x.limits x.used (regions_of x) cl wt y out out'
+  finished_by_reference h = rw (e.area, e.limits, e.used) at h
+
 -- ---- the sheet
 
-pub sheet_reaches : {c : Catalogue} {job : List ℕ} {from : ℕ} {x x' : State} {cl' wt' : List ℕ} → SheetDid c job from x (Ok tt) x' cl' wt' → Given c → IsReached c x' cl' wt'
-sheet_reaches d g =
+pub sheet_reaches : {c : Catalogue} {job : List ℕ} {from : ℕ} {x x' : State} {r : StateRef} {cl' wt' : List ℕ} → SheetDid c job from x (Ok tt) x' cl' wt' → Given c → RefOf x' r
+    → Reaches c r.limits r.used (regions_at r) cl' wt'
+sheet_reaches d g e =
     let y = d.carried refl in
-    reaches_within (sym d.limits) _ (record { state = y.state; given = g; reached = y.reached; holds = y.holds })
+    reached_by_reference e (reaches_within (sym d.limits) _ (record { state = y.state; given = g; reached = y.reached; holds = y.holds }))
 
 -- within these limits
 module _ {c : Catalogue} {l : Limits} {job : List ℕ} {from : ℕ} {x x' : State} {cl' wt' : List ℕ} (i : x.limits ≡ l) where
   pub sheet_refused : {e : RefusedAt} (out : List ℕ) → SheetDid c job from x (Err e) x' cl' wt' → RunsFrom l job from (reading c) (Err e) out out
   sheet_refused {e} out d = runs_within i (record { is = λ z k g. rw (d.refused e refl z k) (refused_comes job out e) })
 
-  pub sheet_finished : {r : Result Accepted RefusedAt} {out out' : List ℕ} → SheetDid c job from x (Ok tt) x' cl' wt' → IsFinished c x' cl' wt' r out out' → RunsFrom l job from (reading c) r out out'
+  pub sheet_finished : {a : StateRef} {r : Result Accepted RefusedAt} {out out' : List ℕ} → SheetDid c job from x (Ok tt) x' cl' wt' → RefOf x' a → IsFinished c a cl' wt' r out out'
+      → RunsFrom l job from (reading c) r out out'
   unfolding ended
-  sheet_finished d h =
+  sheet_finished d f h =
       let y = d.carried refl in
-      runs_within i (record { is = λ z e g. rw (y.alike z e) ((finishes_within d.limits _ h).is y.state y.holds z job g) })
+      runs_within i (record { is = λ z e g. rw (y.alike z e) ((finishes_within d.limits _ (finished_by_reference f h)).is y.state y.holds z job g) })

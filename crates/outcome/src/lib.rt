@@ -42,7 +42,7 @@ fn run_sheet(
     state::clear(area, limits);
     let mut state = carried::start(area, clauses, limits);
     carried::carry_sheet(job, from, catalogue, &mut state, clauses, w)?;
-    ending::finish(catalogue, &state, clauses, w, out)
+    ending::finish(catalogue, &state.as_state_ref(), clauses, w, out)
 }
 
 // The catalogue is read, and its chains are made.

@@ -7,10 +7,10 @@ ghost use Rattle.rules.specs.Listing.{decimal, line};
 ghost use Rattle.text.specs.Writing.{Writes};
 ghost use Rattle.marked.specs.Marked.{listed};
 ghost use Rattle.solver.specs.Rows.{rows};
-ghost use Rattle.encoder.specs.Does.{regions_of, variables_of, decisions_of};
+ghost use Rattle.encoder.specs.StateRefs.{regions_at, variables_at, decisions_at};
 ghost use Rattle.line_fields.specs.Listed.{texts, variable_text, owner_text, name_text, conflict_text, decision_text};
 
-use encoder::State;
+use encoder::StateRef;
 use marked::MarkedList;
 use text::Writer;
 
@@ -18,9 +18,9 @@ use text::Writer;
 
 // ---- variables
 
-fn variable_line(writer: &mut Writer, state: &State, x: usize)
+fn variable_line(writer: &mut Writer, state: &StateRef, x: usize)
     requires { state.now.used.variables ≤ state.now.limits.variables }
-    ensures { Writes writer.old writer.new (variable_text (variables_of state.now) x) }
+    ensures { Writes writer.old writer.new (variable_text (variables_at state.now) x) }
 {
     writer.put(b'v');
     writer.field_number(x);
@@ -29,9 +29,9 @@ fn variable_line(writer: &mut Writer, state: &State, x: usize)
     writer.line_feed();
 }
 
-pub fn variable_lines(writer: &mut Writer, state: &State)
+pub fn variable_lines(writer: &mut Writer, state: &StateRef)
     requires { state.now.used.variables ≤ state.now.limits.variables }
-    ensures { Writes writer.old writer.new (texts (variable_text (variables_of state.now)) state.now.used.variables) }
+    ensures { Writes writer.old writer.new (texts (variable_text (variables_at state.now)) state.now.used.variables) }
 {
     for i in 0..state.used.variables {
         variable_line(writer, state, i);
@@ -40,9 +40,9 @@ pub fn variable_lines(writer: &mut Writer, state: &State)
 
 // ---- opened owners and names
 
-fn owner_line(writer: &mut Writer, state: &State, i: usize)
+fn owner_line(writer: &mut Writer, state: &StateRef, i: usize)
     requires { i < state.now.used.owners }
-    ensures { Writes writer.old writer.new (owner_text (listed state.now.used.owners 1 (regions_of state.now)) i) }
+    ensures { Writes writer.old writer.new (owner_text (listed state.now.used.owners 1 (regions_at state.now)) i) }
 {
     let number = state.listed(MarkedList::Owners, state.used.owners, i);
     writer.put(b'o');
@@ -50,17 +50,17 @@ fn owner_line(writer: &mut Writer, state: &State, i: usize)
     writer.line_feed();
 }
 
-pub fn owner_lines(writer: &mut Writer, state: &State)
-    ensures { Writes writer.old writer.new (texts (owner_text (listed state.now.used.owners 1 (regions_of state.now))) state.now.used.owners) }
+pub fn owner_lines(writer: &mut Writer, state: &StateRef)
+    ensures { Writes writer.old writer.new (texts (owner_text (listed state.now.used.owners 1 (regions_at state.now))) state.now.used.owners) }
 {
     for i in 0..state.used.owners {
         owner_line(writer, state, i);
     }
 }
 
-fn name_line(writer: &mut Writer, state: &State, i: usize)
+fn name_line(writer: &mut Writer, state: &StateRef, i: usize)
     requires { i < state.now.used.names }
-    ensures { Writes writer.old writer.new (name_text (listed state.now.used.names 3 (regions_of state.now)) i) }
+    ensures { Writes writer.old writer.new (name_text (listed state.now.used.names 3 (regions_at state.now)) i) }
 {
     let name = state.listed(MarkedList::Names, state.used.names, i);
     writer.put(b'p');
@@ -68,8 +68,8 @@ fn name_line(writer: &mut Writer, state: &State, i: usize)
     writer.line_feed();
 }
 
-pub fn name_lines(writer: &mut Writer, state: &State)
-    ensures { Writes writer.old writer.new (texts (name_text (listed state.now.used.names 3 (regions_of state.now))) state.now.used.names) }
+pub fn name_lines(writer: &mut Writer, state: &StateRef)
+    ensures { Writes writer.old writer.new (texts (name_text (listed state.now.used.names 3 (regions_at state.now))) state.now.used.names) }
 {
     for i in 0..state.used.names {
         name_line(writer, state, i);
@@ -111,9 +111,9 @@ pub fn conflict_lines(writer: &mut Writer, clauses: &[u8], count: usize)
 
 // ---- decisions
 
-fn decision_line(writer: &mut Writer, state: &State, i: usize)
+fn decision_line(writer: &mut Writer, state: &StateRef, i: usize)
     requires { (state.now.used.decisions ≤ state.now.limits.variables) × (i < state.now.used.decisions) }
-    ensures { Writes writer.old writer.new (decision_text (decisions_of state.now) i) }
+    ensures { Writes writer.old writer.new (decision_text (decisions_at state.now) i) }
 {
     let decision = state.decision_at(i);
     writer.put(b'd');
@@ -121,9 +121,9 @@ fn decision_line(writer: &mut Writer, state: &State, i: usize)
     writer.line_feed();
 }
 
-pub fn decision_lines(writer: &mut Writer, state: &State)
+pub fn decision_lines(writer: &mut Writer, state: &StateRef)
     requires { state.now.used.decisions ≤ state.now.limits.variables }
-    ensures { Writes writer.old writer.new (texts (decision_text (decisions_of state.now)) state.now.used.decisions) }
+    ensures { Writes writer.old writer.new (texts (decision_text (decisions_at state.now)) state.now.used.decisions) }
 {
     for i in 0..state.used.decisions {
         decision_line(writer, state, i);

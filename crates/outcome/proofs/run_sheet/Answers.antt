@@ -7,10 +7,10 @@ pub carry_sheet-requires-clause-holds : goal.carry_sheet-requires-clause-holds
 carry_sheet-requires-clause-holds c = c.start-state.ensures.started.holds _ _
 
 pub finish-requires-clause-reaches : goal.finish-requires-clause-reaches
-finish-requires-clause-reaches c = sheet_reaches c.in_ok-carry_sheet.ensures c.requires.given
+finish-requires-clause-reaches c = sheet_reaches c.in_ok-carry_sheet.ensures c.requires.given c.as_state_ref.ensures
 
 pub returns : goal.returns
-returns c = sheet_finished c.start-state.ensures.limits c.in_ok-carry_sheet.ensures c.finish.ensures
+returns c = sheet_finished c.start-state.ensures.limits c.in_ok-carry_sheet.ensures c.as_state_ref.ensures c.finish.ensures
 
 pub returns-in_err-carry_sheet : goal.returns-in_err-carry_sheet
 returns-in_err-carry_sheet c =
