@@ -51,7 +51,7 @@ command_read CommandKind.Run b = rules.Command.run (word_at b 0)
 command_read CommandKind.Decide b = rules.Command.decide (word_at b 0) (byte_at b 2) (word_at b 3)
 command_read CommandKind.Undo b = rules.Command.undo (word_at b 0)
 
--- of no kind's: 99
+-- the length of a body of this kind; 99 where there is no kind
 unfoldable pub length_in : Option (rules.Kind × ℕ) → ℕ
 length_in none = 99
 length_in (some k) = k.1
