@@ -16,11 +16,14 @@ use Rattle.tables.specs.declared.TablesMut.{TablesMut}
 use Rattle.tables.specs.Tables.{Tables, tables, tables_in, Added}
 use Rattle.tables.specs.Views.{tables_mut_of, AddedTo}
 use Rattle.tables.proofs.Laws.{unions_counted}
+use Rattle.unions.specs.Unions.{Row}
 use Rattle.conditions.specs.Sizes.{Sized}
 use Rattle.conditions.proofs.Kept.{sized_same}
 use Rattle.cache.specs.Areas.{assembled, catalogue}
 use Rattle.kept.specs.declared.Draft.{Draft}
-use Rattle.kept.specs.Kept.{Kept}
+use Rattle.kept.specs.declared.Vacancy.{Vacancy}
+use Rattle.kept.specs.Kept.{Given, Kept}
+use Rattle.kept.specs.Vacancies.{Vacant}
 use Rattle.kept.specs.Entered.{rows_of, rows_taken, answered, Entered}
 use Rattle.kept.specs.Drafts.{catalogue_in, counts_in}
 use Rattle.kept.specs.Entering.{gathered, StillKept}
@@ -28,8 +31,14 @@ use Rattle.kept.proofs.Fields.{unions_are}
 
 -- one thing more in the tables
 module _ {k r : Counts} {t' : List ℕ} {x : Tables} (a : Added k r t' x) (t : List ℕ) where
+  pub given_still : {rs : List Row} → x.unions ≡ (tables k t).unions → Given k.unions rs → Given r.unions rs
+  given_still e g = let f : r.unions ≡ k.unions = unions_are a ∙ e ∙ unions_counted k t in rw f g
+
   pub sized_still : x.conditions ≡ (tables k t).conditions → x.sizes ≡ (tables k t).sizes → Sized (tables k t) → Sized (tables r t')
   sized_still e f s = rw a.is (sized_same (tables k t) x e f s)
+
+  pub vacant_still : {vs : List Vacancy} → x.parts ≡ (tables k t).parts → Vacant vs (tables k t).parts → Vacant vs (tables r t').parts
+  vacant_still e v = rw (a.is, e) v
 
 pub kept_same : (t : TablesMut) → StillKept t t
 kept_same t = record { sized = λ s. s; unions = refl; members = refl }

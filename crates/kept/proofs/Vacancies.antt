@@ -118,3 +118,12 @@ vacant_plain vs ps n f x e a b y = record { none = λ w i h. any_snoc (λ (q : P
 
 pub vacant_noted : (vs : List Vacancy) (ps : List Part) (n f : ℕ) (v : Vacancy) → v ≡ noted f (get_or vs n nothing_known) → Vacant vs ps → (x e : ℕ) → Vacant (set vs n v) (snoc ps (part_of n f x e))
 vacant_noted vs ps n f v q y x e = rw q (vacant_more vs ps n f x e y)
+
+-- what holds of more parts holds of fewer
+pub vacant_fewer : (vs : List Vacancy) (ps : List Part) (q : Part) → Vacant vs (snoc ps q) → Vacant vs ps
+vacant_fewer vs ps q y =
+    record { none = λ w i h. or_left _ _ (sym (any_snoc (λ (q : Part). eqb q.name i && flag_of w q) ps q) ∙ y.none w i h) }
+  where
+    or_left : (a b : Bool) → (a || b) ≡ false → a ≡ false
+    or_left false b h = refl
+    or_left true b h = h

@@ -167,20 +167,29 @@ module _ {x : State} {r : StateRef} (e : RefOf x r) {c : Catalogue} {cl wt : Lis
 
 -- ---- the sheet
 
-pub sheet_reaches : {c : Catalogue} {job : List ℕ} {from : ℕ} {x x' : State} {r : StateRef} {cl' wt' : List ℕ} → SheetDid c job from x (Ok tt) x' cl' wt' → Given c → RefOf x' r
-    → Reaches c r.limits r.used (regions_at r) cl' wt'
-sheet_reaches d g e =
+pub sheet_reaches : {c : Catalogue} {job : List ℕ} {from : ℕ} {x x' : State} {cl' wt' : List ℕ} → SheetDid c job from x (Ok tt) x' cl' wt' → Given c → IsReached c x' cl' wt'
+sheet_reaches d g =
     let y = d.carried refl in
-    reached_by_reference e (reaches_within (sym d.limits) _ (record { state = y.state; given = g; reached = y.reached; holds = y.holds }))
+    reaches_within (sym d.limits) _ (record { state = y.state; given = g; reached = y.reached; holds = y.holds })
+
+-- the same of a reference to the state
+pub sheet_reaches_by_reference : {c : Catalogue} {job : List ℕ} {from : ℕ} {x x' : State} {r : StateRef} {cl' wt' : List ℕ} → SheetDid c job from x (Ok tt) x' cl' wt' → Given c → RefOf x' r
+    → Reaches c r.limits r.used (regions_at r) cl' wt'
+sheet_reaches_by_reference d g e = reached_by_reference e (sheet_reaches d g)
 
 -- within these limits
 module _ {c : Catalogue} {l : Limits} {job : List ℕ} {from : ℕ} {x x' : State} {cl' wt' : List ℕ} (i : x.limits ≡ l) where
   pub sheet_refused : {e : RefusedAt} (out : List ℕ) → SheetDid c job from x (Err e) x' cl' wt' → RunsFrom l job from (reading c) (Err e) out out
   sheet_refused {e} out d = runs_within i (record { is = λ z k g. rw (d.refused e refl z k) (refused_comes job out e) })
 
-  pub sheet_finished : {a : StateRef} {r : Result Accepted RefusedAt} {out out' : List ℕ} → SheetDid c job from x (Ok tt) x' cl' wt' → RefOf x' a → IsFinished c a cl' wt' r out out'
+  pub sheet_finished : {r : Result Accepted RefusedAt} {out out' : List ℕ} → SheetDid c job from x (Ok tt) x' cl' wt' → Finishes c x'.limits x'.used (regions_of x') cl' wt' r out out'
       → RunsFrom l job from (reading c) r out out'
   unfolding ended
-  sheet_finished d f h =
+  sheet_finished d h =
       let y = d.carried refl in
-      runs_within i (record { is = λ z e g. rw (y.alike z e) ((finishes_within d.limits _ (finished_by_reference f h)).is y.state y.holds z job g) })
+      runs_within i (record { is = λ z e g. rw (y.alike z e) ((finishes_within d.limits _ h).is y.state y.holds z job g) })
+
+  -- the same of a reference to the state
+  pub sheet_finished_by_reference : {a : StateRef} {r : Result Accepted RefusedAt} {out out' : List ℕ} → SheetDid c job from x (Ok tt) x' cl' wt' → RefOf x' a
+      → IsFinished c a cl' wt' r out out' → RunsFrom l job from (reading c) r out out'
+  sheet_finished_by_reference d f h = sheet_finished d (finished_by_reference f h)
