@@ -37,8 +37,8 @@ use Rattle.encoder.specs.Held.{Reading, opening_of, state_of, Good}
 use Rattle.encoder.specs.Did.{on_opening}
 use Rattle.state.specs.Limits.{limits_of}
 use Rattle.encoder.proofs.Frames.{good_kept, list_kept, line_kept}
-use Rattle.commands.specs.Commands.{ChangesOf, Changes, with_added, AddsOwner, AddsTo, Adds}
-use Rattle.commands.proofs.Outcomes.{unchanged, changes_as, carried_out_law, outcome_done, outcome_refused}
+use Rattle.commands.specs.Commands.{ChangesOf, Changes, StateChanges, with_added, AddsOwner, AddsTo, Adds}
+use Rattle.commands.proofs.Outcomes.{unchanged, changes_as, carried_out_law, outcome_done, outcome_carried, outcome_refused}
 
 pub added_free : (l : Limits) (b : List ℕ) (n o : ℕ) (f : Bool) → Fits l (length b) → Marked 6 7 n (held l b) → o < 1025 → f ≡ is_marked 7 o (held l b)
     → f ≡ false → Free 6 7 n o (held l b)
@@ -71,7 +71,7 @@ module _ (l : Limits) (n : Counters) where
         idle : (c : Catalogue) (cl wt : List ℕ) (v : Reading) → state_of c l v n st cl wt ≡ on_opening (add (owner_of o)) (state_of c l v n st cl wt)
         idle c cl wt v = unfold on_opening add state_of opening_of unless in rw (← owner_after o b m e, t)
 
-    new_owner : b ≡ false → {count : ℕ} {st' : ℕ → List ℕ} → Pushed 6 7 n.added o st count st' → Changes l (on_opening (add (owner_of o))) n st (with_added count n) st'
+    pub new_owner : b ≡ false → {count : ℕ} {st' : ℕ → List ℕ} → Pushed 6 7 n.added o st count st' → Changes l (on_opening (add (owner_of o))) n st (with_added count n) st'
     new_owner t p = record { is = λ c cl wt. changes_as (added_changes p c cl wt) (new c cl wt) }
       where
         new : (c : Catalogue) (cl wt : List ℕ) (v : Reading)
@@ -110,6 +110,23 @@ missing_part : (c : Catalogue) (owner : ℕ) → (owner ≡ 65535 → ⊥) → l
 unfolding owner_absent absent given
 missing_part c owner n h = rw (ne_eqb owner 65535 n, le-leb (length c.parts) owner h)
 
+module _ {owner : ℕ} (e : OwnerOf owner owners.Root) where
+  root_there : (c : Catalogue) → owner_absent c owner ≡ false
+  root_there c = unfold owner_absent in rw (← e.number)
+
+  root_number : owner_of 1024 ≡ items.owner_of owner
+  root_number = unfold items.owner_of in rw (← e.number) root_is
+
+module _ {parts owner p : ℕ} (e : OwnerOf owner (owners.Part p)) (b : p < parts) where
+  part_there : (c : Catalogue) → length c.parts ≡ parts → owner_absent c owner ≡ false
+  part_there c i = let same : p ≡ owner = e.number in present c owner (rw (i, ← same) b)
+
+  part_number : parts ≤ 1024 → owner_of owner ≡ items.owner_of owner
+  part_number a = let same : p ≡ owner = e.number in number (omega (arith, same))
+    where
+      number : owner < 1024 → owner_of owner ≡ items.owner_of owner
+      number d = unfold items.owner_of in rw (ne_eqb owner 65535 (λ q. omega arith)) (part_is owner d)
+
 module _ {parts owner : ℕ} {l : Limits} {k : ℕ} {s : List ℕ} where
   module _ {d : ℕ} {s' : List ℕ} where
     add_to_law : (o : ℕ) → ((c : Catalogue) → length c.parts ≡ parts → owner_absent c owner ≡ false) → owner_of o ≡ items.owner_of owner
@@ -122,16 +139,13 @@ module _ {parts owner : ℕ} {l : Limits} {k : ℕ} {s : List ℕ} where
         }
 
     pub add_root : OwnerOf owner owners.Root → AddsOwner l (owner_of 1024) k (held l s) d (held l s') → AddsTo parts l (Command.add owner) k s (Ok d) s'
-    add_root e h = add_to_law 1024 (λ c _. unfold owner_absent in rw (← e.number)) (unfold items.owner_of in rw (← e.number) root_is) h
+    add_root e h = add_to_law 1024 (λ c _. root_there e c) (root_number e) h
 
     pub add_part : {p : ℕ} → OwnerOf owner (owners.Part p) → parts ≤ 1024 → p < parts → AddsOwner l (owner_of p) k (held l s) d (held l s')
         → AddsTo parts l (Command.add owner) k s (Ok d) s'
     add_part {p} e a b h =
         let same : p ≡ owner = e.number in
-        add_to_law owner (λ c i. present c owner (rw (i, ← same) b)) (part_owner (omega (arith, same))) (rw same at h)
-      where
-        part_owner : owner < 1024 → owner_of owner ≡ items.owner_of owner
-        part_owner d = unfold items.owner_of in rw (ne_eqb owner 65535 (λ q. omega arith)) (part_is owner d)
+        add_to_law owner (part_there e b) (part_number e b a) (rw same at h)
 
   pub add_missing : {p : ℕ} → OwnerOf owner (owners.Part p) → parts ≤ p → AddsTo parts l (Command.add owner) k s (Err (Missing Part 1)) s
   add_missing {p} e h =
@@ -153,3 +167,19 @@ module _ {parts : ℕ} {o : Command} {x x' : State} where
 
   pub added_refused : {f : Refusal} {s : List ℕ} → AddsTo parts x.limits o x.used.added x.area.now (Err f) s → x' ≡ x → Adds parts o x (Err f) x'
   added_refused h e = rw e (record { outcomes = record { is = λ c i. outcome_refused (h.refused _ refl x.used refl c i) }; counters = refl })
+
+-- the same of a state to which an owner was added, by whatever did it
+module _ {parts owner : ℕ} {x x' : State} where
+  owner_added : (o : ℕ) → ((c : Catalogue) → length c.parts ≡ parts → owner_absent c owner ≡ false) → owner_of o ≡ items.owner_of owner
+      → StateChanges (on_opening (add (owner_of o))) x x' → x'.used ≡ with_added x'.used.added x.used → Adds parts (Command.add owner) x (Ok tt) x'
+  owner_added o there same h q = record { outcomes = record { is = λ c i. outcome_carried h (λ cl wt v. carried _ c o owner _ (there c i) same) }; counters = q }
+
+  pub root_added : OwnerOf owner owners.Root → StateChanges (on_opening (add (owner_of 1024))) x x' → x'.used ≡ with_added x'.used.added x.used
+      → Adds parts (Command.add owner) x (Ok tt) x'
+  root_added e h q = owner_added 1024 (λ c _. root_there e c) (root_number e) h q
+
+  pub part_added : {p : ℕ} → OwnerOf owner (owners.Part p) → parts ≤ 1024 → p < parts → StateChanges (on_opening (add (owner_of p))) x x'
+      → x'.used ≡ with_added x'.used.added x.used → Adds parts (Command.add owner) x (Ok tt) x'
+  part_added {p} e a b h q =
+      let same : p ≡ owner = e.number in
+      owner_added owner (part_there e b) (part_number e b a) (rw same at h) q

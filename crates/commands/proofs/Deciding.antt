@@ -215,6 +215,32 @@ module _ {o : Command} {x x' : State} where
   pub decided_refused : {f : Refusal} {s : List ℕ} → DecidesTo x.limits o x.used.variables x.used.decisions x.area.now (Err f) s → x' ≡ x → Decides o x (Err f) x'
   decided_refused h e = rw e (record { outcomes = record { is = λ c. outcome_refused (h.refused _ refl x.used refl refl c) }; counters = refl })
 
+-- the same of a state in which a literal was decided, or is false, by whatever found it
+module _ {i value level : ℕ} {x : State} (h : i < x.used.variables) (a : value ≤ 1) {low : Bool} (e : low ≡ (eqb level 0 || ltb level (last_level (decisions_of x)))) (z : low ≡ false)
+    (y : code.Literal) (w : literal_of y ≡ signed i (eqb value 1)) where
+  pub literal_decided : {x' : State} → is_falsified (evaluate (decisions_of x) (literal_of y)) ≡ false → StateChanges (decided_to (literal_of y) level) x x'
+      → x'.used ≡ with_decisions x'.used.decisions x.used → Decides (Command.decide i value level) x (Ok tt) x'
+  literal_decided f g q =
+      record {
+        outcomes = record {
+          is = λ c. outcome_carried (rw w at g)
+              (λ cl wt v. passes (limits_of x.limits) c i value level _ (there x.limits x.used (regions_of x) c cl wt v i refl h) (le-ltb 1 value a)
+              (low_there x.limits x.used (regions_of x) c cl wt v level refl e ∙ z) (rw (decisions_are x.limits x.used (regions_of x) c cl wt v refl) at (rw w at f)));
+        };
+        counters = q;
+      }
+
+  pub literal_false : is_falsified (evaluate (decisions_of x) (literal_of y)) ≡ true → Decides (Command.decide i value level) x (Err DecidedAgainst) x
+  literal_false f =
+      record {
+        outcomes = record {
+          is = λ c. outcome_refused
+              (λ cl wt v. is_false (limits_of x.limits) c i value level _ (there x.limits x.used (regions_of x) c cl wt v i refl h) (le-ltb 1 value a)
+              (low_there x.limits x.used (regions_of x) c cl wt v level refl e ∙ z) (rw (decisions_are x.limits x.used (regions_of x) c cl wt v refl) at (rw w at f)));
+        };
+        counters = refl;
+      }
+
 -- ---- the command undo: it has no refusals
 
 -- these became the decisions, and no counter changed but theirs
